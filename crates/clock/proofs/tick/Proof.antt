@@ -1,0 +1,81 @@
+use Prim.Native.Nat.{_+_, _-_, _≤_, ℕ}
+use Rattle.clock.proofs.Laws.{sound-tick}
+use Rattle.clock.proofs.tick.Statement.{statement}
+use Rattle.clock.proofs.tick.Tie as tie
+use Rattle.moves.specs.Moves.{Sound, keyOf}
+use Rattle.rules.proofs.Lengths.{length-tick}
+use Rattle.rules.proofs.Places.{tasks-word}
+use Rattle.rules.specs.Calls.{tickAll}
+use Rattle.rules.specs.Table.{State, one, words}
+use borrow.Author.Needs.{needs}
+use lib.ListN.{getD, length}
+use mathlib.Core.Path.{_∙_, _≡_, ap}
+use native.Mathlib.Numerals.{add-one}
+use native.Mathlib.Omega.{arith}
+
+abbrev Inv-loop : tie.InvT-loop
+Inv-loop t₀ keys n i₀ t i =
+    (length t ≡ 600)
+    × (n ≤ 16)
+    × (i ≤ n)
+    × ((s : State) → Sound s → t₀ ≡ words one s → (n ≡ length (s .tasks)) × (t ≡ words one (tickAll (keyOf keys) i s)))
+
+abbrev μ-loop : tie.MeasureT-loop
+μ-loop t₀ keys n i₀ t i = n - i
+
+slice-read-n : tie.Need-slice-read-n Inv-loop μ-loop
+slice-read-n c = search needs
+
+cast-n : tie.Need-cast-n Inv-loop μ-loop
+cast-n c = omega (arith, c .slice-known2 .given 1)
+
+loop-holds : tie.Need-loop-holds Inv-loop μ-loop
+unfolding tickAll
+loop-holds c =
+    (c .before .before .before .pre .0, c .before .before .before .pre .1, omega arith, λ s sound e. (rw e (tasks-word one s), e))
+
+tick-one-requires : tie.Need-tick-one-requires Inv-loop μ-loop
+tick-one-requires c κs = search needs
+
+add-i : tie.Need-add-i Inv-loop μ-loop
+add-i c = omega arith
+
+loop-less : tie.Need-loop-less Inv-loop μ-loop
+loop-less c = search needs
+
+loop-again : tie.Need-loop-again Inv-loop μ-loop
+unfolding tickAll
+loop-again c =
+    let l = c .before .before .before .before .before .loop in
+    let more : (s : State) → Sound s → c .before .before .before .before .before .before .before .before .before .args .t .now ≡ words one s → (getD (c .before .before .before .before .before .before .before .before .before .args .t .now) 1 0 ≡ length (s .tasks)) × (c .before .before .tick-one .last .0 ≡ words one (tickAll (keyOf (c .before .before .before .before .before .before .before .before .before .args .keys .now)) (l .i + 1) s)) = λ s sound e.
+    (let key = keyOf (c .before .before .before .before .before .before .before .before .before .args .keys .now) in
+    let held = l .inv .3 s sound e in
+    let n = held .0 in
+    let taken = c .before .before .before .before .loop-test .taken in
+    (n, rw add-one (c .before .before .tick-one .ensures (tickAll key (l .i) s) (sound-tick key (l .i) s sound (omega (arith, n, taken))) (omega (arith, n, taken, length-tick key (l .i) s)) (held .1)))) in
+    (omega arith, omega arith, omega arith, more)
+
+same-length : tie.Need-same-length Inv-loop μ-loop
+same-length c = search needs
+
+returns : tie.Need-returns Inv-loop μ-loop
+returns c = λ s sound e.
+    let held = c .before .loop .inv .3 s sound e in
+    let end : c .before .loop .i ≡ length (s .tasks) = omega (arith, held .0, c .loop-test .left) in
+    held .1 ∙ ap (λ (n : ℕ). words one (tickAll (keyOf (c .before .before .before .before .before .args .keys .now)) n s)) end
+
+pub tick-spec : {M : Type 1} → statement M
+tick-spec =
+    tie.close
+    (tie.spec
+    Inv-loop
+    μ-loop
+    slice-read-n
+    cast-n
+    loop-holds
+    tick-one-requires
+    add-i
+    loop-less
+    loop-again
+    same-length
+    returns)

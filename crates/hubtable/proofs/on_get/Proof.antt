@@ -1,0 +1,67 @@
+-- `hubtable::on_get` meets its contract, kind by kind. Assumes nothing.
+use Rattle.hubtable.proofs.Rows.{counted-get, no-kind}
+use Rattle.hubtable.proofs.on_get.Statement.{statement}
+use Rattle.hubtable.proofs.on_get.Tie as tie
+use Rattle.hubtable.specs.Says.{says}
+use Rattle.rules.proofs.Valid.{Held}
+use Rattle.rules.specs.HubTable.{onGet}
+use Rattle.rules.specs.Table.{kindOf}
+use borrow.Author.Needs.{needs}
+use mathlib.Core.Path.{_∙_, _≡_, ap, sym}
+use native.Mathlib.Omega.{arith}
+
+get-port-requires : tie.Need-get-port-requires
+get-port-requires c κs = search needs
+
+get-fifo-requires : tie.Need-get-fifo-requires
+get-fifo-requires c κs = search needs
+
+get-resource-requires : tie.Need-get-resource-requires
+get-resource-requires c κs = search needs
+
+get-counted-requires : tie.Need-get-counted-requires
+get-counted-requires c κs = search needs
+
+returns : tie.Need-returns
+unfolding kindOf onGet
+returns c x s T e r held its oldest = rw (ap kindOf (sym (e .kind) ∙ c .before .match .keys1)) (c .get-port .ensures x s e its)
+
+returns-2 : tie.Need-returns-2
+unfolding Held kindOf onGet
+returns-2 c x s T e r held its oldest =
+    let fifo = ap kindOf (sym (e .kind) ∙ c .before .match .keys2) in
+    rw fifo (c .get-fifo .ensures x s e (rw fifo at held) its oldest)
+
+returns-3 : tie.Need-returns-3
+unfolding kindOf onGet
+returns-3 c x s T e r held its oldest = rw (ap kindOf (sym (e .kind) ∙ c .before .match .keys3)) (c .get-resource .ensures x e)
+
+returns-4 : tie.Need-returns-4
+returns-4 c x s T e r held its oldest =
+    c .get-counted .ensures x e
+    ∙ counted-get _ x T _ s (x .kind) (omega arith) (omega arith) r
+
+returns-5 : tie.Need-returns-5
+unfolding kindOf onGet says
+returns-5 c x s T e r held its oldest =
+    let unused : x .kind ≡ 0 = omega arith in
+    rw (ap kindOf unused)
+
+returns-6 : tie.Need-returns-6
+unfolding onGet says
+returns-6 c x s T e r held its oldest = rw (no-kind (x .kind) (omega arith))
+
+pub on-get-spec : {M : Type 1} → statement M
+on-get-spec =
+    tie.close
+    (tie.spec
+    get-port-requires
+    get-fifo-requires
+    get-resource-requires
+    get-counted-requires
+    returns
+    returns-2
+    returns-3
+    returns-4
+    returns-5
+    returns-6)

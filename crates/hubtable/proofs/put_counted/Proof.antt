@@ -1,0 +1,43 @@
+-- `hubtable::put_counted` meets its contract, each return by a row's tests. Assumes nothing.
+use Rattle.hubtable.proofs.Rows.{first-none, first-some}
+use Rattle.hubtable.proofs.put_counted.Statement.{statement}
+use Rattle.hubtable.proofs.put_counted.Tie as tie
+use Rattle.hubtable.specs.Says.{metWith, says, storeAfter}
+use Rattle.rules.specs.HubTable.{putSemaphore}
+use borrow.Author.Needs.{needs}
+use borrow.Author.Tests.{le-ltb, lt-ltb}
+use mathlib.Core.Path.{_∙_}
+use native.Mathlib.Numerals.{add-one}
+
+pair-requires : tie.Need-pair-requires
+pair-requires c κs = search needs
+
+returns : tie.Need-returns
+unfolding metWith putSemaphore storeAfter
+returns c x e = c .pair .ensures (x .held) ∙ rw (first-some _ (c .before .if1 .taken), e .count)
+
+add-alone : tie.Need-add-alone
+add-alone c = search needs
+
+alone-requires : tie.Need-alone-requires
+alone-requires c κs = search needs
+
+returns-2 : tie.Need-returns-2
+unfolding putSemaphore storeAfter
+returns-2 c x e =
+    c .alone .ensures (x .held)
+    ∙ rw (
+      first-none _ (c .before .before .before .before .if1 .left),
+      ← e .count,
+      ← e .limit,
+      lt-ltb _ _ (c .before .before .if2 .taken),
+      add-one,
+    )
+
+returns-3 : tie.Need-returns-3
+unfolding putSemaphore says
+returns-3 c x e =
+    rw (first-none _ (c .before .before .if1 .left), ← e .count, ← e .limit, le-ltb _ _ (c .if2 .left))
+
+pub put-counted-spec : {M : Type 1} → statement M
+put-counted-spec = tie.close (tie.spec pair-requires returns add-alone alone-requires returns-2 returns-3)

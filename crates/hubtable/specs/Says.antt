@@ -1,0 +1,45 @@
+-- What this crate's answers say, in the terms of the rules: definitions alone. In order: a hub record as the rules' hub, a
+-- waiter, the waiters met, the words held afterwards, a verdict.
+-- Not here: the hub table itself (crate rules, specs/HubTable.antt).
+use Prim.Native.Nat.{suc, zero, ℕ}
+use Rattle.hubtable.specs.declared.Store.the-variants.{Append, Keep, Take, TakeAppend}
+use Rattle.hubtable.specs.declared.Store.{Store}
+use Rattle.hubtable.specs.declared.Verdict.the-variants.{Fail, Met, NotNow}
+use Rattle.hubtable.specs.declared.Verdict.{Verdict}
+use Rattle.records.specs.declared.HubRecord.{HubRecord}
+use Rattle.rules.specs.HubTable.{Meeting, Verdict as Row, fail, met, notNow}
+use Rattle.rules.specs.Table.{Hub}
+use lib.ListN.{drop}
+use mathlib.Core.List.{List, [], _++_, _∷_}
+use mathlib.Core.Option.{Option, none, some}
+use mathlib.Core.Path.{_≡_}
+
+-- h has the four words of hub x
+pub record RecordOf (h : HubRecord) (x : Hub) : Type 0 where
+  pub kind : h .kind ≡ x .kind
+  pub count : h .count ≡ x .count
+  pub limit : h .limit ≡ x .limit
+  pub start : h .start ≡ x .start
+
+-- a waiter as a list has it: task number plus 1, or 0 for none
+unfoldable pub first : ℕ → Option ℕ
+first zero = none
+first (suc w) = some w
+
+-- the waiters met, who have word y afterwards: one or none
+unfoldable pub metWith : Option ℕ → ℕ → List Meeting
+metWith none y = []
+metWith (some w) y = record { waiter = w; word = y } ∷ []
+
+-- the words held afterwards
+unfoldable pub storeAfter : Store → List ℕ → List ℕ
+storeAfter Keep held = held
+storeAfter (Append x) held = held ++ x ∷ []
+storeAfter Take held = drop 1 held
+storeAfter (TakeAppend x) held = drop 1 held ++ x ∷ []
+
+-- of a hub that holds these words
+unfoldable pub says : List ℕ → Verdict → Row
+says held (Met m) = met (m .count) (storeAfter (m .store) held) (m .word) (metWith (first (m .waiter)) (m .its))
+says held NotNow = notNow
+says held Fail = fail

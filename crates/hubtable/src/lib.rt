@@ -1,0 +1,218 @@
+// The hub table of document 01: what a hub says of a put or a get, by its record, the first waiter of the other side and, of
+// a get, the words that may be received. A waiter is a task number plus 1, or 0 for none.
+// Not here: where the words stand in the table, and what a verdict does to it.
+ghost use Prim.Native.Nat.{_<_, suc, ℕ};
+ghost use Rattle.hubtable.specs.Says.{RecordOf, first, metWith, says, storeAfter};
+ghost use Rattle.rules.proofs.Valid.{Held, Range};
+ghost use Rattle.rules.specs.HubTable.{getFifo, getPort, getResource, getSemaphore, met, onGet, onPut, putFifo, putPort, putResource, putSemaphore};
+ghost use Rattle.rules.specs.Table.{Hub, State, kindOf, task};
+ghost use lib.Dec.{eqb};
+ghost use lib.ListN.{getD, length};
+ghost use mathlib.Core.List.{List, []};
+ghost use mathlib.Core.Option.{some};
+ghost use mathlib.Core.Path.{_≡_};
+use records::HubRecord;
+
+// the kinds of hub, by their numbers
+const EVENT: u32 = 1;
+
+const SEMAPHORE: u32 = 2;
+
+const PORT: u32 = 3;
+
+const FIFO: u32 = 4;
+
+const RESOURCE: u32 = 5;
+
+// What becomes of the words held.
+pub enum Store {
+    Keep,
+    Append(u32),
+    Take,
+    TakeAppend(u32),
+}
+
+// What a met request does: the hub's count and words held, the caller's word, the waiter met with it, and its word.
+pub struct Meeting {
+    pub count: u32,
+    pub store: Store,
+    pub word: u32,
+    pub waiter: u32,
+    pub its: u32,
+}
+
+pub enum Verdict {
+    Met(Meeting),
+    NotNow,
+    Fail,
+}
+
+// Met by the hub alone.
+fn alone(count: u32, store: Store, word: u32) -> Verdict
+    ensures { λ r. ⌜ ((held : List ℕ) → says held r ≡ met count (storeAfter store held) word []) ⌝ }
+{
+    Verdict::Met(Meeting {
+        count,
+        store,
+        word,
+        waiter: 0,
+        its: 0,
+    })
+}
+
+// Met together with a waiter.
+fn pair(count: u32, store: Store, word: u32, waiter: u32, its: u32) -> Verdict
+    ensures { λ r. ⌜ ((held : List ℕ) → says held r ≡ met count (storeAfter store held) word (metWith (first waiter) its)) ⌝ }
+{
+    Verdict::Met(Meeting {
+        count,
+        store,
+        word,
+        waiter,
+        its,
+    })
+}
+
+// A Resource's count is its owner plus 1; 0 is free.
+fn owns(caller: u32, count: u32) -> bool
+    ensures { λ r. ⌜ r ≡ eqb count (suc caller) ⌝ }
+{
+    if count == 0 {
+        return false;
+    }
+    count - 1 == caller
+}
+
+// "a getter waits: the first is met, count stays 0. Else below limit: plus 1. Else not now"
+fn put_counted(h: HubRecord, waiter: u32) -> Verdict
+    ensures { λ r. ⌜ ((x : Hub) → RecordOf h x → says (x .held) r ≡ putSemaphore (first waiter) x) ⌝ }
+{
+    if waiter != 0 {
+        return pair(h.count, Store::Keep, 0, waiter, 0);
+    }
+    if h.count < h.limit {
+        return alone(h.count + 1, Store::Keep, 0);
+    }
+    Verdict::NotNow
+}
+
+// "a getter waits: the first is met with this word. Else not now"
+fn put_port(h: HubRecord, waiter: u32, word: u32) -> Verdict
+    ensures { λ r. ⌜ ((x : Hub) → RecordOf h x → says (x .held) r ≡ putPort (first waiter) x word) ⌝ }
+{
+    if waiter == 0 {
+        return Verdict::NotNow;
+    }
+    pair(h.count, Store::Keep, 0, waiter, word)
+}
+
+// "a getter waits: the first is met with this word. Else below limit: appended. Else not now"
+fn put_fifo(h: HubRecord, waiter: u32, word: u32) -> Verdict
+    ensures { λ r. ⌜ ((x : Hub) → RecordOf h x → says (x .held) r ≡ putFifo (first waiter) x word) ⌝ }
+{
+    if waiter != 0 {
+        return pair(h.count, Store::Keep, 0, waiter, word);
+    }
+    if h.limit <= h.count {
+        return Verdict::NotNow;
+    }
+    alone(h.count + 1, Store::Append(word), 0)
+}
+
+// "caller owns it: first waiter, if any, is met and becomes owner, else free. Otherwise FAIL in every mode"
+fn put_resource(h: HubRecord, waiter: u32, caller: u32) -> Verdict
+    ensures { λ r. ⌜ ((x : Hub) → RecordOf h x → says (x .held) r ≡ putResource (first waiter) x caller) ⌝ }
+{
+    if owns(caller, h.count) {
+        if waiter != 0 {
+            return pair(waiter, Store::Keep, 0, waiter, 0);
+        }
+        return alone(0, Store::Keep, 0);
+    }
+    Verdict::Fail
+}
+
+// "above 0: a putter waits, the first is met and count stays; else minus 1. At 0: not now"
+fn get_counted(h: HubRecord, waiter: u32) -> Verdict
+    ensures { λ r. ⌜ ((x : Hub) → RecordOf h x → says (x .held) r ≡ getSemaphore (first waiter) x) ⌝ }
+{
+    if h.count == 0 {
+        return Verdict::NotNow;
+    }
+    if waiter != 0 {
+        return pair(h.count, Store::Keep, 0, waiter, 0);
+    }
+    alone(h.count - 1, Store::Keep, 0)
+}
+
+// "a putter waits: the first is met and its word taken. Else not now"
+fn get_port(h: HubRecord, waiter: u32, its: u32) -> Verdict
+    ensures { λ r. ⌜ ((x : Hub) (s : State) → RecordOf h x → ((w : ℕ) → first waiter ≡ some w → its ≡ task s w .word)
+        → says (x .held) r ≡ getPort s (first waiter) x) ⌝ }
+{
+    if waiter == 0 {
+        return Verdict::NotNow;
+    }
+    pair(h.count, Store::Keep, its, waiter, 0)
+}
+
+// "holds a word: oldest taken; if a putter waits, the first is met and its word appended. Empty: not now"
+fn get_fifo(h: HubRecord, waiter: u32, its: u32, oldest: u32) -> Verdict
+    ensures { λ r. ⌜ ((x : Hub) (s : State) → RecordOf h x → x .count ≡ length (x .held)
+        → ((w : ℕ) → first waiter ≡ some w → its ≡ task s w .word) → oldest ≡ getD (x .held) 0 0
+        → says (x .held) r ≡ getFifo s (x .held) (first waiter) x) ⌝ }
+{
+    if h.count == 0 {
+        return Verdict::NotNow;
+    }
+    if waiter != 0 {
+        return pair(h.count, Store::TakeAppend(its), oldest, waiter, 0);
+    }
+    alone(h.count - 1, Store::Take, oldest)
+}
+
+// "free: caller owns it. Owned by caller: FAIL in every mode. Owned by another: not now"
+fn get_resource(h: HubRecord, caller: u32) -> Verdict
+    requires { ⌜ caller < 4294967295 ⌝ }
+    ensures { λ r. ⌜ ((x : Hub) → RecordOf h x → says (x .held) r ≡ getResource x caller) ⌝ }
+{
+    if h.count == 0 {
+        return alone(caller + 1, Store::Keep, 0);
+    }
+    if owns(caller, h.count) {
+        return Verdict::Fail;
+    }
+    Verdict::NotNow
+}
+
+// A put by the caller of this word, where waiter is the first getter that waits. An Event runs as a Semaphore of limit 1.
+pub fn on_put(h: HubRecord, waiter: u32, caller: u32, word: u32) -> Verdict
+    ensures { λ r. ⌜ ((x : Hub) (T : ℕ) → RecordOf h x → Range (kindOf (x .kind)) T x
+        → says (x .held) r ≡ onPut (kindOf (x .kind)) (first waiter) x caller word) ⌝ }
+{
+    let kind = h.kind;
+    match kind {
+        EVENT | SEMAPHORE => put_counted(h, waiter),
+        PORT => put_port(h, waiter, word),
+        FIFO => put_fifo(h, waiter, word),
+        RESOURCE => put_resource(h, waiter, caller),
+        _ => Verdict::Fail,
+    }
+}
+
+// A get by the caller, where waiter is the first putter that waits, its is that putter's word and oldest the first word held.
+pub fn on_get(h: HubRecord, waiter: u32, its: u32, oldest: u32, caller: u32) -> Verdict
+    requires { ⌜ caller < 4294967295 ⌝ }
+    ensures { λ r. ⌜ ((x : Hub) (s : State) (T : ℕ) → RecordOf h x → Range (kindOf (x .kind)) T x → Held (kindOf (x .kind)) x
+        → ((w : ℕ) → first waiter ≡ some w → its ≡ task s w .word) → oldest ≡ getD (x .held) 0 0
+        → says (x .held) r ≡ onGet (kindOf (x .kind)) s (first waiter) x caller) ⌝ }
+{
+    let kind = h.kind;
+    match kind {
+        EVENT | SEMAPHORE => get_counted(h, waiter),
+        PORT => get_port(h, waiter, its),
+        FIFO => get_fifo(h, waiter, its, oldest),
+        RESOURCE => get_resource(h, caller),
+        _ => Verdict::Fail,
+    }
+}

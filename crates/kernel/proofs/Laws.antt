@@ -1,0 +1,221 @@
+-- What an accepted call rests on, and how its parts make the whole. In order: services by their numbers; keys; the refusal of
+-- a table, test by test; what an accepted call knows of the table and of its numbers; the reply.
+-- Not here: what each service does (the crates below). Assumes nothing.
+use Prim.Native.Nat.{_+_, _<_, _≤_, suc, zero, ℕ}
+use Rattle.kernel.specs.Promise.{Called}
+use Rattle.lists.proofs.Laws.{boolCase}
+use Rattle.moves.specs.Moves.{Sound, keyOf}
+use Rattle.rules.proofs.Accepted.{caller-ready, hub-tests, need-zero, on-task, request-tests, task-tests}
+use Rattle.rules.proofs.After.{accepted, read-valid, well-formed-words}
+use Rattle.rules.proofs.Changes.{inUse}
+use Rattle.rules.proofs.Lengths.{length-serve, tasksAfter}
+use Rattle.rules.proofs.Valid.{Valid}
+use Rattle.rules.specs.Calls.{AddHub, AddTask, Blank, HubRequest, Resume, Service, Sleep, Start, Stop, Suspend, Tick, Unknown, Yield, serve, served, serviceOf}
+use Rattle.rules.specs.Lists.{next}
+use Rattle.rules.specs.Refusals.{need, refusal, refusalFor, refusalOf}
+use Rattle.rules.specs.Reply.{bearsAnswer, outcome, outcomeOf, replyBy, replyTo, tableAfter, tableBy}
+use Rattle.rules.specs.Table.{State, one, read, task, words}
+use Rattle.rules.specs.WellFormed.{urgency, wellFormed}
+use Rattle.rules.specs.declared.Answer.the-variants.{Accepted, Refused}
+use Rattle.rules.specs.declared.Call.{Call}
+use Rattle.rules.specs.declared.Outcome.the-variants.{Fail, NothingYet, Ok}
+use Rattle.rules.specs.declared.Outcome.{Outcome}
+use Rattle.rules.specs.declared.Reply.{Reply}
+use borrow.Author.Tests.{eq-eqb, eqb-true, leb-false, leb-true, ne-eqb}
+use lib.Dec.{eqb, leb}
+use lib.ListN.{List·getD-eq-default, getD, length}
+use mathlib.Core.Bool.{Bool, _||_, false, true}
+use mathlib.Core.List.{List, [], _∷_}
+use mathlib.Core.Path.{_∙_, _≡_, ap, refl, subst, sym}
+use native.Mathlib.Omega.{arith}
+
+-- ---- services by their numbers
+
+pub service-is : (c : Call) (n : ℕ) → c .service ≡ n → serviceOf (c .service) ≡ serviceOf n
+service-is c n e = ap serviceOf e
+
+module _ (s : State) (c : Call) (v : Service) (e : serviceOf (c .service) ≡ v) where
+  pub by-service : refusal s c ≡ 0 → refusalFor v s c ≡ 0
+  unfolding refusal
+  by-service a = subst (λ (u : Service). refusalFor u s c ≡ 0) e a
+
+  pub to-service : (key : ℕ → ℕ) → words one (serve key v s c) ≡ words one (serve key (serviceOf (c .service)) s c)
+  to-service key = ap (λ (u : Service). words one (serve key u s c)) (sym e)
+
+bears : (n : ℕ) → 1 ≤ n → n ≤ 7 → bearsAnswer (serviceOf n) ≡ true
+unfolding bearsAnswer serviceOf
+bears zero p q = absurd (omega arith)
+bears (suc zero) p q = refl
+bears (suc (suc zero)) p q = refl
+bears (suc (suc (suc zero))) p q = refl
+bears (suc (suc (suc (suc zero)))) p q = refl
+bears (suc (suc (suc (suc (suc zero))))) p q = refl
+bears (suc (suc (suc (suc (suc (suc zero)))))) p q = refl
+bears (suc (suc (suc (suc (suc (suc (suc zero))))))) p q = refl
+bears (suc (suc (suc (suc (suc (suc (suc (suc n)))))))) p q = absurd (omega arith)
+
+bears-none : (n : ℕ) → n < 1 → bearsAnswer (serviceOf n) ≡ false
+unfolding bearsAnswer serviceOf
+bears-none zero p = refl
+bears-none (suc n) p = absurd (omega arith)
+
+bears-past : (n : ℕ) → 7 < n → bearsAnswer (serviceOf n) ≡ false
+unfolding bearsAnswer serviceOf
+bears-past zero p = absurd (omega arith)
+bears-past (suc zero) p = absurd (omega arith)
+bears-past (suc (suc zero)) p = absurd (omega arith)
+bears-past (suc (suc (suc zero))) p = absurd (omega arith)
+bears-past (suc (suc (suc (suc zero)))) p = absurd (omega arith)
+bears-past (suc (suc (suc (suc (suc zero))))) p = absurd (omega arith)
+bears-past (suc (suc (suc (suc (suc (suc zero)))))) p = absurd (omega arith)
+bears-past (suc (suc (suc (suc (suc (suc (suc zero))))))) p = absurd (omega arith)
+bears-past (suc (suc (suc (suc (suc (suc (suc (suc zero)))))))) p = refl
+bears-past (suc (suc (suc (suc (suc (suc (suc (suc (suc zero))))))))) p = refl
+bears-past (suc (suc (suc (suc (suc (suc (suc (suc (suc (suc zero)))))))))) p = refl
+bears-past (suc (suc (suc (suc (suc (suc (suc (suc (suc (suc (suc n))))))))))) p = refl
+
+-- ---- keys
+
+-- two keys that agree at every task are one
+pub key-is : (ks : List ℕ) (key : ℕ → ℕ) → ((j : ℕ) → getD ks j 0 ≡ key j) → keyOf ks ≡ key
+key-is ks key e = λ i j. e j i
+
+pub valid-sound : (s : State) → Valid s → Sound s
+valid-sound s g = record { tasks = g .tasks; hubs = g .hubs; listed = g .listed }
+
+-- ---- the refusal of a table, test by test
+
+module _ (t : List ℕ) (c : Call) where
+  pub refused-1 : (length t ≡ 600 → ⊥) → 1 ≡ refusalOf t c
+  unfolding need refusalOf
+  refused-1 n = rw (ne-eqb (length t) 600 n) refl
+
+  module _ (long : length t ≡ 600) where
+    pub blank-0 : c .service ≡ 0 → 0 ≡ refusalOf t c
+    unfolding need refusal refusalFor refusalOf serviceOf
+    blank-0 e = rw (eq-eqb (length t) 600 long, e) refl
+
+    module _ (n : c .service ≡ 0 → ⊥) where
+      pub refused-2 : wellFormed t ≡ false → 2 ≡ refusalOf t c
+      unfolding need refusalOf
+      refused-2 e = rw (eq-eqb (length t) 600 long, ne-eqb (c .service) 0 n, e) refl
+
+      pub refused-by-service : wellFormed t ≡ true → refusal (read one t) c ≡ refusalOf t c
+      unfolding need refusalOf
+      refused-by-service e = rw (eq-eqb (length t) 600 long, ne-eqb (c .service) 0 n, e) refl
+
+-- ---- what an accepted call knows
+
+module _ (t : List ℕ) (c : Call) (a : refusalOf t c ≡ 0) where
+  pub long-table : length t ≡ 600
+  unfolding refusalOf
+  long-table = eqb-true (length t) 600 (need-zero (eqb (length t) 600) 0 _ a .0)
+
+  pub accepted-by : refusal (read one t) c ≡ 0
+  accepted-by = accepted t c a .1
+
+  module _ (n : c .service ≡ 0 → ⊥) where
+    pub formed : wellFormed t ≡ true
+    formed =
+        boolCase (wellFormed t) (λ e. e)
+        (λ e. let z : (eqb (c .service) 0 || wellFormed t) ≡ true = accepted t c a .0 in
+        absurd (let y : false ≡ true = rw (ne-eqb (c .service) 0 n, e) at z in let x : _≡_ {A = ℕ} 0 1 = cc in omega arith))
+
+    pub state-valid : Valid (read one t)
+    state-valid = read-valid t formed
+
+    pub state-words : t ≡ words one (read one t)
+    state-words = well-formed-words t formed
+
+module _ (s : State) (g : Valid s) (c : Call) (a : refusal s c ≡ 0) where
+  pub caller-runs : 1 ≤ c .service → c .service ≤ 7 → task s (c .caller) .state ≡ 2
+  unfolding refusal
+  caller-runs p q = caller-ready s (g .listed) c (serviceOf (c .service)) a (bears (c .service) p q)
+
+  pub caller-in : 1 ≤ c .service → c .service ≤ 7 → c .caller < length (s .tasks)
+  caller-in p q = inUse s (c .caller) 0 (caller-runs p q)
+
+  pub task-named : (v : Service) → serviceOf (c .service) ≡ v → refusalFor v s c ≡ 0
+  task-named v e = by-service s c v e a
+
+  pub target-low : 1 ≤ c .service → c .service ≤ 5 → c .target < 16
+  target-low p q = go (c .service) refl p q
+    where
+      go : (n : ℕ) → c .service ≡ n → 1 ≤ n → n ≤ 5 → c .target < 16
+      go zero e p q = absurd (omega arith)
+      go (suc zero) e p q = unfold serviceOf in omega (arith, request-tests s (g .listed) c (task-named HubRequest (service-is c 1 e)) .named, g .hubs)
+      go (suc (suc zero)) e p q = unfold serviceOf refusalFor in omega (arith, on-task s (g .listed) c (task-named Start (service-is c 2 e)) .1, g .tasks)
+      go (suc (suc (suc zero))) e p q = unfold serviceOf refusalFor in omega (arith, on-task s (g .listed) c (task-named Stop (service-is c 3 e)) .1, g .tasks)
+      go (suc (suc (suc (suc zero)))) e p q = unfold serviceOf refusalFor in omega (arith, on-task s (g .listed) c (task-named Suspend (service-is c 4 e)) .1, g .tasks)
+      go (suc (suc (suc (suc (suc zero))))) e p q = unfold serviceOf refusalFor in omega (arith, on-task s (g .listed) c (task-named Resume (service-is c 5 e)) .1, g .tasks)
+      go (suc (suc (suc (suc (suc (suc n)))))) e p q = absurd (omega arith)
+
+  -- no service above 10 is accepted
+  pub service-low : c .service ≤ 10
+  unfolding refusal refusalFor serviceOf
+  service-low =
+      boolCase (leb (c .service) 10) (leb-true _ _)
+      (λ b. absurd (let far = past (c .service) (leb-false _ _ b) in
+      let z : refusalFor Unknown s c ≡ 0 = subst (λ (u : Service). refusalFor u s c ≡ 0) far a in omega (arith, z)))
+    where
+      past : (n : ℕ) → 10 < n → serviceOf n ≡ Unknown
+      past n h = let far : 11 ≤ n = omega arith in List·getD-eq-default (Blank ∷ HubRequest ∷ Start ∷ Stop ∷ Suspend ∷ Resume ∷ Yield ∷ Sleep ∷ Tick ∷ AddTask ∷ AddHub ∷ []) Unknown far
+
+-- services 1 to 7 keep the tasks in use
+pub keeps-tasks : (key : ℕ → ℕ) (s : State) (c : Call) → 1 ≤ c .service → c .service ≤ 7 → length (serve key (serviceOf (c .service)) s c .tasks) ≡ length (s .tasks)
+unfolding serviceOf tasksAfter
+keeps-tasks key s c p q = length-serve key (serviceOf (c .service)) s c ∙ at (c .service) p q
+  where
+    at : (n : ℕ) → 1 ≤ n → n ≤ 7 → tasksAfter (serviceOf n) (length (s .tasks)) ≡ length (s .tasks)
+    at zero p q = absurd (omega arith)
+    at (suc zero) p q = refl
+    at (suc (suc zero)) p q = refl
+    at (suc (suc (suc zero))) p q = refl
+    at (suc (suc (suc (suc zero)))) p q = refl
+    at (suc (suc (suc (suc (suc zero))))) p q = refl
+    at (suc (suc (suc (suc (suc (suc zero)))))) p q = refl
+    at (suc (suc (suc (suc (suc (suc (suc zero))))))) p q = refl
+    at (suc (suc (suc (suc (suc (suc (suc (suc n)))))))) p q = absurd (omega arith)
+
+pub caller-after : (t : List ℕ) (c : Call) → refusalOf t c ≡ 0 → 1 ≤ c .service → c .service ≤ 7 → c .caller < length (served (read one t) c .tasks)
+unfolding served
+caller-after t c a p q =
+    let n : c .service ≡ 0 → ⊥ = λ z. omega arith in
+    rw (keeps-tasks (urgency (read one t)) (read one t) c p q) (caller-in (read one t) (state-valid t c a n) c (accepted-by t c a) p q)
+
+-- ---- the reply
+
+module _ (s : State) (c : Call) where
+  pub outcome-none : c .service < 1 → NothingYet ≡ outcome s c
+  unfolding outcome
+  outcome-none h = rw (bears-none (c .service) h) refl
+
+  pub outcome-past : 7 < c .service → NothingYet ≡ outcome s c
+  unfolding outcome
+  outcome-past h = rw (bears-past (c .service) h) refl
+
+  pub outcome-word : 1 ≤ c .service → c .service ≤ 7 → outcomeOf (task s (c .caller) .answer) ≡ outcome s c
+  unfolding outcome
+  outcome-word p q = rw (bears (c .service) p q) refl
+
+-- any word but 1 and 2 shows nothing yet
+pub outcome-other : (a : ℕ) → (a ≡ 1 → ⊥) → (a ≡ 2 → ⊥) → NothingYet ≡ outcomeOf a
+unfolding outcomeOf
+outcome-other zero p q = refl
+outcome-other (suc zero) p q = absurd (p refl)
+outcome-other (suc (suc zero)) p q = absurd (q refl)
+outcome-other (suc (suc (suc a))) p q = refl
+
+module _ (t : List ℕ) (c : Call) where
+  pub called-refused : (r : ℕ) → r ≡ refusalOf t c → (r ≡ 0 → ⊥) → Called t c (record { answer = Refused r; next = 0 }) t
+  called-refused r e n = go r e n
+    where
+      go : (m : ℕ) → m ≡ refusalOf t c → (m ≡ 0 → ⊥) → Called t c (record { answer = Refused m; next = 0 }) t
+      go zero e n = absurd (n refl)
+      go (suc m) e n = record { reply = unfold replyTo replyBy in rw (← e) refl; table = unfold tableAfter tableBy in rw (← e) refl }
+
+  pub called-accepted : refusalOf t c ≡ 0 → (o : Outcome) (n : ℕ) (t′ : List ℕ) → o ≡ outcome (served (read one t) c) c → n ≡ next (served (read one t) c) → t′ ≡ words one (served (read one t) c) → Called t c (record { answer = Accepted o; next = n }) t′
+  called-accepted a o n t′ eo en et = record {
+    reply = unfold replyTo replyBy in rw (a, eo, en) refl;
+    table = unfold tableAfter tableBy in rw a et;
+  }

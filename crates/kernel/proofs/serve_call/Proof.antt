@@ -1,0 +1,229 @@
+use Rattle.kernel.proofs.Laws.{accepted-by, caller-in, key-is, long-table, service-is, service-low, state-valid, state-words, target-low, task-named, to-service, valid-sound}
+use Rattle.kernel.proofs.serve_call.Statement.{statement}
+use Rattle.kernel.proofs.serve_call.Tie as tie
+use Rattle.rules.proofs.Accepted.{hub-tests, task-tests}
+use Rattle.rules.proofs.Places.{hubs-word, tasks-word}
+use Rattle.rules.specs.Calls.{AddHub, AddTask, newHub, serve, served, serviceOf}
+use Rattle.rules.specs.Table.{one, read}
+use Rattle.rules.specs.WellFormed.{urgency}
+use borrow.Author.Needs.{needs}
+use mathlib.Core.Path.{_∙_, _≡_, refl}
+use native.Mathlib.Omega.{arith}
+
+blank-requires : tie.Need-blank-requires
+blank-requires c κs = long-table _ _ (c .before .before .before .pre)
+
+same-length : tie.Need-same-length
+same-length c = search needs
+
+returns : tie.Need-returns
+unfolding serve served serviceOf
+returns c = c .before .before .blank .ensures ∙ rw (c .before .before .before .before .if1 .taken) refl
+
+keys-requires : tie.Need-keys-requires
+keys-requires c κs = search needs
+
+slice-aggregate-serve-target : tie.Need-slice-aggregate-serve-target
+slice-aggregate-serve-target c = search needs
+
+serve-target-requires : tie.Need-serve-target-requires
+serve-target-requires c κs =
+    let a = c .before .before .before .before .before .before .before .args in
+    let t = a .t .now in
+    let k = a .c in
+    let ok = c .before .before .before .before .before .before .before .pre in
+    let nb = c .before .before .before .before .before .if1 .left in
+    let s = read one t in
+    let g = state-valid t k ok nb in
+    let r = accepted-by t k ok in
+    let w = state-words t k ok nb in
+    let hi = c .before .before .if2 .taken in
+    (omega (arith, caller-in s g k r (omega arith) (omega arith), g .tasks), (target-low s g k r (omega arith) (omega arith), long-table t k ok))
+
+same-length-2 : tie.Need-same-length-2
+same-length-2 c = search needs
+
+returns-2 : tie.Need-returns-2
+unfolding served
+returns-2 c =
+    let a = c .before .before .before .before .before .before .before .before .before .before .args in
+    let t = a .t .now in
+    let k = a .c in
+    let ok = c .before .before .before .before .before .before .before .before .before .before .pre in
+    let nb = c .before .before .before .before .before .before .before .before .if1 .left in
+    let s = read one t in
+    let g = state-valid t k ok nb in
+    let r = accepted-by t k ok in
+    let w = state-words t k ok nb in
+    let hi = c .before .before .before .before .before .if2 .taken in
+    let key = key-is (c .before .before .before .before .before .before .keys .result) (urgency s) (c .before .before .before .before .before .before .keys .ensures s (g .tasks) w) in
+    c .before .before .serve-target .ensures s g r (omega arith) (omega arith) w ∙ rw key refl
+
+slice-aggregate-serve-caller : tie.Need-slice-aggregate-serve-caller
+slice-aggregate-serve-caller c = search needs
+
+serve-caller-requires : tie.Need-serve-caller-requires
+serve-caller-requires c κs =
+    let a = c .before .before .before .before .before .before .before .before .args in
+    let t = a .t .now in
+    let k = a .c in
+    let ok = c .before .before .before .before .before .before .before .before .pre in
+    let nb = c .before .before .before .before .before .before .if1 .left in
+    let s = read one t in
+    let g = state-valid t k ok nb in
+    let r = accepted-by t k ok in
+    let w = state-words t k ok nb in
+    let lo = c .before .before .before .if2 .left in
+    let hi = c .before .before .if3 .taken in
+    (omega (arith, caller-in s g k r (omega arith) (omega arith), g .tasks), long-table t k ok)
+
+same-length-3 : tie.Need-same-length-3
+same-length-3 c = search needs
+
+returns-3 : tie.Need-returns-3
+unfolding served
+returns-3 c =
+    let a = c .before .before .before .before .before .before .before .before .before .before .before .args in
+    let t = a .t .now in
+    let k = a .c in
+    let ok = c .before .before .before .before .before .before .before .before .before .before .before .pre in
+    let nb = c .before .before .before .before .before .before .before .before .before .if1 .left in
+    let s = read one t in
+    let g = state-valid t k ok nb in
+    let r = accepted-by t k ok in
+    let w = state-words t k ok nb in
+    let lo = c .before .before .before .before .before .before .if2 .left in
+    let hi = c .before .before .before .before .before .if3 .taken in
+    let key = key-is (c .before .before .before .before .before .before .before .keys .result) (urgency s) (c .before .before .before .before .before .before .before .keys .ensures s (g .tasks) w) in
+    c .before .before .serve-caller .ensures s g r (omega arith) (omega arith) w ∙ rw key refl
+
+slice-aggregate-tick : tie.Need-slice-aggregate-tick
+slice-aggregate-tick c = search needs
+
+tick-requires : tie.Need-tick-requires
+tick-requires c κs =
+    let a = c .before .before .before .before .before .before .before .before .before .args in
+    let t = a .t .now in
+    let k = a .c in
+    let ok = c .before .before .before .before .before .before .before .before .before .pre in
+    let nb = c .before .before .before .before .before .before .before .if1 .left in
+    let s = read one t in
+    let g = state-valid t k ok nb in
+    let r = accepted-by t k ok in
+    let w = state-words t k ok nb in
+    (long-table t k ok, rw w (rw (tasks-word one s) (g .tasks)))
+
+same-length-4 : tie.Need-same-length-4
+same-length-4 c = search needs
+
+returns-4 : tie.Need-returns-4
+unfolding serve served serviceOf
+returns-4 c =
+    let a = c .before .before .before .before .before .before .before .before .before .before .before .before .args in
+    let t = a .t .now in
+    let k = a .c in
+    let ok = c .before .before .before .before .before .before .before .before .before .before .before .before .pre in
+    let nb = c .before .before .before .before .before .before .before .before .before .before .if1 .left in
+    let s = read one t in
+    let g = state-valid t k ok nb in
+    let r = accepted-by t k ok in
+    let w = state-words t k ok nb in
+    let key = key-is (c .before .before .before .before .before .before .before .before .keys .result) (urgency s) (c .before .before .before .before .before .before .before .before .keys .ensures s (g .tasks) w) in
+    c .before .before .tick .ensures s (valid-sound s g) w ∙ rw (key, c .before .before .before .before .before .if4 .taken) refl
+
+serve-add-task-requires : tie.Need-serve-add-task-requires
+unfolding serviceOf
+serve-add-task-requires c κs =
+    let a = c .before .before .before .before .before .before .before .before .before .args in
+    let t = a .t .now in
+    let k = a .c in
+    let ok = c .before .before .before .before .before .before .before .before .before .pre in
+    let nb = c .before .before .before .before .before .before .before .if1 .left in
+    let s = read one t in
+    let g = state-valid t k ok nb in
+    let r = accepted-by t k ok in
+    let w = state-words t k ok nb in
+    let room = task-tests s k (task-named s g k r AddTask (service-is k 9 (c .before .if5 .taken))) .1 in
+    (long-table t k ok, rw w (rw (tasks-word one s) room))
+
+same-length-5 : tie.Need-same-length-5
+same-length-5 c = search needs
+
+returns-5 : tie.Need-returns-5
+unfolding served serviceOf
+returns-5 c =
+    let a = c .before .before .before .before .before .before .before .before .before .before .before .before .args in
+    let t = a .t .now in
+    let k = a .c in
+    let ok = c .before .before .before .before .before .before .before .before .before .before .before .before .pre in
+    let nb = c .before .before .before .before .before .before .before .before .before .before .if1 .left in
+    let s = read one t in
+    let g = state-valid t k ok nb in
+    let r = accepted-by t k ok in
+    let w = state-words t k ok nb in
+    let v = service-is k 9 (c .before .before .before .before .if5 .taken) in
+    let room = task-tests s k (task-named s g k r AddTask v) .1 in
+    c .before .before .serve-add-task .ensures (urgency s) s room w ∙ to-service s k AddTask v (urgency s)
+
+add-hub-requires : tie.Need-add-hub-requires
+unfolding serviceOf
+add-hub-requires c κs =
+    let a = c .before .before .before .before .before .before .before .before .before .args in
+    let t = a .t .now in
+    let k = a .c in
+    let ok = c .before .before .before .before .before .before .before .before .before .pre in
+    let nb = c .before .before .before .before .before .before .before .if1 .left in
+    let s = read one t in
+    let g = state-valid t k ok nb in
+    let r = accepted-by t k ok in
+    let w = state-words t k ok nb in
+    let ten : k .service ≡ 10 = omega (arith, service-low s g k r, c .before .if5 .left, c .before .before .if4 .left, c .before .before .before .if3 .left) in
+    let room = hub-tests s k (task-named s g k r AddHub (service-is k 10 ten)) .1 in
+    (long-table t k ok, rw w (rw (hubs-word one s) room))
+
+same-length-6 : tie.Need-same-length-6
+same-length-6 c = search needs
+
+returns-6 : tie.Need-returns-6
+unfolding newHub serve served serviceOf
+returns-6 c =
+    let a = c .before .before .before .before .before .before .before .before .before .before .before .before .args in
+    let t = a .t .now in
+    let k = a .c in
+    let ok = c .before .before .before .before .before .before .before .before .before .before .before .before .pre in
+    let nb = c .before .before .before .before .before .before .before .before .before .before .if1 .left in
+    let s = read one t in
+    let g = state-valid t k ok nb in
+    let r = accepted-by t k ok in
+    let w = state-words t k ok nb in
+    let ten : k .service ≡ 10 = omega (arith, service-low s g k r, c .before .before .before .before .if5 .left, c .before .before .before .before .before .if4 .left, c .before .before .before .before .before .before .if3 .left) in
+    let v = service-is k 10 ten in
+    let room = hub-tests s k (task-named s g k r AddHub v) .1 in
+    c .before .before .add-hub .ensures s room w ∙ to-service s k AddHub v (urgency s)
+
+pub serve-call-spec : {M : Type 1} → statement M
+serve-call-spec =
+    tie.close
+    (tie.spec
+    blank-requires
+    same-length
+    returns
+    keys-requires
+    slice-aggregate-serve-target
+    serve-target-requires
+    same-length-2
+    returns-2
+    slice-aggregate-serve-caller
+    serve-caller-requires
+    same-length-3
+    returns-3
+    slice-aggregate-tick
+    tick-requires
+    same-length-4
+    returns-4
+    serve-add-task-requires
+    same-length-5
+    returns-5
+    add-hub-requires
+    same-length-6
+    returns-6)

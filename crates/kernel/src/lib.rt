@@ -1,0 +1,156 @@
+// The hub kernel: one call on one table, for any words and any seven numbers. Numbers in, one look at the table, one service,
+// numbers out. `call` is the public promise; each function below it says what it does to every state that a table holds.
+use records::TaskNo;
+use rules::Answer;
+use rules::Call;
+use rules::Outcome;
+use rules::Reply;
+ghost use Prim.Native.Nat.{_<_, _≤_, ℕ};
+ghost use Rattle.kernel.specs.Promise.{Called};
+ghost use Rattle.moves.specs.Moves.{keyOf};
+ghost use Rattle.rules.proofs.Valid.{Valid};
+ghost use Rattle.rules.specs.Calls.{AddTask, addStarted, serve, served, serviceOf};
+ghost use Rattle.rules.specs.Refusals.{refusal, refusalOf};
+ghost use Rattle.rules.specs.Reply.{outcome};
+ghost use Rattle.rules.specs.Table.{State, one, read, words};
+ghost use lib.ListN.{getD, length};
+ghost use mathlib.Core.Path.{_≡_};
+
+// "Refusal numbers, tested in this order": 1 and 2 here, then the service's own. 0 is no refusal.
+fn refusal_of(t: &[u32], c: Call) -> u32
+    ensures { λ r. ⌜ r ≡ refusalOf (now (t .entry)) c ⌝ }
+{
+    if t.len() != 600 {
+        return 1;
+    }
+    if c.service == 0 {
+        return 0;
+    }
+    if !wellformed::well_formed(t) {
+        return 2;
+    }
+    refusals::for_service(t, c)
+}
+
+// Services 1 to 5 name a hub or a task.
+fn serve_target(t: &mut [u32], keys: &[u32], c: Call)
+    requires { ⌜ c .caller < 16 ⌝ }
+    requires { ⌜ c .target < 16 ⌝ }
+    requires { ⌜ length (now t) ≡ 600 ⌝ }
+    ensures { λ _. ⌜ ((s : State) → Valid s → refusal s c ≡ 0 → 1 ≤ c .service → c .service ≤ 5 → now (t .entry) ≡ words one s → now (t .exit) ≡ words one (serve (keyOf (now (keys .entry))) (serviceOf (c .service)) s c)) ⌝ }
+{
+    let service = c.service;
+    match service {
+        1 => requests::request(t, keys, c),
+        2 => tasks::start_task(t, keys, c),
+        3 => tasks::stop_task(t, c),
+        4 => tasks::suspend_task(t, c),
+        _ => tasks::resume_task(t, c),
+    }
+}
+
+// Services 6 and 7 are the caller's alone.
+fn serve_caller(t: &mut [u32], keys: &[u32], c: Call)
+    requires { ⌜ c .caller < 16 ⌝ }
+    requires { ⌜ length (now t) ≡ 600 ⌝ }
+    ensures { λ _. ⌜ ((s : State) → Valid s → refusal s c ≡ 0 → 6 ≤ c .service → c .service ≤ 7 → now (t .entry) ≡ words one s → now (t .exit) ≡ words one (serve (keyOf (now (keys .entry))) (serviceOf (c .service)) s c)) ⌝ }
+{
+    if c.service == 6 {
+        tasks::yield_turn(t, keys, c);
+    } else {
+        tasks::sleep_task(t, c);
+    }
+}
+
+// "side 1 starts it at once": a task is added, and joins by its own priority.
+fn add_started(t: &mut [u32], priority: u32)
+    requires { ⌜ length (now t) ≡ 600 ⌝ }
+    requires { ⌜ getD (now t) 1 0 < 16 ⌝ }
+    ensures { λ _. ⌜ ((s : State) → length (s .tasks) < 16 → now (t .entry) ≡ words one s → now (t .exit) ≡ words one (addStarted priority s)) ⌝ }
+{
+    let i = TaskNo(t[1] as usize);
+    setup::add_task(t, priority);
+    let keys = setup::keys(&*t);
+    moves::make_ready(t, i, 0, 0);
+    moves::join_ready(t, moves::TASK_SIZE, &keys, i);
+}
+
+// "Add task: target is priority, side 1 starts it at once, side 0 doesn't."
+fn serve_add_task(t: &mut [u32], c: Call)
+    requires { ⌜ length (now t) ≡ 600 ⌝ }
+    requires { ⌜ getD (now t) 1 0 < 16 ⌝ }
+    ensures { λ _. ⌜ ((key : ℕ → ℕ) (s : State) → length (s .tasks) < 16 → now (t .entry) ≡ words one s → now (t .exit) ≡ words one (serve key AddTask s c)) ⌝ }
+{
+    if c.side == 1 {
+        add_started(t, c.target);
+    } else {
+        setup::add_task(t, c.target);
+    }
+}
+
+// One accepted call's service. Blank looks at nothing; any other fixes each task's key before it does anything.
+fn serve_call(t: &mut [u32], c: Call)
+    requires { ⌜ refusalOf (now t) c ≡ 0 ⌝ }
+    ensures { λ _. ⌜ now (t .exit) ≡ words one (served (read one (now (t .entry))) c) ⌝ }
+{
+    let service = c.service;
+    if service == 0 {
+        setup::blank(t);
+        return;
+    }
+    let keys = setup::keys(&*t);
+    if service <= 5 {
+        serve_target(t, &keys, c);
+        return;
+    }
+    if service <= 7 {
+        serve_caller(t, &keys, c);
+        return;
+    }
+    if service == 8 {
+        clock::tick(t, &keys);
+        return;
+    }
+    if service == 9 {
+        serve_add_task(t, c);
+        return;
+    }
+    setup::add_hub(t, c.target, c.ticks, c.word);
+}
+
+// "For services 1 to 7 the answer is the caller's answer word after the call; for 0, 8, 9 and 10 it is 0."
+fn outcome_of(t: &[u32], c: Call) -> Outcome
+    ensures { λ r. ⌜ ((s : State) → length (s .tasks) ≤ 16 → (1 ≤ c .service → c .service ≤ 7 → c .caller < length (s .tasks)) → now (t .entry) ≡ words one s → r ≡ outcome s c) ⌝ }
+{
+    if c.service < 1 {
+        return Outcome::NothingYet;
+    }
+    if 7 < c.service {
+        return Outcome::NothingYet;
+    }
+    let x = moves::task_at(t, TaskNo(c.caller as usize));
+    let answer = x.answer;
+    match answer {
+        1 => Outcome::Ok,
+        2 => Outcome::Fail,
+        _ => Outcome::NothingYet,
+    }
+}
+
+// A call: refused under its number with the table untouched, or served and answered.
+pub fn call(t: &mut [u32], c: Call) -> Reply
+    ensures { λ r. ⌜ Called (now (t .entry)) c r (now (t .exit)) ⌝ }
+{
+    let refused = refusal_of(&*t, c);
+    if refused != 0 {
+        return Reply {
+            answer: Answer::Refused(refused),
+            next: 0,
+        };
+    }
+    serve_call(t, c);
+    Reply {
+        answer: Answer::Accepted(outcome_of(&*t, c)),
+        next: refusals::running(&*t),
+    }
+}

@@ -1,0 +1,309 @@
+-- Laws of the definitions of specs/Lists.antt. In order: a turn of each loop of this crate, and its end; what a find says;
+-- lengths; numbers in words and back (`numbers-entries`, `entries-numbers`); a number joins (`join-entries`); how often a
+-- number stands in a list; a number leaves (`leave-entries`); a store's words (`push-padded`, `pop-padded`).
+-- Not here: laws of `take`, `drop`, `set`, `getD` and `length` alone (`lib.Seq`, `lib.ListN`).
+-- Lists and counts are explicit arguments, since each stands under a function that is stuck on it. Assumes nothing.
+use Prim.Native.Nat.{_+_, _<_, _≤_, pred, suc, suc-le-suc, zero, zero-le, ℕ}
+use Rattle.lists.specs.Lists.{allZero, bit, entries, foundAt, indexOf, insert, insertAt, numbers, occ, packed, padded, placeIn, placeOf, removeAt, shiftIn, without}
+use Rattle.lists.specs.declared.Found.the-variants.{At, Nothing}
+use borrow.Author.Tests.{eq-eqb, eqb-false, eqb-true, le-ltb, lt-ltb, ltb-false, ne-eqb}
+use lib.Dec.{eqb, eqb·suc-suc, eqb·suc-zero, eqb·zero-suc, ltb}
+use lib.ListN.{drop, getD, length, length-append, length-map, set, take}
+use lib.Seq.{drop-cons, take-all}
+use mathlib.Core.Bool.{Bool, cond, false, false≢true, true}
+use mathlib.Core.List.{List, [], _++_, _∷_, map}
+use mathlib.Core.Path.{_∙_, _≡_, ap, refl, sym}
+use native.Mathlib.Nat.{le-of-suc-le-suc, le-suc, le-trans, not-suc-le-zero, zero-add}
+use native.Mathlib.Numerals.{add-one}
+use native.Mathlib.Omega.{arith}
+
+-- ---- two steps of the proofs below: by cases on a test, with how it came out; and past an entry that both sides begin with
+
+pub boolCase {ℓ} : {A : Type ℓ} (b : Bool) → (b ≡ true → A) → (b ≡ false → A) → A
+boolCase true f g = f refl
+boolCase false f g = g refl
+
+cons : (x : ℕ) {xs ys : List ℕ} → xs ≡ ys → x ∷ xs ≡ x ∷ ys
+cons x e = ap (λ (r : List ℕ). x ∷ r) e
+
+-- ---- a turn of a loop that goes up: what is left of the list from place i on, by the word at i
+
+module _ (l : List ℕ) (i : ℕ) (h : i < length l) where
+  pub indexOf-hit : (v : ℕ) → getD l i 0 ≡ v → indexOf v (drop i l) ≡ 0
+  unfolding indexOf
+  indexOf-hit v e = rw (drop-cons l i 0 h, eq-eqb (getD l i 0) v e)
+
+  pub indexOf-miss : (v : ℕ) → (getD l i 0 ≡ v → ⊥) → indexOf v (drop i l) ≡ suc (indexOf v (drop (suc i) l))
+  unfolding indexOf
+  indexOf-miss v n = rw (drop-cons l i 0 h, ne-eqb (getD l i 0) v n)
+
+  pub allZero-hit : getD l i 0 ≡ 0 → allZero (drop i l) ≡ allZero (drop (suc i) l)
+  unfolding allZero
+  allZero-hit e = rw (drop-cons l i 0 h, eq-eqb (getD l i 0) 0 e)
+
+  pub allZero-miss : (getD l i 0 ≡ 0 → ⊥) → allZero (drop i l) ≡ false
+  unfolding allZero
+  allZero-miss n = rw (drop-cons l i 0 h, ne-eqb (getD l i 0) 0 n)
+
+  pub packed-hit : getD l i 0 ≡ 0 → packed (drop i l) ≡ allZero (drop i l)
+  unfolding allZero packed
+  packed-hit e = rw (drop-cons l i 0 h, eq-eqb (getD l i 0) 0 e)
+
+  pub packed-miss : (getD l i 0 ≡ 0 → ⊥) → packed (drop i l) ≡ packed (drop (suc i) l)
+  unfolding packed
+  packed-miss n = rw (drop-cons l i 0 h, ne-eqb (getD l i 0) 0 n)
+
+  -- the place of a key: at the first word that is no entry or whose key is less urgent
+  module _ (ks : List ℕ) (p : ℕ) where
+    pub placeIn-none : getD l i 0 ≡ 0 → placeIn ks p (drop i l) ≡ 0
+    unfolding placeIn
+    placeIn-none e = rw (drop-cons l i 0 h, eq-eqb (getD l i 0) 0 e)
+
+    pub placeIn-hit : (getD l i 0 ≡ 0 → ⊥) → p < getD ks (pred (getD l i 0)) 0 → placeIn ks p (drop i l) ≡ 0
+    unfolding placeIn
+    placeIn-hit n t = rw (drop-cons l i 0 h, ne-eqb (getD l i 0) 0 n, lt-ltb p (getD ks (pred (getD l i 0)) 0) t)
+
+    pub placeIn-miss : (getD l i 0 ≡ 0 → ⊥) → getD ks (pred (getD l i 0)) 0 ≤ p
+        → placeIn ks p (drop i l) ≡ suc (placeIn ks p (drop (suc i) l))
+    unfolding placeIn
+    placeIn-miss n t = rw (drop-cons l i 0 h, ne-eqb (getD l i 0) 0 n, le-ltb p (getD ks (pred (getD l i 0)) 0) t)
+
+-- ---- a turn of a loop that moves entries, and its end: what is left to do from place i on
+
+pub insertAt-step : (l : List ℕ) (i v : ℕ) → i < length l → insertAt (suc i) (getD l i 0) (set l i v) ≡ insertAt i v l
+unfolding insertAt shiftIn
+insertAt-step [] i v h = absurd (not-suc-le-zero h)
+insertAt-step (x ∷ xs) zero v h = refl
+insertAt-step (x ∷ xs) (suc i) v h = cons x (insertAt-step xs i v (le-of-suc-le-suc h))
+
+pub insertAt-out : (l : List ℕ) (i v : ℕ) → length l ≤ i → insertAt i v l ≡ l
+unfolding insertAt shiftIn
+insertAt-out [] zero v h = refl
+insertAt-out [] (suc i) v h = refl
+insertAt-out (x ∷ xs) zero v h = absurd (not-suc-le-zero h)
+insertAt-out (x ∷ xs) (suc i) v h = cons x (insertAt-out xs i v (le-of-suc-le-suc h))
+
+pub removeAt-step : (l : List ℕ) (i : ℕ) → removeAt (suc i) (set l i (getD l (suc i) 0)) ≡ removeAt i l
+unfolding removeAt
+removeAt-step [] i = refl
+removeAt-step (x ∷ []) zero = refl
+removeAt-step (x ∷ []) (suc i) = refl
+removeAt-step (x ∷ y ∷ ys) zero = refl
+removeAt-step (x ∷ y ∷ ys) (suc i) = cons x (removeAt-step (y ∷ ys) i)
+
+pub removeAt-out : (l : List ℕ) (i : ℕ) → length l ≤ i → removeAt i l ≡ l
+unfolding removeAt
+removeAt-out [] i h = refl
+removeAt-out (x ∷ xs) zero h = absurd (not-suc-le-zero h)
+removeAt-out (x ∷ xs) (suc i) h = cons x (removeAt-out xs i (le-of-suc-le-suc h))
+
+-- ---- what a find says: the first two for `find` itself, the others for whoever takes its answer apart
+
+pub found-at : (v : ℕ) (l : List ℕ) (k : ℕ) → k < length l → indexOf v l ≡ k → At k ≡ foundAt v l
+unfolding foundAt
+found-at v l k h e = rw (e, lt-ltb k (length l) h)
+
+pub found-none : (v : ℕ) (l : List ℕ) → length l ≤ indexOf v l → Nothing ≡ foundAt v l
+unfolding foundAt
+found-none v l h = rw (le-ltb _ _ h)
+
+pub found-here : (v : ℕ) (l : List ℕ) (k : ℕ) → At k ≡ foundAt v l → k ≡ indexOf v l
+unfolding foundAt
+found-here v l k q =
+    boolCase (ltb (indexOf v l) (length l))
+    (λ b. let r : At k ≡ At (indexOf v l) = rw b at q in cc)
+    (λ b. let r : At k ≡ Nothing = rw b at q in cc)
+
+pub found-nowhere : (v : ℕ) (l : List ℕ) → Nothing ≡ foundAt v l → length l ≤ indexOf v l
+unfolding foundAt
+found-nowhere v l q =
+    boolCase (ltb (indexOf v l) (length l))
+    (λ b. let r : Nothing ≡ At (indexOf v l) = rw b at q in let z : _≡_ {A = ℕ} 0 1 = cc in absurd (omega arith))
+    (ltb-false (indexOf v l) (length l))
+
+-- ---- lengths: what a caller owes of a part of the table that it lends, and what the limits of the paper ask of a list
+
+pub length-insertAt : (l : List ℕ) (i v : ℕ) → length (insertAt i v l) ≡ length l
+unfolding insertAt shiftIn
+length-insertAt l zero v = length-shiftIn l v
+  where
+    length-shiftIn : (l : List ℕ) (v : ℕ) → length (shiftIn v l) ≡ length l
+    length-shiftIn [] v = refl
+    length-shiftIn (x ∷ xs) v = ap suc (length-shiftIn xs x)
+length-insertAt [] (suc i) v = refl
+length-insertAt (x ∷ xs) (suc i) v = ap suc (length-insertAt xs i v)
+
+pub length-removeAt : (l : List ℕ) (i : ℕ) → length (removeAt i l) ≡ length l
+unfolding removeAt
+length-removeAt [] i = refl
+length-removeAt (x ∷ xs) zero = length-append xs (0 ∷ []) ∙ add-one (length xs)
+length-removeAt (x ∷ xs) (suc i) = ap suc (length-removeAt xs i)
+
+pub length-padded : (n : ℕ) (xs : List ℕ) → length (padded n xs) ≡ n
+unfolding padded
+length-padded zero xs = refl
+length-padded (suc n) [] = ap suc (length-padded n [])
+length-padded (suc n) (x ∷ xs) = ap suc (length-padded n xs)
+
+-- an entry is a number plus 1, so what holds of padded lists holds of lists of entries
+entries-padded : (n : ℕ) (xs : List ℕ) → entries n xs ≡ padded n (map suc xs)
+unfolding entries padded
+entries-padded zero xs = refl
+entries-padded (suc n) [] = cons 0 (entries-padded n [])
+entries-padded (suc n) (x ∷ xs) = cons (suc x) (entries-padded n xs)
+
+pub length-entries : (n : ℕ) (xs : List ℕ) → length (entries n xs) ≡ n
+length-entries n xs = ap length (entries-padded n xs) ∙ length-padded n (map suc xs)
+
+pub length-numbers : (l : List ℕ) → length (numbers l) ≤ length l
+unfolding numbers
+length-numbers [] = zero-le
+length-numbers (x ∷ xs) = boolCase (eqb x 0) (λ b. rw b zero-le) (λ b. rw b (suc-le-suc (length-numbers xs)))
+
+pub length-insert : (key : ℕ → ℕ) (t : ℕ) (xs : List ℕ) → length (insert key t xs) ≡ suc (length xs)
+unfolding insert
+length-insert key t [] = refl
+length-insert key t (x ∷ xs) = boolCase (ltb (key t) (key x)) (λ b. rw b) (λ b. rw b (ap suc (length-insert key t xs)))
+
+pub length-without-le : (t : ℕ) (xs : List ℕ) → length (without t xs) ≤ length xs
+unfolding without
+length-without-le t [] = zero-le
+length-without-le t (x ∷ xs) =
+    boolCase (eqb x t)
+    (λ b. rw b (le-trans (length-without-le t xs) (le-suc (length xs))))
+    (λ b. rw b (suc-le-suc (length-without-le t xs)))
+
+-- ---- numbers in words, and back: the table as it is read and as it is written
+
+-- where there are more than n, the first n
+numbers-take : (n : ℕ) (xs : List ℕ) → numbers (entries n xs) ≡ take n xs
+unfolding entries numbers
+numbers-take zero xs = refl
+numbers-take (suc n) [] = refl
+numbers-take (suc n) (x ∷ xs) = rw (eqb·suc-zero x) (cons x (numbers-take n xs))
+
+pub numbers-entries : (n : ℕ) (xs : List ℕ) → length xs ≤ n → numbers (entries n xs) ≡ xs
+numbers-entries n xs h = numbers-take n xs ∙ take-all n xs h
+
+pub entries-numbers : (l : List ℕ) → packed l ≡ true → entries (length l) (numbers l) ≡ l
+unfolding allZero entries numbers packed
+entries-numbers [] e = refl
+entries-numbers (zero ∷ xs) e = cons 0 (entries-zero xs e)
+  where
+    entries-zero : (l : List ℕ) → allZero l ≡ true → entries (length l) [] ≡ l
+    entries-zero [] e = refl
+    entries-zero (zero ∷ xs) e = cons 0 (entries-zero xs e)
+    entries-zero (suc x ∷ xs) e = absurd (false≢true (rw (eqb·suc-zero x) at e))
+entries-numbers (suc x ∷ xs) e = rw (eqb·suc-zero x) (cons (suc x) (entries-numbers xs (rw (eqb·suc-zero x) at e)))
+
+-- ---- a number joins: what `place` and `join` say of a list of words is `placeOf` and `insert` of its numbers
+
+module _ (ks : List ℕ) where
+  -- where there are more than n, among the first n
+  pub place-take : (p n : ℕ) (xs : List ℕ) → placeIn ks p (entries n xs) ≡ placeOf (λ j. getD ks j 0) p (take n xs)
+  unfolding entries placeIn placeOf
+  place-take p zero xs = refl
+  place-take p (suc n) [] = refl
+  place-take p (suc n) (x ∷ xs) = rw (eqb·suc-zero x, place-take p n xs)
+
+  pub place-entries : (p n : ℕ) (xs : List ℕ) → length xs ≤ n → placeIn ks p (entries n xs) ≡ placeOf (λ j. getD ks j 0) p xs
+  place-entries p n xs h = place-take p n xs ∙ ap (placeOf (λ j. getD ks j 0) p) (take-all n xs h)
+
+shiftIn-entries : (n x : ℕ) (xs : List ℕ) → shiftIn (suc x) (entries n xs) ≡ entries n (x ∷ xs)
+unfolding entries shiftIn
+shiftIn-entries zero x xs = refl
+shiftIn-entries (suc n) x [] = cons (suc x) (shiftIn-zero n)
+  where
+    shiftIn-zero : (n : ℕ) → shiftIn 0 (entries n []) ≡ entries n []
+    shiftIn-zero zero = refl
+    shiftIn-zero (suc n) = cons 0 (shiftIn-zero n)
+shiftIn-entries (suc n) x (y ∷ ys) = cons (suc x) (shiftIn-entries n y ys)
+
+-- where the list is full, the last entry falls out on both sides
+pub join-entries : (ks : List ℕ) (i n : ℕ) (xs : List ℕ)
+    → insertAt (placeIn ks (getD ks i 0) (entries n xs)) (suc i) (entries n xs) ≡ entries n (insert (λ j. getD ks j 0) i xs)
+unfolding entries insert insertAt placeIn shiftIn
+join-entries ks i zero xs = refl
+join-entries ks i (suc n) [] = shiftIn-entries (suc n) i []
+join-entries ks i (suc n) (x ∷ xs) =
+    rw
+    (eqb·suc-zero x)
+    (boolCase (ltb (getD ks i 0) (getD ks x 0))
+    (λ b. rw b (shiftIn-entries (suc n) i (x ∷ xs)))
+    (λ b. rw b (cons (suc x) (join-entries ks i n xs))))
+
+pub insert-place : (key : ℕ → ℕ) (t : ℕ) (xs : List ℕ)
+    → insert key t xs ≡ take (placeOf key (key t) xs) xs ++ t ∷ drop (placeOf key (key t) xs) xs
+unfolding insert placeOf
+insert-place key t [] = refl
+insert-place key t (x ∷ xs) =
+    boolCase (ltb (key t) (key x)) (λ b. rw b) (λ b. rw b (cons x (insert-place key t xs)))
+
+-- the order is that of the keys alone
+pub insert-same : (f g : ℕ → ℕ) (t : ℕ) (xs : List ℕ) → ((j : ℕ) → f j ≡ g j) → insert f t xs ≡ insert g t xs
+unfolding insert
+insert-same f g t [] e = refl
+insert-same f g t (x ∷ xs) e = rw (e t, e x, insert-same f g t xs e)
+
+-- ---- how often a number stands in a list: that each list has its tasks once stays so
+
+pub occ-insert : (key : ℕ → ℕ) (t i : ℕ) (xs : List ℕ) → occ i (insert key t xs) ≡ bit (eqb t i) + occ i xs
+unfolding insert occ
+occ-insert key t i [] = refl
+occ-insert key t i (x ∷ xs) = boolCase (ltb (key t) (key x)) (λ b. rw b) (λ b. rw b (omega (arith, occ-insert key t i xs)))
+
+pub occ-without : (t i : ℕ) (xs : List ℕ) → occ i (without t xs) ≡ cond (eqb t i) 0 (occ i xs)
+unfolding occ without
+occ-without t i [] = boolCase (eqb t i) (λ b. rw b) (λ b. rw b)
+occ-without t i (x ∷ xs) =
+    boolCase (eqb x t)
+    (λ b. rw (b, occ-without t i xs, eqb-true x t b)
+    (boolCase (eqb t i) (λ d. rw d) (λ d. rw d (sym (zero-add (occ i xs))))))
+    (λ b. rw (b, occ-without t i xs)
+    (boolCase (eqb t i) (λ d. rw (d, ne-eqb x i (λ e. eqb-false x t b (e ∙ sym (eqb-true t i d))))) (λ d. rw d)))
+
+-- ---- a number leaves: what `leave` says of a list of words is `without` of its numbers, where it stands there once at most
+
+pub without-none : (t : ℕ) (xs : List ℕ) → occ t xs ≡ 0 → without t xs ≡ xs
+unfolding occ without
+without-none t [] e = refl
+without-none t (x ∷ xs) e =
+    boolCase (eqb x t)
+    (λ b. absurd (omega (arith, rw b at e)))
+    (λ b. rw b (cons x (without-none t xs (omega (arith, rw b at e)))))
+
+padded-snoc : (n : ℕ) (xs : List ℕ) → length xs ≤ n → padded n xs ++ 0 ∷ [] ≡ padded (suc n) xs
+unfolding padded
+padded-snoc zero [] h = refl
+padded-snoc zero (x ∷ xs) h = absurd (not-suc-le-zero h)
+padded-snoc (suc n) [] h = cons 0 (padded-snoc n [] zero-le)
+padded-snoc (suc n) (x ∷ xs) h = cons x (padded-snoc n xs (le-of-suc-le-suc h))
+
+entries-snoc : (n : ℕ) (xs : List ℕ) → length xs ≤ n → entries n xs ++ 0 ∷ [] ≡ entries (suc n) xs
+entries-snoc n xs h = simp entries-padded (padded-snoc n (map suc xs) (rw length-map h))
+
+pub leave-entries : (i n : ℕ) (xs : List ℕ) → length xs ≤ n → occ i xs ≤ 1
+    → removeAt (indexOf (suc i) (entries n xs)) (entries n xs) ≡ entries n (without i xs)
+unfolding entries indexOf occ removeAt without
+leave-entries i zero xs h o = refl
+leave-entries i (suc n) [] h o = rw (eqb·zero-suc i) (cons 0 (leave-entries i n [] zero-le o))
+leave-entries i (suc n) (x ∷ xs) h o =
+    rw
+    (eqb·suc-suc x i)
+    (boolCase (eqb x i)
+    (λ b. rw (b, without-none i xs (omega (arith, rw b at o))) (entries-snoc n xs (le-of-suc-le-suc h)))
+    (λ b. rw b (cons (suc x) (leave-entries i n xs (le-of-suc-le-suc h) (omega (arith, rw b at o))))))
+
+-- ---- a store: a word goes behind the others, and the oldest goes out
+
+-- where the store is full, nothing changes on either side
+pub push-padded : (n : ℕ) (xs : List ℕ) (w : ℕ) → set (padded n xs) (length xs) w ≡ padded n (xs ++ w ∷ [])
+unfolding padded
+push-padded zero xs w = refl
+push-padded (suc n) [] w = refl
+push-padded (suc n) (x ∷ xs) w = cons x (push-padded n xs w)
+
+pub pop-padded : (n x : ℕ) (xs : List ℕ) → length (x ∷ xs) ≤ n → removeAt 0 (padded n (x ∷ xs)) ≡ padded n xs
+unfolding padded removeAt
+pop-padded zero x xs h = absurd (not-suc-le-zero h)
+pop-padded (suc n) x xs h = padded-snoc n xs (le-of-suc-le-suc h)

@@ -1,0 +1,55 @@
+-- Laws of what stands behind a list in its words: nothing but zeros, in a list of entries and in a padded list, and back.
+-- Not here: what joining, leaving, pushing and popping do to such a list (Laws.antt). Assumes nothing.
+use Prim.Native.Nat.{_≤_, suc, zero, ℕ}
+use Rattle.lists.specs.Lists.{allZero, entries, packed, padded}
+use lib.Dec.{eqb·suc-zero}
+use lib.ListN.{drop, length, replicate, take}
+use mathlib.Core.Bool.{false≢true, true}
+use mathlib.Core.List.{List, [], _∷_}
+use mathlib.Core.Path.{_∙_, _≡_, ap, refl, sym}
+use native.Mathlib.Nat.{le-of-suc-le-suc, not-suc-le-zero}
+
+pub allZero-replicate : (n : ℕ) → allZero (replicate n 0) ≡ true
+unfolding allZero
+allZero-replicate zero = refl
+allZero-replicate (suc n) = allZero-replicate n
+
+pub replicate-allZero : (l : List ℕ) → allZero l ≡ true → l ≡ replicate (length l) 0
+unfolding allZero
+replicate-allZero [] e = refl
+replicate-allZero (zero ∷ xs) e = ap {B = List ℕ} (λ r. 0 ∷ r) (replicate-allZero xs e)
+replicate-allZero (suc x ∷ xs) e = absurd (false≢true (rw (eqb·suc-zero x) at e))
+
+pub packed-entries : (n : ℕ) (xs : List ℕ) → packed (entries n xs) ≡ true
+unfolding allZero entries packed
+packed-entries zero xs = refl
+packed-entries (suc n) [] = allZero-entries n
+  where
+    allZero-entries : (n : ℕ) → allZero (entries n []) ≡ true
+    allZero-entries zero = refl
+    allZero-entries (suc n) = allZero-entries n
+packed-entries (suc n) (x ∷ xs) = rw (eqb·suc-zero x) (packed-entries n xs)
+
+pub padded-none : (n : ℕ) → padded n [] ≡ replicate n 0
+unfolding padded
+padded-none zero = refl
+padded-none (suc n) = ap {B = List ℕ} (λ r. 0 ∷ r) (padded-none n)
+
+pub take-padded : (n : ℕ) (xs : List ℕ) → length xs ≤ n → take (length xs) (padded n xs) ≡ xs
+unfolding padded
+take-padded n [] h = refl
+take-padded zero (x ∷ xs) h = absurd (not-suc-le-zero h)
+take-padded (suc n) (x ∷ xs) h = ap {B = List ℕ} (λ r. x ∷ r) (take-padded n xs (le-of-suc-le-suc h))
+
+pub drop-padded : (n : ℕ) (xs : List ℕ) → allZero (drop (length xs) (padded n xs)) ≡ true
+unfolding allZero padded
+drop-padded n [] = rw (padded-none n) (allZero-replicate n)
+drop-padded zero (x ∷ xs) = refl
+drop-padded (suc n) (x ∷ xs) = drop-padded n xs
+
+pub padded-take : (n : ℕ) (l : List ℕ) → allZero (drop n l) ≡ true → padded (length l) (take n l) ≡ l
+unfolding padded
+padded-take zero [] e = refl
+padded-take (suc n) [] e = refl
+padded-take zero (x ∷ xs) e = padded-none (suc (length xs)) ∙ sym (replicate-allZero (x ∷ xs) e)
+padded-take (suc n) (x ∷ xs) e = ap {B = List ℕ} (λ r. x ∷ r) (padded-take n xs e)

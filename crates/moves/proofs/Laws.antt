@@ -1,0 +1,163 @@
+-- What the moves do to the words of a state. In order: a list of the table takes another value; a task record is read and
+-- written; leaving every list is leaving the one list in which the task stands; what of a state a move keeps.
+-- Not here: where a state's parts stand (rules, Places), joining and leaving a list as such (lists, Laws). Assumes nothing.
+use Prim.Native.Nat.{_*_, _+_, _<_, _≤_, suc, zero, ℕ}
+use Rattle.lists.proofs.Laws.{boolCase, join-entries, leave-entries, length-entries, length-without-le, without-none}
+use Rattle.lists.specs.Lists.{entries, indexOf, insert, insertAt, occ, placeIn, removeAt, without}
+use Rattle.moves.specs.Moves.{Sound, keyOf, taskOf}
+use Rattle.records.specs.Records.{taskAt, taskWords}
+use Rattle.records.specs.declared.TaskRecord.{TaskRecord}
+use Rattle.rules.proofs.Cut.{Cut, cut-part, cut-paste, cut-sets}
+use Rattle.rules.proofs.Places.{cut-ready, cut-task, cut-waiters, one-sized, same-hub, same-task, task-word}
+use Rattle.rules.proofs.Valid.{Listed}
+use Rattle.rules.specs.Lists.{joinHub, joinReady, leave, queued, unqueue}
+use Rattle.rules.specs.Table.{Hub, Layout, Sized, State, Task, hub, noHub, one, readyAt, setHub, setReady, setTask, task, waitsAt, words}
+use borrow.Author.Tests.{eq-eqb, ltb-false, ltb-true, ne-eqb}
+use borrow.Rule.Slice.PartMut.{midOf, putMid}
+use lib.Dec.{ltb}
+use lib.ListN.{List·getD-eq-default, getD, length, set}
+use lib.Seq.{sets}
+use mathlib.Core.Bool.{Bool, _&&_, and-false, false, true}
+use mathlib.Core.List.{List, [], _∷_, map}
+use mathlib.Core.Logic.{_≢_}
+use mathlib.Core.Path.{_∙_, _≡_, ap, refl, sym}
+use native.Mathlib.Nat.{add-zero}
+use native.Mathlib.Omega.{arith}
+
+-- ---- a list of the table takes another value
+
+-- f is what a leaf does to the lent part: it takes the entries of xs to those of xs′
+pub list-put : {whole : List ℕ → List ℕ} {at : ℕ} → Cut whole (entries 16) at → (f : List ℕ → List ℕ) (xs xs′ t ys : List ℕ) (a n : ℕ) → a ≡ at → n ≡ 16 → t ≡ whole xs → ys ≡ f (midOf a n t) → f (entries 16 xs) ≡ entries 16 xs′ → putMid a n t ys ≡ whole xs′
+list-put {whole = whole} {at = at} c f xs xs′ t ys a n ea en et ey ef =
+    let part : midOf at 16 (whole xs) ≡ entries 16 xs = cut-part c xs 16 (length-entries 16 xs) in
+    let new : ys ≡ entries 16 xs′ = ey ∙ rw (ea, en, et, part) ef in
+    rw (ea, en, et, new) (cut-paste c xs xs′ 16 (length-entries 16 xs))
+
+module _ (L : Layout) (s : State) (z : Sized L) (t ys : List ℕ) (ts n : ℕ) (size : ts ≡ L .taskSize) (many : n ≡ 16) (w : t ≡ words L s) where
+  at-ready : 8 + 16 * ts + 64 ≡ readyAt L
+  at-ready = rw size refl
+
+  pub join-ready : (ks : List ℕ) (i : ℕ) → ys ≡ insertAt (placeIn ks (getD ks i 0) (midOf (8 + 16 * ts + 64) n t)) (suc i) (midOf (8 + 16 * ts + 64) n t) → putMid (8 + 16 * ts + 64) n t ys ≡ words L (joinReady (keyOf ks) i s)
+  unfolding joinReady setReady
+  join-ready ks i e =
+      list-put (cut-ready L z s) (λ l. insertAt (placeIn ks (getD ks i 0) l) (suc i) l) (s .ready) _ t ys _ n at-ready many w e (join-entries ks i 16 (s .ready))
+
+  pub leave-ready : (i : ℕ) → length (s .ready) ≤ 16 → occ i (s .ready) ≤ 1 → ys ≡ removeAt (indexOf (suc i) (midOf (8 + 16 * ts + 64) n t)) (midOf (8 + 16 * ts + 64) n t) → putMid (8 + 16 * ts + 64) n t ys ≡ words L (setReady (without i (s .ready)) s)
+  unfolding setReady
+  leave-ready i room once e =
+      list-put (cut-ready L z s) (λ l. removeAt (indexOf (suc i) l) l) (s .ready) _ t ys _ n at-ready many w e (leave-entries i 16 (s .ready) room once)
+
+  module _ (h : ℕ) (low : h < 16) (used : h < length (s .hubs)) where
+    at-hub : 8 + 16 * ts + 80 + h * 16 ≡ waitsAt L + h * 16
+    at-hub = rw size (omega arith)
+
+    same : t ≡ words L (setHub h (queued (hub s h .waiters) (hub s h)) s)
+    unfolding queued
+    same = w ∙ ap (words L) (sym (same-hub s h))
+
+    pub join-hub : (ks : List ℕ) (i : ℕ) → ys ≡ insertAt (placeIn ks (getD ks i 0) (midOf (8 + 16 * ts + 80 + h * 16) n t)) (suc i) (midOf (8 + 16 * ts + 80 + h * 16) n t) → putMid (8 + 16 * ts + 80 + h * 16) n t ys ≡ words L (joinHub (keyOf ks) h i s)
+    unfolding joinHub
+    join-hub ks i e =
+        list-put (cut-waiters L z s h low used (hub s h)) (λ l. insertAt (placeIn ks (getD ks i 0) l) (suc i) l) (hub s h .waiters) _ t ys _ n at-hub many same e (join-entries ks i 16 (hub s h .waiters))
+
+    pub leave-hub : (i : ℕ) → length (hub s h .waiters) ≤ 16 → occ i (hub s h .waiters) ≤ 1 → ys ≡ removeAt (indexOf (suc i) (midOf (8 + 16 * ts + 80 + h * 16) n t)) (midOf (8 + 16 * ts + 80 + h * 16) n t) → putMid (8 + 16 * ts + 80 + h * 16) n t ys ≡ words L (setHub h (queued (without i (hub s h .waiters)) (hub s h)) s)
+    leave-hub i room once e =
+        list-put (cut-waiters L z s h low used (hub s h)) (λ l. removeAt (indexOf (suc i) l) l) (hub s h .waiters) _ t ys _ n at-hub many same e (leave-entries i 16 (hub s h .waiters) room once)
+
+-- ---- a task record is read and written
+
+module _ (s : State) (fits : length (s .tasks) ≤ 16) (i : ℕ) (used : i < length (s .tasks)) where
+  word : (k : ℕ) → k < 8 → getD (words one s) (8 + i * 8 + k) 0 ≡ getD (one .taskWords (task s i)) k 0
+  word k h = task-word one one-sized s i k (omega arith) used h
+
+  pub record-read : taskOf (taskAt 8 (words one s) i) ≡ task s i
+  unfolding taskAt
+  record-read =
+      let first : getD (words one s) (8 + i * 8) 0 ≡ task s i .state = rw add-zero at (word 0 (omega arith)) in
+      λ j. record {
+        state = first j;
+        suspended = word 1 (omega arith) j;
+        priority = word 2 (omega arith) j;
+        hub = word 3 (omega arith) j;
+        ticks = word 4 (omega arith) j;
+        side = word 5 (omega arith) j;
+        word = word 6 (omega arith) j;
+        answer = word 7 (omega arith) j;
+      }
+
+  pub record-written : (x : TaskRecord) → sets (words one s) (8 + i * 8) (taskWords x) ≡ words one (setTask i (taskOf x) s)
+  unfolding taskWords
+  record-written x =
+      ap (λ (r : State). sets (words one r) (8 + i * 8) (taskWords x)) (sym (same-task s i))
+      ∙ cut-sets (cut-task one one-sized s i (omega arith) used) (task s i) (taskOf x) refl
+
+-- ---- leaving every list is leaving the one list in which the task stands
+
+module _ (i : ℕ) where
+  stays : (x : Hub) → occ i (x .waiters) ≡ 0 → unqueue i x ≡ x
+  unfolding queued unqueue
+  stays x e = ap (λ (l : List ℕ). queued l x) (without-none i (x .waiters) e)
+
+  all-stay : (xs : List Hub) → ((h : ℕ) → occ i (getD xs h noHub .waiters) ≡ 0) → map (unqueue i) xs ≡ xs
+  all-stay [] e = refl
+  all-stay (x ∷ xs) e = rw (stays x (e 0), all-stay xs (λ h. e (suc h)))
+
+  one-leaves : (xs : List Hub) (k : ℕ) → k < length xs → ((h : ℕ) → h ≢ k → occ i (getD xs h noHub .waiters) ≡ 0) → map (unqueue i) xs ≡ set xs k (unqueue i (getD xs k noHub))
+  one-leaves [] k h e = absurd (omega arith)
+  one-leaves (x ∷ xs) zero h e = rw (all-stay xs (λ h. e (suc h) (λ q. omega (arith, q))))
+  one-leaves (x ∷ xs) (suc k) h e = rw (stays x (e 0 (λ q. omega (arith, q))), one-leaves xs k (omega arith) (λ h n. e (suc h) (λ q. n (omega (arith, q)))))
+
+module _ (s : State) (l : Listed s) (i : ℕ) where
+  not-listed : (task s i .state ≡ 2 → ⊥) → occ i (s .ready) ≡ 0
+  not-listed n = rw (l .ready i, ne-eqb (task s i .state) 2 n) refl
+
+  not-queued : (task s i .state ≡ 3 → ⊥) → (h : ℕ) → occ i (hub s h .waiters) ≡ 0
+  not-queued n h = rw (l .waiters h i, ne-eqb (task s i .state) 3 n) refl
+
+  not-there : (h : ℕ) → (task s i .hub ≡ suc h → ⊥) → occ i (hub s h .waiters) ≡ 0
+  not-there h n = rw (l .waiters h i, ne-eqb (task s i .hub) (suc h) n, and-false) refl
+
+  pub leave-none : (task s i .state ≡ 2 → ⊥) → ((h : ℕ) → occ i (hub s h .waiters) ≡ 0) → leave i s ≡ s
+  unfolding leave
+  leave-none n e =
+      rw (without-none i (s .ready) (not-listed n), all-stay i (s .hubs) e) refl
+
+  pub leave-listed : task s i .state ≡ 2 → leave i s ≡ setReady (without i (s .ready)) s
+  unfolding leave setReady
+  leave-listed e = rw (all-stay i (s .hubs) (not-queued (λ f. omega (arith, e, f)))) refl
+
+  pub leave-queued : (h : ℕ) → h < length (s .hubs) → task s i .state ≡ 3 → task s i .hub ≡ suc h → leave i s ≡ setHub h (unqueue i (hub s h)) s
+  unfolding leave setHub
+  leave-queued h used e f =
+      rw (without-none i (s .ready) (not-listed (λ g. omega (arith, e, g))), one-leaves i (s .hubs) h used (λ k n. not-there k (λ g. n (omega (arith, f, g))))) refl
+
+-- the list that `leave_list` picks by the task's record, and what it may rest on
+module _ (s : State) (sound : Sound s) (i : ℕ) (x : TaskRecord) (e : taskOf x ≡ task s i) where
+  state-is : x .state ≡ task s i .state
+  state-is = ap (λ (r : Task). r .state) e
+
+  hub-is : x .hub ≡ task s i .hub
+  hub-is = ap (λ (r : Task). r .hub) e
+
+  pub by-ready : x .state ≡ 2 → words one (setReady (without i (s .ready)) s) ≡ words one (leave i s)
+  by-ready q = ap (words one) (sym (leave-listed s (sound .listed) i (sym state-is ∙ q)))
+
+  pub by-none : (x .state ≡ 2 → ⊥) → (x .state ≡ 3 → ⊥) → words one s ≡ words one (leave i s)
+  by-none n m = ap (words one) (sym (leave-none s (sound .listed) i (λ q. n (state-is ∙ q)) (not-queued s (sound .listed) i (λ q. m (state-is ∙ q)))))
+
+  -- a waiting task's hub is in use, since it stands in its list
+  module _ (q : x .state ≡ 3) (k : ℕ) (at : x .hub ≡ suc k) where
+    pub hub-used : k < length (s .hubs)
+    unfolding noHub occ
+    hub-used =
+        boolCase (ltb k (length (s .hubs))) (ltb-true _ _)
+        (λ b. absurd (let none : occ i (hub s k .waiters) ≡ 0 = ap (λ (y : Hub). occ i (y .waiters)) (List·getD-eq-default (s .hubs) noHub (ltb-false k (length (s .hubs)) b)) in
+        let here : occ i (hub s k .waiters) ≡ 1 = rw (sound .listed .waiters k i, eq-eqb (task s i .state) 3 (sym state-is ∙ q), eq-eqb (task s i .hub) (suc k) (sym hub-is ∙ at)) refl in
+        omega arith))
+
+    pub by-hub : words one (setHub k (queued (without i (hub s k .waiters)) (hub s k)) s) ≡ words one (leave i s)
+    unfolding unqueue
+    by-hub = ap (words one) (sym (leave-queued s (sound .listed) i k hub-used (sym state-is ∙ q) (sym hub-is ∙ at)))
+
+  pub by-nowhere : x .hub ≡ 0 → (x .state ≡ 2 → ⊥) → words one s ≡ words one (leave i s)
+  by-nowhere z n = ap (words one) (sym (leave-none s (sound .listed) i (λ q. n (state-is ∙ q)) (λ h. not-there s (sound .listed) i h (λ g. omega (arith, z, hub-is, g)))))

@@ -1,0 +1,60 @@
+use Prim.Native.Nat.{_*_, _+_, _-_, ℕ}
+use Rattle.moves.proofs.Laws as Laws
+use mathlib.Core.Path.{_≡_}
+use native.Mathlib.Omega.{arith}
+use borrow.Author.Needs.{needs}
+use Rattle.moves.proofs.join_ready.Statement.{statement}
+use Rattle.moves.proofs.join_ready.Tie as tie
+
+mul-a : tie.Need-mul-a
+mul-a c = search needs
+
+add-a : tie.Need-add-a
+add-a c = search needs
+
+add-a-2 : tie.Need-add-a-2
+add-a-2 c = search needs
+
+add-join : tie.Need-add-join
+add-join c = search needs
+
+mul-join : tie.Need-mul-join
+mul-join c = search needs
+
+sub-join : tie.Need-sub-join
+sub-join c = search needs
+
+part-join-start : tie.Need-part-join-start
+part-join-start c = search needs
+
+part-join-end : tie.Need-part-join-end
+part-join-end c = search needs
+
+join-requires : tie.Need-join-requires
+join-requires c κs = search needs
+
+same-length : tie.Need-same-length
+same-length c = search needs
+
+returns : tie.Need-returns
+returns c = λ L s z size e.
+    let a = c .before .before .before .before .before .before .args in
+    let n : ℕ = 8 + 16 * a .ts + 64 + 16 - (8 + 16 * a .ts + 64) in
+    let many : n ≡ 16 = omega arith in
+    Laws.join-ready L s z (a .t .now) _ (a .ts) n size many e (a .keys .now) (a .i .0) (c .before .before .join .ensures .list)
+
+pub join-ready-spec : {M : Type 1} → statement M
+join-ready-spec =
+    tie.close
+    (tie.spec
+    mul-a
+    add-a
+    add-a-2
+    add-join
+    mul-join
+    sub-join
+    part-join-start
+    part-join-end
+    join-requires
+    same-length
+    returns)

@@ -1,0 +1,68 @@
+use Prim.Native.Nat.{_*_, _+_, _-_, ℕ}
+use Rattle.moves.proofs.Laws as Laws
+use mathlib.Core.Path.{_≡_}
+use native.Mathlib.Omega.{arith}
+use borrow.Author.Needs.{needs}
+use Rattle.moves.proofs.leave_hub.Statement.{statement}
+use Rattle.moves.proofs.leave_hub.Tie as tie
+
+mul-a : tie.Need-mul-a
+mul-a c = search needs
+
+add-a : tie.Need-add-a
+add-a c = search needs
+
+add-a-2 : tie.Need-add-a-2
+add-a-2 c = search needs
+
+mul-a-2 : tie.Need-mul-a-2
+mul-a-2 c = search needs
+
+add-a-3 : tie.Need-add-a-3
+add-a-3 c = search needs
+
+add-leave : tie.Need-add-leave
+add-leave c = search needs
+
+mul-leave : tie.Need-mul-leave
+mul-leave c = search needs
+
+sub-leave : tie.Need-sub-leave
+sub-leave c = search needs
+
+part-leave-start : tie.Need-part-leave-start
+part-leave-start c = search needs
+
+part-leave-end : tie.Need-part-leave-end
+part-leave-end c = search needs
+
+leave-requires : tie.Need-leave-requires
+leave-requires c κs = search needs
+
+same-length : tie.Need-same-length
+same-length c = search needs
+
+returns : tie.Need-returns
+returns c = λ L s z size used room once e.
+    let a = c .before .before .before .before .before .args in
+    let n : ℕ = 8 + 16 * a .ts + 80 + a .h .0 * 16 + 16 - (8 + 16 * a .ts + 80 + a .h .0 * 16) in
+    let many : n ≡ 16 = omega arith in
+    Laws.leave-hub L s z (a .t .now) _ (a .ts) n size many e (a .h .0) (omega arith) used (a .i .0) room once (c .before .before .leave .ensures)
+
+pub leave-hub-spec : {M : Type 1} → statement M
+leave-hub-spec =
+    tie.close
+    (tie.spec
+    mul-a
+    add-a
+    add-a-2
+    mul-a-2
+    add-a-3
+    add-leave
+    mul-leave
+    sub-leave
+    part-leave-start
+    part-leave-end
+    leave-requires
+    same-length
+    returns)

@@ -1,0 +1,18 @@
+use Rattle.moves.proofs.Laws.{record-written}
+use mathlib.Core.Path.{_∙_}
+use borrow.Author.Needs.{needs}
+use Rattle.moves.proofs.set_task.Statement.{statement}
+use Rattle.moves.proofs.set_task.Tie as tie
+
+set-task-requires : tie.Need-set-task-requires
+set-task-requires c κs = search needs
+
+same-length : tie.Need-same-length
+same-length c = search needs
+
+returns : tie.Need-returns
+returns c = λ s fits used e.
+    c .before .before .set-task .ensures ∙ rw e (record-written s fits _ used _)
+
+pub set-task-spec : {M : Type 1} → statement M
+set-task-spec = tie.close (tie.spec set-task-requires same-length returns)

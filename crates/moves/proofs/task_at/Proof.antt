@@ -1,0 +1,16 @@
+use Rattle.moves.proofs.Laws.{record-read}
+use Rattle.moves.specs.Moves.{taskOf}
+use mathlib.Core.Path.{_∙_, ap}
+use borrow.Author.Needs.{needs}
+use Rattle.moves.proofs.task_at.Statement.{statement}
+use Rattle.moves.proofs.task_at.Tie as tie
+
+task-requires : tie.Need-task-requires
+task-requires c κs = search needs
+
+returns : tie.Need-returns
+returns c = λ s fits used e.
+    ap taskOf (c .task .ensures) ∙ rw e (record-read s fits _ used)
+
+pub task-at-spec : {M : Type 1} → statement M
+task-at-spec = tie.close (tie.spec task-requires returns)

@@ -1,0 +1,32 @@
+use Rattle.rules.proofs.Places.{one-sized}
+use Rattle.rules.specs.Lists.{leave, wake}
+use Rattle.rules.specs.Table.{one, setTask}
+use mathlib.Core.Path.{refl}
+use borrow.Author.Needs.{needs}
+use Rattle.moves.proofs.wake_task.Statement.{statement}
+use Rattle.moves.proofs.wake_task.Tie as tie
+
+leave-list-requires : tie.Need-leave-list-requires
+leave-list-requires c κs = search needs
+
+make-ready-requires : tie.Need-make-ready-requires
+make-ready-requires c κs = search needs
+
+join-ready-requires : tie.Need-join-ready-requires
+join-ready-requires c κs = search needs
+
+same-length : tie.Need-same-length
+same-length c = search needs
+
+returns : tie.Need-returns
+unfolding leave setTask wake
+returns c = λ s sound used e.
+    let i = c .before .before .before .before .before .before .before .before .before .before .before .before .before .before .args .i .0 in
+    let left = c .before .before .before .before .before .before .before .before .before .before .leave-list .ensures s sound used e in
+    let made = c .before .before .before .before .before .before .make-ready .ensures (leave i s) (sound .tasks) used left in
+    c .before .before .join-ready .ensures one _ one-sized refl made
+
+pub wake-task-spec : {M : Type 1} → statement M
+wake-task-spec =
+    tie.close
+    (tie.spec leave-list-requires make-ready-requires join-ready-requires same-length returns)

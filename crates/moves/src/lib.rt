@@ -1,0 +1,161 @@
+// The moves that every service is made of: a task joins a list or leaves it, is answered, made ready, woken.
+// Each says of every state that the table holds which state it holds afterwards. Safe on any table of the length required.
+// Not here: which move a service makes, and when.
+use records::HubNo;
+use records::TaskNo;
+use records::TaskRecord;
+ghost use Prim.Native.Nat.{_*_, _+_, _<_, _≤_};
+ghost use Rattle.moves.specs.Moves.{Sound, keyOf, taskOf};
+ghost use Rattle.rules.specs.Lists.{answer, joinHub, joinReady, leave, queued, readied, wake};
+ghost use Rattle.rules.specs.Table.{Layout, Sized, State, hub, one, setHub, setReady, setTask, task, words};
+ghost use Rattle.lists.specs.Lists.{occ, without};
+ghost use lib.ListN.{length};
+ghost use mathlib.Core.Path.{_≡_};
+
+// "16 task records of 8 words"
+pub const TASK_SIZE: usize = 8;
+
+// Task i joins the ready list by its key, and its place is what comes back; ts is the number of words in a task record.
+pub fn join_ready(t: &mut [u32], ts: usize, keys: &[u32], i: TaskNo) -> usize
+    requires { ⌜ ts ≤ 9 ⌝ }
+    requires { ⌜ i .0 < 16 ⌝ }
+    requires { ⌜ 8 + 16 * ts + 80 ≤ length (now t) ⌝ }
+    ensures { λ _. ⌜ ((L : Layout) (s : State) → Sized L → ts ≡ L .taskSize → now (t .entry) ≡ words L s → now (t .exit) ≡ words L (joinReady (keyOf (now (keys .entry))) (i .0) s)) ⌝ }
+{
+    let n = i.0;
+    let a = 8 + 16 * ts + 64;
+    lists::join(&mut t[a..a + 16], keys, n)
+}
+
+// Task i joins hub h's list by its key, and its place is what comes back.
+pub fn join_hub(t: &mut [u32], ts: usize, keys: &[u32], h: HubNo, i: TaskNo) -> usize
+    requires { ⌜ ts ≤ 9 ⌝ }
+    requires { ⌜ h .0 < 16 ⌝ }
+    requires { ⌜ i .0 < 16 ⌝ }
+    requires { ⌜ 8 + 16 * ts + 336 ≤ length (now t) ⌝ }
+    ensures { λ _. ⌜ ((L : Layout) (s : State) → Sized L → ts ≡ L .taskSize → h .0 < length (s .hubs) → now (t .entry) ≡ words L s → now (t .exit) ≡ words L (joinHub (keyOf (now (keys .entry))) (h .0) (i .0) s)) ⌝ }
+{
+    let n = i.0;
+    let k = h.0;
+    let a = 8 + 16 * ts + 80 + k * 16;
+    lists::join(&mut t[a..a + 16], keys, n)
+}
+
+// Task i leaves the ready list, in which it stands at most once.
+pub fn leave_ready(t: &mut [u32], ts: usize, i: TaskNo)
+    requires { ⌜ ts ≤ 9 ⌝ }
+    requires { ⌜ i .0 < 16 ⌝ }
+    requires { ⌜ 8 + 16 * ts + 80 ≤ length (now t) ⌝ }
+    ensures { λ _. ⌜ ((L : Layout) (s : State) → Sized L → ts ≡ L .taskSize → length (s .ready) ≤ 16 → occ (i .0) (s .ready) ≤ 1 → now (t .entry) ≡ words L s → now (t .exit) ≡ words L (setReady (without (i .0) (s .ready)) s)) ⌝ }
+{
+    let n = i.0;
+    let a = 8 + 16 * ts + 64;
+    lists::leave(&mut t[a..a + 16], n);
+}
+
+// Task i leaves hub h's list, in which it stands at most once.
+pub fn leave_hub(t: &mut [u32], ts: usize, h: HubNo, i: TaskNo)
+    requires { ⌜ ts ≤ 9 ⌝ }
+    requires { ⌜ h .0 < 16 ⌝ }
+    requires { ⌜ i .0 < 16 ⌝ }
+    requires { ⌜ 8 + 16 * ts + 336 ≤ length (now t) ⌝ }
+    ensures { λ _. ⌜ ((L : Layout) (s : State) → Sized L → ts ≡ L .taskSize → h .0 < length (s .hubs) → length (hub s (h .0) .waiters) ≤ 16 → occ (i .0) (hub s (h .0) .waiters) ≤ 1 → now (t .entry) ≡ words L s → now (t .exit) ≡ words L (setHub (h .0) (queued (without (i .0) (hub s (h .0) .waiters)) (hub s (h .0))) s)) ⌝ }
+{
+    let n = i.0;
+    let k = h.0;
+    let a = 8 + 16 * ts + 80 + k * 16;
+    lists::leave(&mut t[a..a + 16], n);
+}
+
+// The record of task i.
+pub fn task_at(t: &[u32], i: TaskNo) -> TaskRecord
+    requires { ⌜ i .0 ≤ 4294967295 ⌝ }
+    ensures { λ r. ⌜ ((s : State) → length (s .tasks) ≤ 16 → i .0 < length (s .tasks) → now (t .entry) ≡ words one s → taskOf r ≡ task s (i .0)) ⌝ }
+{
+    records::task(t, TASK_SIZE, i)
+}
+
+// The record of task i, written.
+pub fn set_task(t: &mut [u32], i: TaskNo, x: TaskRecord)
+    requires { ⌜ i .0 ≤ 4294967295 ⌝ }
+    ensures { λ _. ⌜ ((s : State) → length (s .tasks) ≤ 16 → i .0 < length (s .tasks) → now (t .entry) ≡ words one s → now (t .exit) ≡ words one (setTask (i .0) (taskOf x) s)) ⌝ }
+{
+    records::set_task(t, TASK_SIZE, i, x);
+}
+
+// "taken from any list": a ready task stands in the ready list, a waiting one in the list of its hub, any other in none.
+pub fn leave_list(t: &mut [u32], i: TaskNo)
+    requires { ⌜ i .0 < 16 ⌝ }
+    requires { ⌜ length (now t) ≡ 600 ⌝ }
+    ensures { λ _. ⌜ ((s : State) → Sound s → i .0 < length (s .tasks) → now (t .entry) ≡ words one s → now (t .exit) ≡ words one (leave (i .0) s)) ⌝ }
+{
+    let x = task_at(&*t, i);
+    let state = x.state;
+    let hub = x.hub;
+    if state == 2 {
+        leave_ready(t, TASK_SIZE, i);
+        return;
+    }
+    if state == 3 {
+        if 1 <= hub {
+            if hub <= 16 {
+                leave_hub(t, TASK_SIZE, HubNo((hub - 1) as usize), i);
+            }
+        }
+    }
+}
+
+// Task i gets an answer and a word.
+pub fn give_answer(t: &mut [u32], i: TaskNo, a: u32, w: u32)
+    requires { ⌜ i .0 < 16 ⌝ }
+    ensures { λ _. ⌜ ((s : State) → length (s .tasks) ≤ 16 → i .0 < length (s .tasks) → now (t .entry) ≡ words one s → now (t .exit) ≡ words one (answer (i .0) a w s)) ⌝ }
+{
+    let x = task_at(&*t, i);
+    set_task(
+        t,
+        i,
+        TaskRecord {
+            state: x.state,
+            suspended: x.suspended,
+            priority: x.priority,
+            hub: x.hub,
+            ticks: x.ticks,
+            side: x.side,
+            word: w,
+            answer: a,
+        },
+    );
+}
+
+// Task i's record becomes a ready one. It does not stand in the ready list yet.
+pub fn make_ready(t: &mut [u32], i: TaskNo, a: u32, w: u32)
+    requires { ⌜ i .0 < 16 ⌝ }
+    ensures { λ _. ⌜ ((s : State) → length (s .tasks) ≤ 16 → i .0 < length (s .tasks) → now (t .entry) ≡ words one s → now (t .exit) ≡ words one (setTask (i .0) (readied a w (task s (i .0))) s)) ⌝ }
+{
+    let x = task_at(&*t, i);
+    set_task(
+        t,
+        i,
+        TaskRecord {
+            state: 2,
+            suspended: x.suspended,
+            priority: x.priority,
+            hub: 0,
+            ticks: 0,
+            side: 0,
+            word: w,
+            answer: a,
+        },
+    );
+}
+
+// A waiter or sleeper leaves its list and becomes ready behind its equals with this answer and word.
+pub fn wake_task(t: &mut [u32], keys: &[u32], i: TaskNo, a: u32, w: u32)
+    requires { ⌜ i .0 < 16 ⌝ }
+    requires { ⌜ length (now t) ≡ 600 ⌝ }
+    ensures { λ _. ⌜ ((s : State) → Sound s → i .0 < length (s .tasks) → now (t .entry) ≡ words one s → now (t .exit) ≡ words one (wake (keyOf (now (keys .entry))) (i .0) a w s)) ⌝ }
+{
+    leave_list(t, i);
+    make_ready(t, i, a, w);
+    join_ready(t, TASK_SIZE, keys, i);
+}

@@ -1,0 +1,23 @@
+-- `records::set_field` meets its contract: the record's place by `record_at`, the store by `set_word`. Assumes nothing.
+use Rattle.records.proofs.set_field.Statement.{statement}
+use Rattle.records.proofs.set_field.Tie as tie
+use borrow.Author.Needs.{needs}
+
+record-at-requires : tie.Need-record-at-requires
+record-at-requires c κs = search needs
+
+add-p : tie.Need-add-p
+add-p c = search needs
+
+set-word-requires : tie.Need-set-word-requires
+set-word-requires c κs = search needs
+
+same-length : tie.Need-same-length
+same-length c = search needs
+
+returns : tie.Need-returns
+returns c = rw (c .before .before .before .before .record-at .ensures .place) at (c .before .before .set-word .ensures)
+
+pub set-field-spec : {M : Type 1} → statement M
+set-field-spec =
+    tie.close (tie.spec record-at-requires add-p set-word-requires same-length returns)

@@ -1,0 +1,24 @@
+-- `records::set_word` meets its contract: a store past the end is none. Assumes nothing.
+use Rattle.records.proofs.set_word.Statement.{statement}
+use Rattle.records.proofs.set_word.Tie as tie
+use borrow.Author.Needs.{needs}
+use lib.Seq.{set-out}
+use mathlib.Core.Path.{sym}
+
+mul-t : tie.Need-mul-t
+mul-t c = search needs
+
+slice-write-t : tie.Need-slice-write-t
+slice-write-t c = search needs
+
+same-length : tie.Need-same-length
+same-length c = search needs
+
+returns : tie.Need-returns
+returns c = search needs
+
+returns-2 : tie.Need-returns-2
+returns-2 c = sym (set-out (c .before .args .t .now) (c .before .args .p) (c .before .args .v) (c .if1 .left))
+
+pub set-word-spec : {M : Type 1} → statement M
+set-word-spec = tie.close (tie.spec mul-t slice-write-t same-length returns returns-2)

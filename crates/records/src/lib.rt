@@ -1,0 +1,159 @@
+// The records of the table: the two kinds of number, a record's words read and written by name, in a lent slice of any length.
+// Where a record stands and how many words it has are parameters, and what lies past the end reads as 0 and is not written.
+// Not here: what the words of a record mean, and which records are in use.
+ghost use Prim.Native.Nat.{_*_, _+_, _≤_};
+ghost use Rattle.records.specs.Records.{RecordAt, hubAt, taskAt, taskWords};
+ghost use lib.ListN.{getD, set};
+ghost use lib.Seq.{sets};
+ghost use mathlib.Core.Path.{_≡_};
+
+// The contents are words "0 to 7", and the task records come next.
+const TASKS_AT: usize = 8;
+
+// "16 hub records of 4 words"
+const HUB_SIZE: usize = 4;
+
+// "A task number and a hub number are two kinds of number and are never taken for each other."
+pub struct TaskNo(pub usize);
+
+pub struct HubNo(pub usize);
+
+// The "Task record", a word for each field, in the paper's order.
+pub struct TaskRecord {
+    pub state: u32,
+    pub suspended: u32,
+    pub priority: u32,
+    pub hub: u32,
+    pub ticks: u32,
+    pub side: u32,
+    pub word: u32,
+    pub answer: u32,
+}
+
+// The "Hub record", likewise.
+pub struct HubRecord {
+    pub kind: u32,
+    pub count: u32,
+    pub limit: u32,
+    pub start: u32,
+}
+
+// v at word p. Past the end nothing changes, so that no caller has to know the length.
+fn set_word(t: &mut [u32], p: usize, v: u32)
+    ensures { λ _. ⌜ now (t .exit) ≡ set (now (t .entry)) p v ⌝ }
+{
+    if p < t.len() {
+        t[p] = v;
+    }
+}
+
+// The words from word p on.
+fn set_words(t: &mut [u32], p: usize, words: &[u32])
+    requires { ⌜ p ≤ 281474976710655 ⌝ }
+    ensures { λ _. ⌜ now (t .exit) ≡ sets (now (t .entry)) p (now (words .entry)) ⌝ }
+{
+    let mut k = 0;
+    while k < words.len() {
+        set_word(t, p + k, words[k]);
+        k += 1;
+    }
+}
+
+// Where the i-th record of `size` words starts, if the first starts at word `at`. The bounds keep the product from wrapping.
+fn record_at(at: usize, size: usize, i: usize) -> usize
+    requires { ⌜ at ≤ 65535 ⌝ }
+    requires { ⌜ size ≤ 65535 ⌝ }
+    requires { ⌜ i ≤ 4294967295 ⌝ }
+    ensures { λ r. ⌜ RecordAt at size i r ⌝ }
+{
+    at + i * size
+}
+
+// Word f of the i-th record of `size` words, where the records start at word `at`.
+pub fn field(t: &[u32], at: usize, size: usize, i: usize, f: usize) -> u32
+    requires { ⌜ at ≤ 65535 ⌝ }
+    requires { ⌜ size ≤ 65535 ⌝ }
+    requires { ⌜ i ≤ 4294967295 ⌝ }
+    requires { ⌜ f ≤ 65535 ⌝ }
+    ensures { λ r. ⌜ r ≡ getD (now (t .entry)) (at + i * size + f) 0 ⌝ }
+{
+    let p = record_at(at, size, i) + f;
+    lists::word(t, p)
+}
+
+// The same word, written.
+pub fn set_field(t: &mut [u32], at: usize, size: usize, i: usize, f: usize, v: u32)
+    requires { ⌜ at ≤ 65535 ⌝ }
+    requires { ⌜ size ≤ 65535 ⌝ }
+    requires { ⌜ i ≤ 4294967295 ⌝ }
+    requires { ⌜ f ≤ 65535 ⌝ }
+    ensures { λ _. ⌜ now (t .exit) ≡ set (now (t .entry)) (at + i * size + f) v ⌝ }
+{
+    let p = record_at(at, size, i) + f;
+    set_word(t, p, v);
+}
+
+// The record of task i, where a task record has `size` words.
+pub fn task(t: &[u32], size: usize, i: TaskNo) -> TaskRecord
+    requires { ⌜ size ≤ 65535 ⌝ }
+    requires { ⌜ i .0 ≤ 4294967295 ⌝ }
+    ensures { λ r. ⌜ r ≡ taskAt size (now (t .entry)) (i .0) ⌝ }
+{
+    let n = i.0;
+    TaskRecord {
+        state: field(t, TASKS_AT, size, n, 0),
+        suspended: field(t, TASKS_AT, size, n, 1),
+        priority: field(t, TASKS_AT, size, n, 2),
+        hub: field(t, TASKS_AT, size, n, 3),
+        ticks: field(t, TASKS_AT, size, n, 4),
+        side: field(t, TASKS_AT, size, n, 5),
+        word: field(t, TASKS_AT, size, n, 6),
+        answer: field(t, TASKS_AT, size, n, 7),
+    }
+}
+
+// The record of task i, written whole.
+pub fn set_task(t: &mut [u32], size: usize, i: TaskNo, x: TaskRecord)
+    requires { ⌜ size ≤ 65535 ⌝ }
+    requires { ⌜ i .0 ≤ 4294967295 ⌝ }
+    ensures { λ _. ⌜ now (t .exit) ≡ sets (now (t .entry)) (8 + i .0 * size) (taskWords x) ⌝ }
+{
+    let n = i.0;
+    let words = [
+        x.state,
+        x.suspended,
+        x.priority,
+        x.hub,
+        x.ticks,
+        x.side,
+        x.word,
+        x.answer,
+    ];
+    let p = record_at(TASKS_AT, size, n);
+    set_words(t, p, &words);
+}
+
+// The record of hub h, where the hub records start at word `at`.
+pub fn hub(t: &[u32], at: usize, h: HubNo) -> HubRecord
+    requires { ⌜ at ≤ 65535 ⌝ }
+    requires { ⌜ h .0 ≤ 4294967295 ⌝ }
+    ensures { λ r. ⌜ r ≡ hubAt at (now (t .entry)) (h .0) ⌝ }
+{
+    let n = h.0;
+    HubRecord {
+        kind: field(t, at, HUB_SIZE, n, 0),
+        count: field(t, at, HUB_SIZE, n, 1),
+        limit: field(t, at, HUB_SIZE, n, 2),
+        start: field(t, at, HUB_SIZE, n, 3),
+    }
+}
+
+// The count of hub h: the one word of a hub record that a request changes.
+pub fn set_count(t: &mut [u32], at: usize, h: HubNo, count: u32)
+    requires { ⌜ at ≤ 65535 ⌝ }
+    requires { ⌜ h .0 ≤ 4294967295 ⌝ }
+    ensures { λ _. ⌜ now (t .exit) ≡ set (now (t .entry)) (at + h .0 * 4 + 1) count ⌝ }
+{
+    let n = h.0;
+    set_field(t, at, HUB_SIZE, n, 1, count);
+}

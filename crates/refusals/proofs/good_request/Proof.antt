@@ -1,0 +1,13 @@
+-- `refusals::good_request` meets its contract: the wait is `good_wait`'s. Assumes nothing.
+use Rattle.refusals.proofs.good_request.Statement.{statement}
+use Rattle.refusals.proofs.good_request.Tie as tie
+use borrow.Author.Needs.{needs}
+
+good-wait-requires : tie.Need-good-wait-requires
+good-wait-requires c κs = search needs
+
+returns : tie.Need-returns
+returns c = rw (c .good-wait .ensures)
+
+pub good-request-spec : {M : Type 1} → statement M
+good-request-spec = tie.close (tie.spec good-wait-requires returns)

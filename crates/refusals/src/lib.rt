@@ -1,0 +1,246 @@
+// "Refusal numbers, tested in this order": 3 to 7, and the running task, read from the words of a table.
+// Any words, any length, any numbers: where the words are those of a state, the answer is the rules'.
+// Not here: 1 and 2, the tests of the table itself.
+use records::HubNo;
+use records::TaskNo;
+use rules::Call;
+ghost use Prim.Native.Nat.{_≤_, suc};
+ghost use Rattle.records.specs.Records.{taskAt};
+ghost use Rattle.refusals.specs.Lookup.{foundHub, foundTask, hubsIn, tasksIn};
+ghost use Rattle.rules.proofs.Valid.{Listed, Room, Valid};
+ghost use Rattle.rules.specs.Lists.{next};
+ghost use Rattle.rules.specs.Refusals.{goodHub, goodRequest, goodWait, modeOf, need, refusal};
+ghost use Rattle.rules.specs.Table.{State, kindOf, one, words};
+ghost use Rattle.rules.specs.WellFormed.{within};
+ghost use lib.Dec.{eqb, leb, ltb};
+ghost use mathlib.Core.Bool.{_&&_, not};
+ghost use mathlib.Core.Path.{_≡_};
+
+// "contents: edition 1, tasks T, hubs H"
+const TASKS: usize = 1;
+
+const HUBS: usize = 2;
+
+// "16 task records of 8 words", and as many hub records
+const TASK_SIZE: usize = 8;
+
+const MOST_RECORDS: u32 = 16;
+
+// "200 to 215: ready list"
+const READY_AT: usize = 200;
+
+const READY_SIZE: usize = 16;
+
+// "ticks outside 1 to 1,000,000"
+const MOST_TICKS: u32 = 1000000;
+
+// "priority above 255"
+const LAST_PRIORITY: u32 = 255;
+
+// The refusal numbers; 0 is none.
+const UNKNOWN_SERVICE: u32 = 3;
+
+const NOT_RUNNING: u32 = 4;
+
+const NOT_IN_USE: u32 = 5;
+
+const BAD_ARGUMENT: u32 = 6;
+
+const FULL: u32 = 7;
+
+// What a lookup answers: the number as its own kind of number, or that it is not in use.
+pub enum FoundHub {
+    InUse(HubNo),
+    Unused,
+}
+
+enum FoundTask {
+    InUse(TaskNo),
+    Unused,
+}
+
+// "Records 0 to T-1 and 0 to H-1 are in use."
+pub fn find_hub(t: &[u32], n: u32) -> FoundHub
+    ensures { λ r. ⌜ r ≡ foundHub (now (t .entry)) n ⌝ }
+{
+    if n < lists::word(t, HUBS) {
+        FoundHub::InUse(HubNo(n as usize))
+    } else {
+        FoundHub::Unused
+    }
+}
+
+fn find_task(t: &[u32], n: u32) -> FoundTask
+    ensures { λ r. ⌜ r ≡ foundTask (now (t .entry)) n ⌝ }
+{
+    if n < lists::word(t, TASKS) {
+        FoundTask::InUse(TaskNo(n as usize))
+    } else {
+        FoundTask::Unused
+    }
+}
+
+// The flag of task i.
+fn is_suspended(t: &[u32], i: TaskNo) -> bool
+    requires { ⌜ i .0 ≤ 4294967295 ⌝ }
+    ensures { λ r. ⌜ r ≡ not (eqb (taskAt 8 (now (t .entry)) (i .0) .suspended) 0) ⌝ }
+{
+    let x = records::task(t, TASK_SIZE, i);
+    x.suspended != 0
+}
+
+// "The running task is the first task in the ready list that isn't suspended; there may be none": plus 1, or 0.
+pub fn running(t: &[u32]) -> u32
+    ensures { λ r. ⌜ ((s : State) → Room s → Listed s → now (t .entry) ≡ words one s → r ≡ next s) ⌝ }
+{
+    let mut k = 0;
+    while k < READY_SIZE {
+        let e = lists::word(t, READY_AT + k);
+        if e == 0 {
+            return 0;
+        }
+        if !is_suspended(t, TaskNo((e - 1) as usize)) {
+            return e;
+        }
+        k += 1;
+    }
+    0
+}
+
+// The sum is wider than a number of a call, so that no caller is taken for none.
+fn is_running(t: &[u32], caller: u32) -> bool
+    ensures { λ r. ⌜ ((s : State) → Room s → Listed s → now (t .entry) ≡ words one s
+        → r ≡ eqb (next s) (suc caller)) ⌝ }
+{
+    let r = running(t);
+    r as u64 == caller as u64 + 1
+}
+
+// "1 to 1,000,000"
+fn good_ticks(ticks: u32) -> bool
+    ensures { λ r. ⌜ r ≡ within 1 1000000 ticks ⌝ }
+{
+    (1 <= ticks) & (ticks <= MOST_TICKS)
+}
+
+// "mode 1 W, 2 NW, 3 WT with ticks"
+fn good_wait(mode: u32, ticks: u32) -> bool
+    ensures { λ r. ⌜ r ≡ goodWait (modeOf mode) ticks ⌝ }
+{
+    match mode {
+        1 | 2 => ticks == 0,
+        3 => good_ticks(ticks),
+        _ => false,
+    }
+}
+
+// "side 1 put, 2 get"
+fn good_request(c: Call) -> bool
+    ensures { λ r. ⌜ r ≡ goodRequest c ⌝ }
+{
+    ((1 <= c.side) & (c.side <= 2)) & good_wait(c.mode, c.ticks)
+}
+
+// The kinds table: Event 1, Semaphore 2, Port 3, FIFO 4, Resource 5.
+fn good_hub(kind: u32, limit: u32, start: u32) -> bool
+    ensures { λ r. ⌜ r ≡ goodHub (kindOf kind) limit start ⌝ }
+{
+    match kind {
+        1 | 5 => (limit == 1) & (start == 0),
+        2 => ((1 <= limit) & (limit <= 65535)) & (start <= limit),
+        3 => (limit == 0) & (start == 0),
+        4 => ((1 <= limit) & (limit <= 8)) & (start == 0),
+        _ => false,
+    }
+}
+
+// 1 Hub request: "the hub is looked up before side, mode and ticks; an unused number ends the call there"
+fn for_request(t: &[u32], c: Call) -> u32
+    ensures { λ r. ⌜ r ≡ need (ltb (c .target) (hubsIn (now (t .entry)))) 5
+        (need (goodRequest c) 6 0) ⌝ }
+{
+    let found = find_hub(t, c.target);
+    let FoundHub::InUse(_) = found else {
+        return NOT_IN_USE;
+    };
+    if good_request(c) { 0 } else { BAD_ARGUMENT }
+}
+
+// 2 Start, 3 Stop, 4 Suspend, 5 Resume.
+fn for_task(t: &[u32], c: Call) -> u32
+    ensures { λ r. ⌜ r ≡ need (ltb (c .target) (tasksIn (now (t .entry)))) 5 0 ⌝ }
+{
+    let found = find_task(t, c.target);
+    let FoundTask::InUse(_) = found else {
+        return NOT_IN_USE;
+    };
+    0
+}
+
+// 7 Sleep.
+fn for_sleep(c: Call) -> u32
+    ensures { λ r. ⌜ r ≡ need (within 1 1000000 (c .ticks)) 6 0 ⌝ }
+{
+    if good_ticks(c.ticks) { 0 } else { BAD_ARGUMENT }
+}
+
+// 9 Add task: "target is priority, side 1 starts it at once, side 0 doesn't".
+fn for_add_task(t: &[u32], c: Call) -> u32
+    ensures { λ r. ⌜ r ≡ need (leb (c .target) 255 && leb (c .side) 1) 6
+        (need (ltb (tasksIn (now (t .entry))) 16) 7 0) ⌝ }
+{
+    if !((c.target <= LAST_PRIORITY) & (c.side <= 1)) {
+        return BAD_ARGUMENT;
+    }
+    if lists::word(t, TASKS) < MOST_RECORDS {
+        0
+    } else {
+        FULL
+    }
+}
+
+// 10 Add hub: "target is kind, ticks the limit, word the start".
+fn for_add_hub(t: &[u32], c: Call) -> u32
+    ensures { λ r. ⌜ r ≡ need (goodHub (kindOf (c .target)) (c .ticks) (c .word)) 6
+        (need (ltb (hubsIn (now (t .entry))) 16) 7 0) ⌝ }
+{
+    if !good_hub(c.target, c.ticks, c.word) {
+        return BAD_ARGUMENT;
+    }
+    if lists::word(t, HUBS) < MOST_RECORDS {
+        0
+    } else {
+        FULL
+    }
+}
+
+// "services 1 to 7: caller isn't the running task". What a Yield, 6, asks besides is nothing.
+fn for_caller(t: &[u32], c: Call) -> u32
+    ensures { λ r. ⌜ (1 ≤ c .service → c .service ≤ 7
+        → (s : State) → Room s → Listed s → now (t .entry) ≡ words one s → r ≡ refusal s c) ⌝ }
+{
+    if !is_running(t, c.caller) {
+        return NOT_RUNNING;
+    }
+    let service = c.service;
+    match service {
+        1 => for_request(t, c),
+        6 => 0,
+        7 => for_sleep(c),
+        _ => for_task(t, c),
+    }
+}
+
+// A call on a table that is well formed: its refusal number, or 0. Blank, 0, and Tick, 8, are never refused here.
+pub fn for_service(t: &[u32], c: Call) -> u32
+    ensures { λ r. ⌜ ((s : State) → Valid s → Room s → now (t .entry) ≡ words one s → r ≡ refusal s c) ⌝ }
+{
+    let service = c.service;
+    match service {
+        0 | 8 => 0,
+        9 => for_add_task(t, c),
+        10 => for_add_hub(t, c),
+        1..=7 => for_caller(t, c),
+        _ => UNKNOWN_SERVICE,
+    }
+}

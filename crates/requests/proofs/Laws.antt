@@ -1,0 +1,347 @@
+-- What the functions of this crate read off a table and write into it, in the terms of the rules. In order: a hub's record;
+-- the first waiter of a side; the store, word by word; a hub that is told to hold twice; what a met request rests on; the
+-- word that is kept.
+-- Not here: where a state's parts stand (rules, Places), the moves (moves, Laws). Assumes nothing.
+use Prim.Native.Nat.{_*_, _+_, _-_, _<_, _≤_, pred, suc, zero, ℕ}
+use Rattle.hubtable.specs.Says.{RecordOf, first, metWith, says, storeAfter}
+use Rattle.hubtable.specs.declared.Meeting.{Meeting}
+use Rattle.hubtable.specs.declared.Store.the-variants.{Append, Keep, Take, TakeAppend}
+use Rattle.hubtable.specs.declared.Store.{Store}
+use Rattle.hubtable.specs.declared.Verdict.the-variants.{Met}
+use Rattle.lists.proofs.Laws.{length-padded, pop-padded, push-padded}
+use Rattle.lists.specs.Lists.{entries, occ, padded, removeAt}
+use Rattle.records.specs.Records.{hubAt}
+use Rattle.requests.specs.Requests.{StoreFits}
+use Rattle.moves.specs.Moves.{Sound}
+use Rattle.rules.proofs.Accepted.{Asked, request-tests}
+use Rattle.rules.proofs.Changes.{inUse, length-setHub}
+use Rattle.rules.proofs.Cut.{Cut, cut-part, cut-paste, cut-set}
+use Rattle.rules.proofs.Listed.{listed-answer, listed-hold}
+use Rattle.rules.proofs.Places.{cut-store, hub-word, one-sized, same-hub, store-word, wait-word}
+use Rattle.rules.proofs.Settled.{InUse, length-answer, partners, partners-in}
+use Rattle.rules.proofs.Standing.{first-waits, listed-waits, occ-here}
+use Rattle.rules.proofs.Valid.{Held, Listed, Range, Valid}
+use Rattle.rules.proofs.Verdicts.{Each, held-side, hubAfter, range-side, waitersMet}
+use Rattle.rules.specs.Calls.{HubRequest, hold, kept, meetAll, serve, settle, wait}
+use Rattle.rules.specs.HubTable.{Verdict, fail, notNow, verdict}
+use Rattle.rules.specs.Lists.{answer, firstWaiting, holding}
+use Rattle.rules.specs.Refusals.{refusalFor}
+use Rattle.rules.specs.Table.{Event, Fifo, Hub, Kind, NoKind, Port, Resource, Semaphore, Side, State, hub, hubWords, kindOf, noHub, one, setHub, setTask, sideOf, task, words}
+use Rattle.rules.specs.WellFormed.{bearsWord}
+use Rattle.rules.specs.declared.Call.{Call}
+use borrow.Author.Tests.{eq-eqb, ne-eqb}
+use borrow.Rule.Slice.PartMut.{midOf, putMid}
+use lib.ListN.{drop, getD, length, length-append, length-drop, set}
+use lib.Seq.{getD-set-same, set-set}
+use mathlib.Core.Bool.{and-false, false, true}
+use mathlib.Core.List.{List, [], _++_, _∷_}
+use mathlib.Core.Logic.{_≢_}
+use mathlib.Core.Option.{Option, none, some}
+use mathlib.Core.Path.{_∙_, _≡_, ap, refl, subst, sym}
+use native.Mathlib.Nat.{add-zero}
+use native.Mathlib.Omega.{arith}
+
+-- ---- a hub's record, and the first entry of its list
+
+module _ (s : State) (fits : length (s .hubs) ≤ 16) (h : ℕ) (used : h < length (s .hubs)) where
+  word : (k : ℕ) → k < 4 → getD (words one s) (136 + h * 4 + k) 0 ≡ getD (hubWords (hub s h)) k 0
+  word k l = hub-word one one-sized s h (omega arith) used k l
+
+  pub hub-read : RecordOf (hubAt 136 (words one s) h) (hub s h)
+  unfolding hubAt
+  hub-read = record {
+    kind = rw add-zero at (word 0 (omega arith));
+    count = word 1 (omega arith);
+    limit = word 2 (omega arith);
+    start = word 3 (omega arith);
+  }
+
+  pub entry-read : getD (words one s) (216 + h * 16) 0 ≡ getD (entries 16 (hub s h .waiters)) 0 0
+  entry-read = rw add-zero at (wait-word one one-sized s h (omega arith) used 0 (omega arith))
+
+  pub oldest-read : getD (words one s) (472 + h * 8) 0 ≡ getD (hub s h .held) 0 0
+  oldest-read = rw add-zero at (store-word one one-sized s h (omega arith) used 0 (omega arith)) ∙ first-held (hub s h .held)
+    where
+      first-held : (l : List ℕ) → getD (padded 8 l) 0 0 ≡ getD l 0 0
+      first-held [] = unfold padded in refl
+      first-held (x ∷ xs) = unfold padded in refl
+
+-- ---- the first waiter of a side, by the first entry e of the list
+
+module _ (s : State) (d : ℕ) where
+  pub no-entry : (l : List ℕ) → getD (entries 16 l) 0 0 ≡ 0 → firstWaiting s d l ≡ none
+  unfolding entries firstWaiting
+  no-entry [] z = refl
+  no-entry (x ∷ xs) z = absurd (omega (arith, z))
+
+  pub nobody : (l : List ℕ) → ((i : ℕ) → 1 ≤ occ i l → task s i .side ≡ d → ⊥) → firstWaiting s d l ≡ none
+  unfolding firstWaiting occ
+  nobody [] n = refl
+  nobody (x ∷ xs) n =
+      rw (ne-eqb (task s x .side) d (n x (occ-here x xs))) (nobody xs (λ i o. n i (omega (arith, o))))
+
+  module _ (l : List ℕ) (e : ℕ) (q : e ≡ getD (entries 16 l) 0 0) (some-e : e ≡ 0 → ⊥) where
+    pub entry-stands : 1 ≤ occ (e - 1) l
+    unfolding entries
+    entry-stands = go l q
+      where
+        go : (l : List ℕ) → e ≡ getD (entries 16 l) 0 0 → 1 ≤ occ (e - 1) l
+        go [] z = absurd (some-e z)
+        go (x ∷ xs) z = let m : e - 1 ≡ x = omega (arith, z) in rw m (occ-here x xs)
+
+    pub entry-first : task s (e - 1) .side ≡ d → firstWaiting s d l ≡ first e
+    unfolding entries first firstWaiting
+    entry-first w = go l q
+      where
+        go : (l : List ℕ) → e ≡ getD (entries 16 l) 0 0 → firstWaiting s d l ≡ first e
+        go [] z = absurd (some-e z)
+        go (x ∷ xs) z = let m : e - 1 ≡ x = omega (arith, z) in rw (z, eq-eqb (task s x .side) d (rw m at w)) refl
+
+-- whoever stands in a hub's list is in use
+pub waiter-in : (s : State) → Listed s → (h i : ℕ) → 1 ≤ occ i (hub s h .waiters) → i < length (s .tasks)
+waiter-in s l h i o = inUse s i 1 (listed-waits s l h i o .0)
+
+-- the task that an entry names
+pub first-is : (e w : ℕ) → (e ≡ 0 → ⊥) → first e ≡ some w → e - 1 ≡ w
+unfolding first
+first-is zero w n q = absurd (n refl)
+first-is (suc e) w n q = let z : e ≡ w = cc in omega (arith, z)
+
+-- ---- the store
+
+-- the oldest word goes; a word comes behind those held
+pub pop-store : (l : List ℕ) → length l ≤ 8 → removeAt 0 (padded 8 l) ≡ padded 8 (drop 1 l)
+pop-store [] h = unfold padded removeAt in refl
+pop-store (x ∷ xs) h = pop-padded 8 x xs h
+
+module _ (s : State) (h : ℕ) (low : h < 16) (used : h < length (s .hubs)) where
+  as-held : words one s ≡ words one (setHub h (holding (hub s h .count) (hub s h .held) (hub s h)) s)
+  unfolding holding
+  as-held = ap (words one) (sym (same-hub s h))
+
+  pub store-taken : (t ys : List ℕ) (n : ℕ) → n ≡ 8 → t ≡ words one s → length (hub s h .held) ≤ 8 → ys ≡ removeAt 0 (midOf (472 + h * 8) n t) → putMid (472 + h * 8) n t ys ≡ words one (hold h (hub s h .count) (drop 1 (hub s h .held)) s)
+  unfolding hold
+  store-taken t ys n many w room e =
+      let c = cut-store one one-sized s h low used (hub s h .count) (hub s h) in
+      let here = length-padded 8 (hub s h .held) in
+      let new : ys ≡ padded 8 (drop 1 (hub s h .held)) = e ∙ rw (many, w ∙ as-held, cut-part c (hub s h .held) 8 here) (pop-store (hub s h .held) room) in
+      rw (many, w ∙ as-held, new) (cut-paste c (hub s h .held) (drop 1 (hub s h .held)) 8 here)
+
+  pub store-grown : (t : List ℕ) (n w : ℕ) → n ≡ length (hub s h .held) → n < 8 → t ≡ words one s → set t (472 + h * 8 + n) w ≡ words one (hold h (hub s h .count) (hub s h .held ++ w ∷ []) s)
+  unfolding hold
+  store-grown t n w many room e =
+      let c = cut-store one one-sized s h low used (hub s h .count) (hub s h) in
+      rw (e ∙ as-held) (cut-set c (hub s h .held) (hub s h .held ++ w ∷ []) n w (rw (length-padded 8 (hub s h .held)) room) (rw many (push-padded 8 (hub s h .held) w)))
+
+  -- a hub that is told to hold twice holds what it was told last
+  pub held-hub : (n : ℕ) (ws : List ℕ) → hub (hold h n ws s) h ≡ holding n ws (hub s h)
+  unfolding hold setHub
+  held-hub n ws = getD-set-same (s .hubs) h (holding n ws (hub s h)) noHub used
+
+  pub hold-hold : (n m : ℕ) (ws vs : List ℕ) → hold h m vs (hold h n ws s) ≡ hold h m vs s
+  hold-hold n m ws vs =
+      unfold hold setHub holding in
+      rw (getD-set-same (s .hubs) h (holding n ws (hub s h)) noHub used, set-set (s .hubs) h (holding n ws (hub s h)) _) refl
+
+  pub hold-same : hold h (hub s h .count) (hub s h .held) s ≡ s
+  unfolding hold holding
+  hold-same = same-hub s h
+
+-- ---- what a met request rests on
+
+module _ (k : Kind) (T n : ℕ) (x : Hub) where
+  -- the count and store that the verdict gives are in the kind's range again, so the store can take the change
+  store-fits : (st : Store) → Range k T x → Held k x → Range k T (holding n (storeAfter st (x .held)) x) → Held k (holding n (storeAfter st (x .held)) x) → StoreFits st (x .count) (x .held)
+  unfolding Held Range StoreFits holding storeAfter
+  store-fits Keep r e r′ e′ = tt
+  store-fits Take r e r′ e′ = taken k r e
+    where
+      taken : (k : Kind) → Range k T x → Held k x → length (x .held) ≤ 8
+      taken NoKind r e = absurd r
+      taken Event r e = rw e (omega arith)
+      taken Semaphore r e = rw e (omega arith)
+      taken Port r e = rw e (omega arith)
+      taken Fifo r e = omega (arith, e, r .0, r .2)
+      taken Resource r e = rw e (omega arith)
+  store-fits (Append w) r e r′ e′ = grown k r e r′ e′
+    where
+      never : x .held ++ w ∷ [] ≡ [] → ⊥
+      never q = omega (arith, ap length q, length-append (x .held) (w ∷ []))
+
+      grown : (k : Kind) → Range k T x → Held k x → Range k T (holding n (x .held ++ w ∷ []) x) → Held k (holding n (x .held ++ w ∷ []) x) → (x .count ≡ length (x .held)) × (x .count < 8)
+      grown NoKind r e r′ e′ = absurd r
+      grown Event r e r′ e′ = absurd (never e′)
+      grown Semaphore r e r′ e′ = absurd (never e′)
+      grown Port r e r′ e′ = absurd (never e′)
+      grown Fifo r e r′ e′ = (e, omega (arith, e, e′, r′ .0, r′ .2, length-append (x .held) (w ∷ [])))
+      grown Resource r e r′ e′ = absurd (never e′)
+  store-fits (TakeAppend w) r e r′ e′ = passed k r e r′ e′
+    where
+      never : drop 1 (x .held) ++ w ∷ [] ≡ [] → ⊥
+      never q = omega (arith, ap length q, length-append (drop 1 (x .held)) (w ∷ []))
+
+      passed : (k : Kind) → Range k T x → Held k x → Range k T (holding n (drop 1 (x .held) ++ w ∷ []) x) → Held k (holding n (drop 1 (x .held) ++ w ∷ []) x) → (x .count ≡ length (x .held)) × (length (x .held) ≤ 8)
+      passed NoKind r e r′ e′ = absurd r
+      passed Event r e r′ e′ = absurd (never e′)
+      passed Semaphore r e r′ e′ = absurd (never e′)
+      passed Port r e r′ e′ = absurd (never e′)
+      passed Fifo r e r′ e′ = (e, omega (arith, e, r .0, r .2))
+      passed Resource r e r′ e′ = absurd (never e′)
+
+module _ (s : State) (g : Valid s) (c : Call) (a : refusalFor HubRequest s c ≡ 0) where
+  pub asked : Asked s c
+  asked = request-tests s (g .listed) c a
+
+  pub caller-used : c .caller < length (s .tasks)
+  caller-used = inUse s (c .caller) 0 (asked .run)
+
+  first-used : (d w : ℕ) → firstWaiting s d (hub s (c .target) .waiters) ≡ some w → w < length (s .tasks)
+  first-used d w q = waiter-in s (g .listed) (c .target) w (first-waits s d (hub s (c .target) .waiters) w q .0)
+
+  pub putter-used : (w : ℕ) → firstWaiting s 1 (hub s (c .target) .waiters) ≡ some w → w < length (s .tasks)
+  putter-used = first-used 1
+
+  range : Range (kindOf (hub s (c .target) .kind)) (length (s .tasks)) (hub s (c .target))
+  range = g .ranges .range (c .target) (asked .named)
+
+  held : Held (kindOf (hub s (c .target) .kind)) (hub s (c .target))
+  held = g .ranges .held (c .target) (asked .named)
+
+  module _ (m : Meeting) (e : says (hub s (c .target) .held) (Met m) ≡ verdict s c) where
+    pub meeting-fits : StoreFits (m .store) (hub s (c .target) .count) (hub s (c .target) .held)
+    unfolding hubAfter says verdict
+    meeting-fits =
+        let x = hub s (c .target) in
+        let k = kindOf (x .kind) in
+        let T = length (s .tasks) in
+        store-fits k T (m .count) x (m .store) range held
+        (subst (λ (v : Verdict). Range k T (hubAfter x v)) (sym e) (range-side (sideOf (c .side)) T s x c caller-used (first-used 2) range))
+        (subst (λ (v : Verdict). Held k (hubAfter x v)) (sym e) (held-side (sideOf (c .side)) s x c held))
+
+    pub waiter-used : (w : ℕ) → first (m .waiter) ≡ some w → w < length (s .tasks)
+    unfolding Each metWith says waitersMet
+    waiter-used w q =
+        let ms : InUse s (metWith (first (m .waiter)) (m .its)) = subst (λ (v : Verdict). InUse s (waitersMet v)) (sym e) (partners-in s c (waitersMet (verdict s c)) (partners s (g .listed) c)) in
+        subst (λ (f : Option ℕ). InUse s (metWith f (m .its))) q ms .0
+
+    -- the state that a met request leaves, waiter by waiter
+    pub met-state : (key : ℕ → ℕ) → meetAll key (metWith (first (m .waiter)) (m .its)) (answer (c .caller) 1 (m .word) (hold (c .target) (m .count) (storeAfter (m .store) (hub s (c .target) .held)) s)) ≡ serve key HubRequest s c
+    unfolding says serve settle
+    met-state key = ap (λ (v : Verdict). settle key v s c) e
+
+    pub met-sound : Sound (answer (c .caller) 1 (m .word) (hold (c .target) (m .count) (storeAfter (m .store) (hub s (c .target) .held)) s))
+    met-sound = record {
+      tasks = rw (length-answer (hold (c .target) (m .count) (storeAfter (m .store) (hub s (c .target) .held)) s) (c .caller) 1 (m .word)) (unfold hold setHub in g .tasks);
+      hubs = unfold answer hold setTask in rw (length-setHub s (c .target) (holding (m .count) (storeAfter (m .store) (hub s (c .target) .held)) (hub s (c .target)))) (g .hubs);
+      listed = listed-answer (c .caller) 1 (m .word) _ (listed-hold (c .target) (m .count) (storeAfter (m .store) (hub s (c .target) .held)) s (g .listed));
+    }
+
+-- an answer keeps the tasks in use
+pub told-in : (s : State) (c : Call) (x : ℕ) (s₁ : State) → s₁ .tasks ≡ s .tasks → {w : ℕ} → w < length (s .tasks) → w < length (answer (c .caller) 1 x s₁ .tasks)
+told-in s c x s₁ e h = rw (length-answer s₁ (c .caller) 1 x, e) h
+
+-- ---- the word that is kept
+
+bears-not : (n : ℕ) → (n ≡ 3 → ⊥) → (n ≡ 4 → ⊥) → bearsWord (kindOf n) ≡ false
+unfolding bearsWord kindOf
+bears-not zero p q = refl
+bears-not (suc zero) p q = refl
+bears-not (suc (suc zero)) p q = refl
+bears-not (suc (suc (suc zero))) p q = absurd (p refl)
+bears-not (suc (suc (suc (suc zero)))) p q = absurd (q refl)
+bears-not (suc (suc (suc (suc (suc zero))))) p q = refl
+bears-not (suc (suc (suc (suc (suc (suc n)))))) p q = refl
+
+bears : (n : ℕ) → 3 ≤ n → n ≤ 4 → bearsWord (kindOf n) ≡ true
+unfolding bearsWord kindOf
+bears zero p q = absurd (omega arith)
+bears (suc zero) p q = absurd (omega arith)
+bears (suc (suc zero)) p q = absurd (omega arith)
+bears (suc (suc (suc zero))) p q = refl
+bears (suc (suc (suc (suc zero)))) p q = refl
+bears (suc (suc (suc (suc (suc n))))) p q = absurd (omega arith)
+
+module _ (h : Hub) (c : Call) where
+  pub kept-get : (c .side ≡ 1 → ⊥) → 0 ≡ kept h c
+  unfolding kept
+  kept-get n = rw (ne-eqb (c .side) 1 n) refl
+
+  pub kept-put : 3 ≤ h .kind → h .kind ≤ 4 → c .side ≡ 1 → c .word ≡ kept h c
+  unfolding kept
+  kept-put p q e = rw (eq-eqb (c .side) 1 e, bears (h .kind) p q) refl
+
+  pub kept-not : (h .kind ≡ 3 → ⊥) → (h .kind ≡ 4 → ⊥) → 0 ≡ kept h c
+  unfolding kept
+  kept-not p q = rw (bears-not (h .kind) p q, and-false) refl
+
+-- ---- what a verdict does to a store, case by case
+
+module _ (n : ℕ) (held : List ℕ) where
+  pub fits-append : {st : Store} {w : ℕ} → st ≡ Append w → StoreFits st n held → (n ≡ length held) × (n < 8)
+  unfolding StoreFits
+  fits-append e f = subst (λ (z : Store). StoreFits z n held) e f
+
+  pub fits-take : {st : Store} → st ≡ Take → StoreFits st n held → length held ≤ 8
+  unfolding StoreFits
+  fits-take e f = subst (λ (z : Store). StoreFits z n held) e f
+
+  pub fits-pass : {st : Store} {w : ℕ} → st ≡ TakeAppend w → StoreFits st n held → (n ≡ length held) × (length held ≤ 8)
+  unfolding StoreFits
+  fits-pass e f = subst (λ (z : Store). StoreFits z n held) e f
+
+module _ (s : State) (h : ℕ) (st : Store) where
+  abbrev pub After : List ℕ → List ℕ
+  After ws = words one (hold h (hub s h .count) ws s)
+
+  pub after-keep : st ≡ Keep → words one s ≡ After (storeAfter st (hub s h .held))
+  unfolding hold holding storeAfter
+  after-keep e = ap (words one) (sym (same-hub s h)) ∙ ap (λ (z : Store). After (storeAfter z (hub s h .held))) (sym e)
+
+  pub after-append : (w : ℕ) → st ≡ Append w → After (hub s h .held ++ w ∷ []) ≡ After (storeAfter st (hub s h .held))
+  unfolding storeAfter
+  after-append w e = ap (λ (z : Store). After (storeAfter z (hub s h .held))) (sym e)
+
+  pub after-take : st ≡ Take → After (drop 1 (hub s h .held)) ≡ After (storeAfter st (hub s h .held))
+  unfolding storeAfter
+  after-take e = ap (λ (z : Store). After (storeAfter z (hub s h .held))) (sym e)
+
+  pub after-pass : (w : ℕ) → st ≡ TakeAppend w → After (drop 1 (hub s h .held) ++ w ∷ []) ≡ After (storeAfter st (hub s h .held))
+  unfolding storeAfter
+  after-pass w e = ap (λ (z : Store). After (storeAfter z (hub s h .held))) (sym e)
+
+-- the hub once its oldest word is taken: what the word that comes behind rests on, and what it leaves
+module _ (s : State) (h : ℕ) (low : h < 16) (used : h < length (s .hubs)) where
+  abbrev pub taken : State
+  taken = hold h (hub s h .count) (drop 1 (hub s h .held)) s
+
+  pub taken-used : h < length (taken .hubs)
+  unfolding hold
+  taken-used = rw (length-setHub s h (holding (hub s h .count) (drop 1 (hub s h .held)) (hub s h))) used
+
+  hub-taken : hub taken h ≡ holding (hub s h .count) (drop 1 (hub s h .held)) (hub s h)
+  hub-taken = held-hub s h low used (hub s h .count) (drop 1 (hub s h .held))
+
+  pub taken-many : (n : ℕ) → n ≡ length (hub s h .held) → pred n ≡ length (hub taken h .held)
+  unfolding holding
+  taken-many n e = rw hub-taken (omega (arith, e, length-drop 1 (hub s h .held)))
+
+  pub taken-grown : (w : ℕ) → words one (hold h (hub taken h .count) (hub taken h .held ++ w ∷ []) taken) ≡ words one (hold h (hub s h .count) (drop 1 (hub s h .held) ++ w ∷ []) s)
+  unfolding holding
+  taken-grown w =
+      ap (λ (x : Hub). words one (hold h (x .count) (x .held ++ w ∷ []) taken)) hub-taken
+      ∙ ap (words one) (hold-hold s h low used (hub s h .count) (hub s h .count) (drop 1 (hub s h .held)) (drop 1 (hub s h .held) ++ w ∷ []))
+
+-- ---- a verdict that meets nobody
+
+module _ (key : ℕ → ℕ) (s : State) (c : Call) where
+  pub failed-state : fail ≡ verdict s c → answer (c .caller) 2 0 s ≡ serve key HubRequest s c
+  unfolding serve settle
+  failed-state e = ap (λ (v : Verdict). settle key v s c) e
+
+  pub refused-state : notNow ≡ verdict s c → c .mode ≡ 2 → answer (c .caller) 2 0 s ≡ serve key HubRequest s c
+  unfolding serve settle
+  refused-state e m = sym (rw (eq-eqb (c .mode) 2 m) refl) ∙ ap (λ (v : Verdict). settle key v s c) e
+
+  pub waiting-state : notNow ≡ verdict s c → (c .mode ≡ 2 → ⊥) → wait key s c ≡ serve key HubRequest s c
+  unfolding serve settle
+  waiting-state e m = sym (rw (ne-eqb (c .mode) 2 m) refl) ∙ ap (λ (v : Verdict). settle key v s c) e

@@ -1,0 +1,100 @@
+use Rattle.moves.specs.Moves.{Sound}
+use Rattle.hubtable.specs.Says.{says}
+use Rattle.requests.proofs.Laws.{asked, caller-used, failed-state, refused-state, waiting-state}
+use Rattle.requests.proofs.request.Statement.{statement}
+use Rattle.requests.proofs.request.Tie as tie
+use Rattle.rules.specs.Table.{hub, one, words}
+use borrow.Author.Needs.{needs}
+use mathlib.Core.Path.{_∙_, ap, sym}
+
+cast-t7 : tie.Need-cast-t7
+cast-t7 c = search needs
+
+judge-requires : tie.Need-judge-requires
+judge-requires c κs = search needs
+
+enum-known-v : tie.Need-enum-known-v
+enum-known-v c = search needs
+
+meet-requires : tie.Need-meet-requires
+meet-requires c κs = search needs
+
+enum-told : tie.Need-enum-told
+enum-told c = search needs
+
+give-answer-requires : tie.Need-give-answer-requires
+give-answer-requires c κs = search needs
+
+enum-told-2 : tie.Need-enum-told-2
+enum-told-2 c = search needs
+
+give-answer-requires-2 : tie.Need-give-answer-requires-2
+give-answer-requires-2 c κs = search needs
+
+wait-there-requires : tie.Need-wait-there-requires
+wait-there-requires c κs = search needs
+
+same-length : tie.Need-same-length
+same-length c = search needs
+
+returns : tie.Need-returns
+returns c = λ s g a e.
+    let told = c .before .before .before .before .before .v .given in
+    let j = c .before .before .before .before .before .before .before .judge .ensures s g a e in
+    c .before .before .meet .ensures s g a (ap (says _) (sym (told .1)) ∙ j) e
+
+same-length-2 : tie.Need-same-length-2
+same-length-2 c = search needs
+
+returns-2 : tie.Need-returns-2
+unfolding says
+returns-2 c = λ s g a e.
+    let k = c .before .before .before .before .before .before .before .before .before .before .before .args .c in
+    let j = c .before .before .before .before .before .before .judge .ensures s g a e in
+    c .before .before .give-answer .ensures s (g .tasks) (caller-used s g k a) e
+    ∙ ap (words one) (failed-state _ s k (ap (says (hub s (k .target) .held)) (sym (c .before .before .before .before .enum-told .given .1)) ∙ j))
+
+same-length-3 : tie.Need-same-length-3
+same-length-3 c = search needs
+
+returns-3 : tie.Need-returns-3
+unfolding says
+returns-3 c = λ s g a e.
+    let k = c .before .before .before .before .before .before .before .before .before .before .before .before .before .args .c in
+    let j = c .before .before .before .before .before .before .before .before .judge .ensures s g a e in
+    c .before .before .give-answer2 .ensures s (g .tasks) (caller-used s g k a) e
+    ∙ ap (words one) (refused-state _ s k (ap (says (hub s (k .target) .held)) (sym (c .before .before .before .before .before .before .enum-told2 .given .1)) ∙ j) (c .before .before .before .before .if1 .taken))
+
+same-length-4 : tie.Need-same-length-4
+same-length-4 c = search needs
+
+returns-4 : tie.Need-returns-4
+unfolding says
+returns-4 c = λ s g a e.
+    let k = c .before .before .before .before .before .before .before .before .before .before .before .before .before .args .c in
+    let j = c .before .before .before .before .before .before .before .before .judge .ensures s g a e in
+    let sound : Sound s = record { tasks = g .tasks; hubs = g .hubs; listed = g .listed } in
+    c .before .before .wait-there .ensures s sound (caller-used s g k a) (asked s g k a .named) e
+    ∙ ap (words one) (waiting-state _ s k (ap (says (hub s (k .target) .held)) (sym (c .before .before .before .before .before .before .enum-told2 .given .1)) ∙ j) (c .before .before .before .before .if1 .left))
+
+pub request-spec : {M : Type 1} → statement M
+request-spec =
+    tie.close
+    (tie.spec
+    cast-t7
+    judge-requires
+    enum-known-v
+    meet-requires
+    enum-told
+    give-answer-requires
+    enum-told-2
+    give-answer-requires-2
+    wait-there-requires
+    same-length
+    returns
+    same-length-2
+    returns-2
+    same-length-3
+    returns-3
+    same-length-4
+    returns-4)

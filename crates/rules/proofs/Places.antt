@@ -1,0 +1,423 @@
+-- Where the parts of a state stand in the words of a table, for any layout of the sizes that it says. In order: rows of
+-- words; the table's length and contents; the place of each part, as a cut, and its words; one more record, behind those in use.
+-- Not here: a table that is read (Reading.antt). Assumes nothing.
+use Prim.Native.Nat.{_*_, _+_, _-_, _<_, _≤_, suc, zero, ℕ}
+use Rattle.lists.proofs.Laws.{length-entries, length-padded}
+use Rattle.lists.proofs.Padding.{allZero-replicate}
+use Rattle.lists.specs.Lists.{entries}
+use Rattle.rules.proofs.Cut.{Cut, cut-along, cut-get, cut-here, cut-move, cut-part, cut-paste, cut-set, cut-sets, cut-within}
+use Rattle.rules.specs.Calls.{addHub, addTask}
+use Rattle.rules.specs.Lists.{holding, queued}
+use Rattle.rules.specs.Table.{Hub, Layout, Sized, State, Task, contents, hub, hubWords, hubsAt, inactive, noHub, one, part, readyAt, rows, setHub, setReady, setTask, size, storeOf, storePart, storesAt, task, tasksAt, waitPart, waitWords, waitsAt, words}
+use Rattle.rules.specs.WellFormed.{unusedZero, zeroFrom}
+use borrow.Rule.Slice.PartMut.{putMid}
+use lib.ListN.{getD, length, length-append, length-replicate, length-set, replicate, replicate-append-replicate, set}
+use lib.Seq.{set-getD, sets}
+use mathlib.Core.Bool.{true}
+use mathlib.Core.List.{List, [], _++_, _∷_, append-assoc, append-nil}
+use mathlib.Core.Option.{Option, none, some}
+use mathlib.Core.Path.{_∙_, _≡_, ap, refl, sym}
+use native.Mathlib.Nat.{add-mul, add-sub-of-le, le-of-suc-le-suc, not-suc-le-zero, sub-zero, suc-mul, zero-mul}
+use native.Mathlib.Numerals.{add-one}
+use native.Mathlib.Omega.{arith}
+
+-- ---- rows
+
+-- a row that is written alike leaves the rows alike
+rows-same : {A : Type 0} (w : ℕ) (f : A → List ℕ) (n : ℕ) (xs : List A) (i : ℕ) (y z : A) → f y ≡ f z → rows w f n (set xs i y) ≡ rows w f n (set xs i z)
+unfolding rows
+rows-same w f zero xs i y z e = refl
+rows-same w f (suc n) [] i y z e = refl
+rows-same w f (suc n) (x ∷ xs) zero y z e = rw e
+rows-same w f (suc n) (x ∷ xs) (suc i) y z e = rw (rows-same w f n xs i y z e)
+
+pub rows-none : {A : Type 0} (w : ℕ) (f : A → List ℕ) (n : ℕ) → rows w f n [] ≡ replicate (n * w) 0
+unfolding rows
+rows-none w f zero = rw zero-mul
+rows-none w f (suc n) =
+    let e : w + n * w ≡ suc n * w = omega (arith, suc-mul n w) in
+    rw
+    (← e, ← replicate-append-replicate {A = ℕ} w (n * w) 0)
+    (ap (λ (r : List ℕ). replicate w 0 ++ r) (rows-none w f n))
+
+-- an entry written as zeros is as none
+rows-empty : {A : Type 0} (w : ℕ) (f : A → List ℕ) (n : ℕ) (xs : List A) (y : A) → f y ≡ replicate w 0 → rows w f n (xs ++ y ∷ []) ≡ rows w f n xs
+unfolding rows
+rows-empty w f zero xs y e = refl
+rows-empty w f (suc n) [] y e = rw e
+rows-empty w f (suc n) (x ∷ xs) y e = rw (rows-empty w f n xs y e)
+
+-- the entries, and one more or none
+abbrev more : {A : Type 0} → List A → Option A → List A
+more xs none = xs
+more xs (some y) = xs ++ y ∷ []
+
+abbrev rowOf : {A : Type 0} → ℕ → (A → List ℕ) → Option A → List ℕ
+rowOf w f none = replicate w 0
+rowOf w f (some y) = f y
+
+module _ {A : Type 0} (w : ℕ) (f : A → List ℕ) (wide : (a : A) → length (f a) ≡ w) where
+  length-rows : (n : ℕ) (xs : List A) → length (rows w f n xs) ≡ n * w
+  unfolding rows
+  length-rows zero xs = sym (zero-mul w)
+  length-rows (suc n) [] =
+      rw
+      (length-append (replicate w 0) (rows w f n []), length-replicate {A = ℕ} w 0, length-rows n [], suc-mul n w)
+      (omega arith)
+  length-rows (suc n) (x ∷ xs) =
+      rw (length-append (f x) (rows w f n xs), wide x, length-rows n xs, suc-mul n w) (omega arith)
+
+  -- row i, whatever stands in it
+  cut-row : (n : ℕ) (xs : List A) (i : ℕ) → i < n → i < length xs → Cut (λ (y : A). rows w f n (set xs i y)) f (i * w)
+  unfolding rows
+  cut-row n [] i hn hx = absurd (not-suc-le-zero hx)
+  cut-row zero (x ∷ xs) i hn hx = absurd (not-suc-le-zero hn)
+  cut-row (suc n) (x ∷ xs) zero hn hx = cut-here [] (rows w f n xs) (0 * w) (sym (zero-mul w)) (λ y. refl)
+  cut-row (suc n) (x ∷ xs) (suc i) hn hx =
+      cut-move
+      (cut-within (f x) [] w (i * w) (wide x) (λ y. rw append-nil) (cut-row n xs i (le-of-suc-le-suc hn) (le-of-suc-le-suc hx)))
+      (omega (arith, suc-mul i w))
+
+  -- the row behind those in use: zeros, or one more entry
+  cut-next : (n : ℕ) (xs : List A) → length xs < n → Cut (λ (o : Option A). rows w f n (more xs o)) (rowOf w f) (length xs * w)
+  unfolding rows
+  cut-next zero xs h = absurd (not-suc-le-zero h)
+  cut-next (suc n) [] h = cut-here [] (rows w f n []) (0 * w) (sym (zero-mul w)) first
+    where
+      first : (o : Option A) → rows w f (suc n) (more [] o) ≡ rowOf w f o ++ rows w f n []
+      first none = refl
+      first (some y) = refl
+  cut-next (suc n) (x ∷ xs) h =
+      cut-move
+      (cut-within (f x) [] w (length xs * w) (wide x) next (cut-next n xs (le-of-suc-le-suc h)))
+      (omega (arith, suc-mul (length xs) w))
+    where
+      next : (o : Option A) → rows w f (suc n) (more (x ∷ xs) o) ≡ f x ++ (rows w f n (more xs o) ++ [])
+      next none = rw append-nil
+      next (some y) = rw append-nil
+
+  -- behind the rows in use
+  rows-rest : (n : ℕ) (xs : List A) → length xs ≤ n → rows w f n xs ≡ rows w f (length xs) xs ++ replicate ((n - length xs) * w) 0
+  unfolding rows
+  rows-rest n [] h = rw sub-zero (rows-none w f n)
+  rows-rest zero (x ∷ xs) h = absurd (not-suc-le-zero h)
+  rows-rest (suc n) (x ∷ xs) h =
+      let e : suc n - suc (length xs) ≡ n - length xs = omega arith in
+      rw (e, rows-rest n xs (le-of-suc-le-suc h), append-assoc)
+
+  pub rest-zero : (n : ℕ) (xs : List A) → length xs ≤ n → (pre post : List ℕ) (b : ℕ) → length pre ≡ b → zeroFrom (b + length xs * w) (b + n * w) (pre ++ (rows w f n xs ++ post)) ≡ true
+  rest-zero n xs h pre post b e =
+      let gap : b + n * w - (b + length xs * w) ≡ (n - length xs) * w =
+      omega (arith, add-mul (length xs) (n - length xs) w, ap (λ (k : ℕ). k * w) (add-sub-of-le h)) in
+      rw
+      (gap, cut-part rest tt ((n - length xs) * w) (length-replicate {A = ℕ} ((n - length xs) * w) 0))
+      (allZero-replicate ((n - length xs) * w))
+    where
+      here : Cut (λ (u : Unit {0}). rows w f n xs) (λ u. replicate ((n - length xs) * w) 0) (length xs * w)
+      here = cut-here (rows w f (length xs) xs) [] (length xs * w) (length-rows (length xs) xs) (λ u. rw append-nil (rows-rest n xs h))
+
+      rest : Cut (λ (u : Unit {0}). pre ++ (rows w f n xs ++ post)) (λ u. replicate ((n - length xs) * w) 0) (b + length xs * w)
+      rest = cut-within pre post b (length xs * w) e (λ u. refl) here
+
+-- ---- sizes, and how many words stand before each body
+
+pub one-sized : Sized one
+one-sized = record { task = λ t. refl; store = length-padded 8 }
+
+abbrev toHubs : Layout → State → List ℕ
+toHubs L s = contents L s ++ rows (L .taskSize) (L .taskWords) 16 (s .tasks)
+
+abbrev toReady : Layout → State → List ℕ
+toReady L s = toHubs L s ++ rows 4 hubWords 16 (s .hubs)
+
+abbrev toWaits : Layout → State → List ℕ
+toWaits L s = toReady L s ++ entries 16 (s .ready)
+
+abbrev toStores : Layout → State → List ℕ
+toStores L s = toWaits L s ++ rows 16 waitWords 16 (s .hubs)
+
+length-waitWords : (h : Hub) → length (waitWords h) ≡ 16
+length-waitWords h = length-entries 16 (h .waiters)
+
+length-contents : (L : Layout) (s : State) → length (contents L s) ≡ tasksAt
+unfolding contents
+length-contents L s = refl
+
+module _ (L : Layout) (z : Sized L) (s : State) where
+  length-toHubs : length (toHubs L s) ≡ hubsAt L
+  unfolding contents
+  length-toHubs = rw length-append (ap (λ (n : ℕ). 8 + n) (length-rows (L .taskSize) (L .taskWords) (z .task) 16 (s .tasks)))
+
+  length-toReady : length (toReady L s) ≡ readyAt L
+  length-toReady = rw (length-append (toHubs L s), length-toHubs, length-rows 4 hubWords (λ h. refl) 16 (s .hubs))
+
+  length-toWaits : length (toWaits L s) ≡ waitsAt L
+  length-toWaits = rw (length-append (toReady L s), length-toReady, length-entries 16 (s .ready))
+
+  length-toStores : length (toStores L s) ≡ storesAt L
+  length-toStores = rw (length-append (toWaits L s), length-toWaits, length-rows 16 waitWords length-waitWords 16 (s .hubs))
+
+  pub length-words : length (words L s) ≡ size L
+  unfolding words
+  length-words =
+      let e : words L s ≡ toStores L s ++ rows (L .storeSize) (storeOf L) 16 (s .hubs) = simp append-assoc in
+      ap length e
+      ∙ length-append (toStores L s) (rows (L .storeSize) (storeOf L) 16 (s .hubs))
+      ∙ rw (length-toStores, length-rows (L .storeSize) (storeOf L) (λ h. z .store (h .held)) 16 (s .hubs))
+
+-- ---- the contents: two words that count the records, and no other change
+
+module _ (L : Layout) (s : State) where
+  contents-task : (i : ℕ) (y : Task) → contents L (setTask i y s) ≡ contents L s
+  unfolding contents setTask
+  contents-task i y = rw (length-set (s .tasks) i y)
+
+  contents-hub : (h : ℕ) (x b : Hub) → contents L (setHub h x s) ≡ contents L (setHub h b s)
+  unfolding contents setHub
+  contents-hub h x b = rw (length-set (s .hubs) h x, length-set (s .hubs) h b)
+
+  pub tasks-word : getD (words L s) 1 0 ≡ length (s .tasks)
+  unfolding contents words
+  tasks-word = refl
+
+  pub hubs-word : getD (words L s) 2 0 ≡ length (s .hubs)
+  unfolding contents words
+  hubs-word = refl
+
+-- ---- the same record anew
+
+pub same-task : (s : State) (i : ℕ) → setTask i (task s i) s ≡ s
+unfolding setTask
+same-task s i =
+    ap (λ (ts : List Task). record { tasks = ts; hubs = s .hubs; ready = s .ready }) (set-getD (s .tasks) i (inactive 0))
+
+pub same-hub : (s : State) (h : ℕ) → setHub h (hub s h) s ≡ s
+unfolding setHub
+same-hub s h = ap (λ (hs : List Hub). record { tasks = s .tasks; hubs = hs; ready = s .ready }) (set-getD (s .hubs) h noHub)
+
+-- ---- a task record, and the ready list
+
+module _ (L : Layout) (z : Sized L) (s : State) where
+  pub cut-task : (i : ℕ) → i < 16 → i < length (s .tasks) → Cut (λ (y : Task). words L (setTask i y s)) (L .taskWords) (tasksAt + i * L .taskSize)
+  unfolding setTask words
+  cut-task i h hi =
+      cut-within
+      (contents L s)
+      (rows 4 hubWords 16 (s .hubs) ++ (entries 16 (s .ready) ++ (rows 16 waitWords 16 (s .hubs) ++ rows (L .storeSize) (storeOf L) 16 (s .hubs))))
+      tasksAt
+      (i * L .taskSize)
+      (length-contents L s)
+      (λ y. rw (contents-task L s i y))
+      (cut-row (L .taskSize) (L .taskWords) (z .task) 16 (s .tasks) i h hi)
+
+  pub cut-ready : Cut (λ (l : List ℕ). words L (setReady l s)) (entries 16) (readyAt L)
+  unfolding contents setReady words
+  cut-ready =
+      cut-here
+      (toReady L s)
+      (rows 16 waitWords 16 (s .hubs) ++ rows (L .storeSize) (storeOf L) 16 (s .hubs))
+      (readyAt L)
+      (length-toReady L z s)
+      (λ l. simp append-assoc)
+
+  pub task-word : (i k : ℕ) → i < 16 → i < length (s .tasks) → k < L .taskSize → getD (words L s) (tasksAt + i * L .taskSize + k) 0 ≡ getD (L .taskWords (task s i)) k 0
+  task-word i k h hi hk =
+      ap (λ (x : State). getD (words L x) (tasksAt + i * L .taskSize + k) 0) (sym (same-task s i))
+      ∙ cut-get (cut-task i h hi) (task s i) k (rw (z .task (task s i)) hk)
+
+  pub ready-word : (k : ℕ) → k < 16 → getD (words L s) (readyAt L + k) 0 ≡ getD (entries 16 (s .ready)) k 0
+  unfolding setReady
+  ready-word k h = cut-get cut-ready (s .ready) k (rw (length-entries 16 (s .ready)) h)
+
+  pub ready-part : part (readyAt L) 16 (words L s) ≡ entries 16 (s .ready)
+  unfolding setReady
+  ready-part = cut-part cut-ready (s .ready) 16 (length-entries 16 (s .ready))
+
+  -- the record written whole; the list lent, and given back with another value
+  pub put-task : (i : ℕ) (y : Task) → i < 16 → i < length (s .tasks) → sets (words L s) (tasksAt + i * L .taskSize) (L .taskWords y) ≡ words L (setTask i y s)
+  put-task i y h hi =
+      ap (λ (x : State). sets (words L x) (tasksAt + i * L .taskSize) (L .taskWords y)) (sym (same-task s i))
+      ∙ cut-sets (cut-task i h hi) (task s i) y (z .task (task s i) ∙ sym (z .task y))
+
+  pub put-ready : (l : List ℕ) → putMid (readyAt L) 16 (words L s) (entries 16 l) ≡ words L (setReady l s)
+  unfolding setReady
+  put-ready l = cut-paste cut-ready (s .ready) l 16 (length-entries 16 (s .ready))
+
+-- ---- a hub's record, list and store, the other two kept: b's
+
+-- the four words of y's record, the list and the store of b
+abbrev pub recorded : Hub → Hub → Hub
+recorded y b = record {
+  kind = y .kind;
+  count = y .count;
+  limit = y .limit;
+  start = y .start;
+  waiters = b .waiters;
+  held = b .held;
+}
+
+module _ (L : Layout) (z : Sized L) (s : State) (h : ℕ) (lt : h < 16) (used : h < length (s .hubs)) where
+  pub cut-hub-record : (b : Hub) → Cut (λ (y : Hub). words L (setHub h (recorded y b) s)) hubWords (hubsAt L + h * 4)
+  unfolding setHub words
+  cut-hub-record b =
+      cut-within
+      (toHubs L (setHub h b s))
+      (entries 16 (s .ready) ++ (rows 16 waitWords 16 (set (s .hubs) h b) ++ rows (L .storeSize) (storeOf L) 16 (set (s .hubs) h b)))
+      (hubsAt L)
+      (h * 4)
+      (length-toHubs L z (setHub h b s))
+      (λ y. rw (
+        contents-hub L s h (recorded y b) b,
+        rows-same 16 waitWords 16 (s .hubs) h (recorded y b) b refl,
+        rows-same (L .storeSize) (storeOf L) 16 (s .hubs) h (recorded y b) b refl,
+      )
+      (simp append-assoc))
+      (cut-along (λ (y : Hub). recorded y b) (cut-row 4 hubWords (λ x. refl) 16 (s .hubs) h lt used))
+
+  pub cut-waiters : (b : Hub) → Cut (λ (l : List ℕ). words L (setHub h (queued l b) s)) (entries 16) (waitsAt L + h * 16)
+  unfolding queued setHub words
+  cut-waiters b =
+      cut-within
+      (toWaits L (setHub h b s))
+      (rows (L .storeSize) (storeOf L) 16 (set (s .hubs) h b))
+      (waitsAt L)
+      (h * 16)
+      (length-toWaits L z (setHub h b s))
+      (λ l. rw (
+        contents-hub L s h (queued l b) b,
+        rows-same 4 hubWords 16 (s .hubs) h (queued l b) b refl,
+        rows-same (L .storeSize) (storeOf L) 16 (s .hubs) h (queued l b) b refl,
+      )
+      (simp append-assoc))
+      (cut-along (λ (l : List ℕ). queued l b) (cut-row 16 waitWords length-waitWords 16 (s .hubs) h lt used))
+
+  pub cut-store : (n : ℕ) (b : Hub) → Cut (λ (ws : List ℕ). words L (setHub h (holding n ws b) s)) (L .storeWords) (storesAt L + h * L .storeSize)
+  unfolding holding setHub words
+  cut-store n b =
+      cut-within
+      (toStores L (setHub h (holding n [] b) s))
+      []
+      (storesAt L)
+      (h * L .storeSize)
+      (length-toStores L z (setHub h (holding n [] b) s))
+      (λ ws. rw (
+        contents-hub L s h (holding n ws b) (holding n [] b),
+        rows-same 4 hubWords 16 (s .hubs) h (holding n ws b) (holding n [] b) refl,
+        rows-same 16 waitWords 16 (s .hubs) h (holding n ws b) (holding n [] b) refl,
+      )
+      (simp (append-assoc, append-nil)))
+      (cut-along (λ (ws : List ℕ). holding n ws b) (cut-row (L .storeSize) (storeOf L) (λ x. z .store (x .held)) 16 (s .hubs) h lt used))
+
+  -- the count alone is written
+  pub set-count : (m n : ℕ) (ws : List ℕ) (b : Hub) → set (words L (setHub h (holding m ws b) s)) (hubsAt L + h * 4 + 1) n ≡ words L (setHub h (holding n ws b) s)
+  unfolding holding
+  set-count m n ws b = cut-set (cut-hub-record (holding m ws b)) (holding m ws b) (holding n ws b) 1 n (omega arith) refl
+
+  pub put-waiters : (l : List ℕ) → putMid (waitsAt L + h * 16) 16 (words L s) (entries 16 l) ≡ words L (setHub h (queued l (hub s h)) s)
+  unfolding queued
+  put-waiters l =
+      ap (λ (x : State). putMid (waitsAt L + h * 16) 16 (words L x) (entries 16 l)) (sym (same-hub s h))
+      ∙ cut-paste (cut-waiters (hub s h)) (hub s h .waiters) l 16 (length-waitWords (hub s h))
+
+  pub put-store : (ws : List ℕ) → putMid (storesAt L + h * L .storeSize) (L .storeSize) (words L s) (L .storeWords ws) ≡ words L (setHub h (holding (hub s h .count) ws (hub s h)) s)
+  unfolding holding
+  put-store ws =
+      ap (λ (x : State). putMid (storesAt L + h * L .storeSize) (L .storeSize) (words L x) (L .storeWords ws)) (sym (same-hub s h))
+      ∙ cut-paste (cut-store (hub s h .count) (hub s h)) (hub s h .held) ws (L .storeSize) (z .store (hub s h .held))
+
+  pub set-count-here : (n : ℕ) → set (words L s) (hubsAt L + h * 4 + 1) n ≡ words L (setHub h (holding n (hub s h .held) (hub s h)) s)
+  unfolding holding
+  set-count-here n =
+      ap (λ (x : State). set (words L x) (hubsAt L + h * 4 + 1) n) (sym (same-hub s h))
+      ∙ set-count (hub s h .count) n (hub s h .held) (hub s h)
+
+  pub hub-word : (k : ℕ) → k < 4 → getD (words L s) (hubsAt L + h * 4 + k) 0 ≡ getD (hubWords (hub s h)) k 0
+  hub-word k hk =
+      ap (λ (x : State). getD (words L x) (hubsAt L + h * 4 + k) 0) (sym (same-hub s h))
+      ∙ cut-get (cut-hub-record (hub s h)) (hub s h) k hk
+
+  pub wait-word : (k : ℕ) → k < 16 → getD (words L s) (waitsAt L + h * 16 + k) 0 ≡ getD (waitWords (hub s h)) k 0
+  unfolding queued
+  wait-word k hk =
+      ap (λ (x : State). getD (words L x) (waitsAt L + h * 16 + k) 0) (sym (same-hub s h))
+      ∙ cut-get (cut-waiters (hub s h)) (hub s h .waiters) k (rw (length-waitWords (hub s h)) hk)
+
+  pub store-word : (k : ℕ) → k < L .storeSize → getD (words L s) (storesAt L + h * L .storeSize + k) 0 ≡ getD (storeOf L (hub s h)) k 0
+  unfolding holding
+  store-word k hk =
+      ap (λ (x : State). getD (words L x) (storesAt L + h * L .storeSize + k) 0) (sym (same-hub s h))
+      ∙ cut-get (cut-store (hub s h .count) (hub s h)) (hub s h .held) k (rw (z .store (hub s h .held)) hk)
+
+  pub wait-part : waitPart L (words L s) h ≡ waitWords (hub s h)
+  unfolding queued
+  wait-part =
+      ap (λ (x : State). waitPart L (words L x) h) (sym (same-hub s h))
+      ∙ cut-part (cut-waiters (hub s h)) (hub s h .waiters) 16 (length-waitWords (hub s h))
+
+  pub store-part : storePart L (words L s) h ≡ storeOf L (hub s h)
+  unfolding holding
+  store-part =
+      ap (λ (x : State). storePart L (words L x) h) (sym (same-hub s h))
+      ∙ cut-part (cut-store (hub s h .count) (hub s h)) (hub s h .held) (L .storeSize) (z .store (hub s h .held))
+
+-- ---- behind the records in use
+
+module _ (L : Layout) (z : Sized L) (s : State) (tasks : length (s .tasks) ≤ 16) (hubs : length (s .hubs) ≤ 16) where
+  pub unused-zero : unusedZero L (words L s) ≡ true
+  unfolding unusedZero words
+  unused-zero =
+      let stores = rows (L .storeSize) (storeOf L) 16 (s .hubs) in
+      let lists = rows 16 waitWords 16 (s .hubs) ++ stores in
+      let afterTasks = rows 4 hubWords 16 (s .hubs) ++ (entries 16 (s .ready) ++ lists) in
+      let atHubs : words L s ≡ toHubs L s ++ (rows 4 hubWords 16 (s .hubs) ++ (entries 16 (s .ready) ++ lists)) = simp append-assoc in
+      let atWaits : words L s ≡ toWaits L s ++ lists = simp append-assoc in
+      let atStores : words L s ≡ toStores L s ++ (stores ++ []) = simp (append-assoc, append-nil) in
+      rw (
+        tasks-word L s,
+        hubs-word L s,
+        rest-zero (L .taskSize) (L .taskWords) (z .task) 16 (s .tasks) tasks (contents L s) afterTasks tasksAt (length-contents L s),
+        ap (zeroFrom (hubsAt L + length (s .hubs) * 4) (readyAt L)) atHubs
+            ∙ rest-zero 4 hubWords (λ h. refl) 16 (s .hubs) hubs (toHubs L s) (entries 16 (s .ready) ++ lists) (hubsAt L) (length-toHubs L z s),
+        ap (zeroFrom (waitsAt L + length (s .hubs) * 16) (storesAt L)) atWaits
+            ∙ rest-zero 16 waitWords length-waitWords 16 (s .hubs) hubs (toWaits L s) stores (waitsAt L) (length-toWaits L z s),
+        ap (zeroFrom (storesAt L + length (s .hubs) * L .storeSize) (size L)) atStores
+            ∙ rest-zero (L .storeSize) (storeOf L) (λ h. z .store (h .held)) 16 (s .hubs) hubs (toStores L s) [] (storesAt L) (length-toStores L z s),
+      )
+
+-- ---- one more record
+
+module _ (L : Layout) (z : Sized L) (s : State) where
+  pub add-task : (p : ℕ) → length (s .tasks) < 16 → set (sets (words L s) (tasksAt + length (s .tasks) * L .taskSize) (L .taskWords (inactive p))) 1 (suc (length (s .tasks))) ≡ words L (addTask p s)
+  unfolding addTask contents words
+  add-task p h =
+      ap (λ (l : List ℕ). set l 1 (suc (length (s .tasks)))) (cut-sets next none (some (inactive p)) (length-replicate {A = ℕ} (L .taskSize) 0 ∙ sym (z .task (inactive p))))
+      ∙ rw (length-append (s .tasks) (inactive p ∷ []), add-one)
+    where
+      rest : List ℕ
+      rest = rows 4 hubWords 16 (s .hubs) ++ (entries 16 (s .ready) ++ (rows 16 waitWords 16 (s .hubs) ++ rows (L .storeSize) (storeOf L) 16 (s .hubs)))
+
+      next : Cut (λ (o : Option Task). contents L s ++ (rows (L .taskSize) (L .taskWords) 16 (more (s .tasks) o) ++ rest)) (rowOf (L .taskSize) (L .taskWords)) (tasksAt + length (s .tasks) * L .taskSize)
+      next =
+          cut-within (contents L s) rest tasksAt (length (s .tasks) * L .taskSize) refl (λ o. refl) (cut-next (L .taskSize) (L .taskWords) (z .task) 16 (s .tasks) h)
+
+  -- a hub that has no waiter and holds nothing: its list and its store are zeros already
+  pub add-hub : L .storeWords [] ≡ replicate (L .storeSize) 0 → (y : Hub) → y .waiters ≡ [] → y .held ≡ [] → length (s .hubs) < 16 → set (sets (words L s) (hubsAt L + length (s .hubs) * 4) (hubWords y)) 2 (suc (length (s .hubs))) ≡ words L (addHub y s)
+  unfolding addHub contents entries words
+  add-hub empty y noWaiter noWord h =
+      ap (λ (l : List ℕ). set l 2 (suc (length (s .hubs)))) (cut-sets next none (some y) refl)
+      ∙ rw (
+        length-append (s .hubs) (y ∷ []),
+        add-one,
+        rows-empty 16 waitWords 16 (s .hubs) y zeros,
+        rows-empty (L .storeSize) (storeOf L) 16 (s .hubs) y (ap (L .storeWords) noWord ∙ empty),
+      )
+    where
+      zeros : waitWords y ≡ replicate 16 0
+      zeros = rw noWaiter
+
+      rest : List ℕ
+      rest = entries 16 (s .ready) ++ (rows 16 waitWords 16 (s .hubs) ++ rows (L .storeSize) (storeOf L) 16 (s .hubs))
+
+      next : Cut (λ (o : Option Hub). contents L s ++ (rows (L .taskSize) (L .taskWords) 16 (s .tasks) ++ (rows 4 hubWords 16 (more (s .hubs) o) ++ rest))) (rowOf 4 hubWords) (hubsAt L + length (s .hubs) * 4)
+      next =
+          cut-within (toHubs L s) rest (hubsAt L) (length (s .hubs) * 4) (length-toHubs L z s) (λ o. sym (append-assoc (contents L s) (rows (L .taskSize) (L .taskWords) 16 (s .tasks)) (rows 4 hubWords 16 (more (s .hubs) o) ++ rest))) (cut-next 4 hubWords (λ x. refl) 16 (s .hubs) h)

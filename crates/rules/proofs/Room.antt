@@ -1,0 +1,89 @@
+-- A valid state has room in a table: a list in which each number stands at most once, and only numbers below T, has at most
+-- T entries; and a store holds at most 8 words.
+use Prim.Native.Nat.{_+_, _<_, _≤_, suc, zero, ℕ}
+use Rattle.lists.proofs.Laws.{boolCase, occ-without}
+use Rattle.lists.specs.Lists.{bit, occ, without}
+use Rattle.rules.proofs.Changes.{inUse}
+use Rattle.rules.proofs.Standing.{listed-ready, listed-waits, occ-here}
+use Rattle.rules.proofs.Valid.{Held, Listed, Range, Room, Valid}
+use Rattle.rules.specs.Table.{Event, Fifo, Hub, Kind, NoKind, Port, Resource, Semaphore, State, hub, kindOf, noHub}
+use Rattle.rules.specs.WellFormed.{isReady, waitsFor}
+use borrow.Author.Tests.{eqb-false, ltb-false, ltb-true}
+use lib.Dec.{eqb, ltb}
+use lib.ListN.{List·getD-eq-default, length}
+use mathlib.Core.Bool.{Bool, false, true}
+use mathlib.Core.List.{List, [], _∷_}
+use mathlib.Core.Path.{_≡_, refl}
+use native.Mathlib.Omega.{arith}
+
+-- ---- any list
+
+bit-le : (b : Bool) → bit b ≤ 1
+bit-le true = omega arith
+bit-le false = omega arith
+
+-- all of a number's occurrences taken out are as many as they were
+length-without : (t : ℕ) (l : List ℕ) → length l ≡ occ t l + length (without t l)
+unfolding occ without
+length-without t [] = refl
+length-without t (x ∷ xs) = boolCase (eqb x t) (λ b. rw b (omega (arith, length-without t xs))) (λ b. rw b (omega (arith, length-without t xs)))
+
+pub length-below : (T : ℕ) (l : List ℕ) → ((i : ℕ) → occ i l ≤ 1) → ((i : ℕ) → 1 ≤ occ i l → i < T) → length l ≤ T
+length-below zero [] once below = omega arith
+length-below zero (x ∷ xs) once below = absurd (omega (arith, below x (occ-here x xs)))
+length-below (suc T) l once below =
+    omega (arith, once T, length-without T l, length-below T (without T l) less under)
+  where
+    kept : (i : ℕ) → occ i (without T l) ≤ occ i l
+    kept i = boolCase (eqb T i) (λ b. omega (arith, rw b at (occ-without T i l))) (λ b. omega (arith, rw b at (occ-without T i l)))
+
+    less : (i : ℕ) → occ i (without T l) ≤ 1
+    less i = omega (arith, kept i, once i)
+
+    under : (i : ℕ) → 1 ≤ occ i (without T l) → i < T
+    under i h =
+        boolCase (eqb T i)
+        (λ b. absurd (omega (arith, rw b at (occ-without T i l))))
+        (λ b. let n : T ≡ i → ⊥ = eqb-false T i b in omega (arith, kept i, below i (omega (arith, kept i))))
+
+-- ---- lists that hold exactly the tasks that their records say have room for them all
+
+module _ (s : State) (l : Listed s) where
+  pub ready-once : (i : ℕ) → occ i (s .ready) ≤ 1
+  ready-once i = rw (l .ready i) (bit-le (isReady s i))
+
+  pub waits-once : (h i : ℕ) → occ i (hub s h .waiters) ≤ 1
+  waits-once h i = rw (l .waiters h i) (bit-le (waitsFor s h i))
+
+  pub ready-room : length (s .ready) ≤ length (s .tasks)
+  ready-room = length-below (length (s .tasks)) (s .ready) ready-once (λ i h. inUse s i 0 (listed-ready s l i h))
+
+  pub waiters-room : (h : ℕ) → length (hub s h .waiters) ≤ length (s .tasks)
+  waiters-room h = length-below (length (s .tasks)) (hub s h .waiters) (waits-once h) (λ i k. inUse s i 1 (listed-waits s l h i k .0))
+
+-- ---- the parts of a valid state
+
+store-le : (k : Kind) (T : ℕ) (h : Hub) → Range k T h → Held k h → length (h .held) ≤ 8
+unfolding Held Range
+store-le NoKind T h r e = absurd r
+store-le Event T h r e = rw e (omega arith)
+store-le Semaphore T h r e = rw e (omega arith)
+store-le Port T h r e = rw e (omega arith)
+store-le Fifo T h r e = omega (arith, e, r .0, r .2)
+store-le Resource T h r e = rw e (omega arith)
+
+pub valid-room : (s : State) → Valid s → Room s
+valid-room s g = record {
+  tasks = g .tasks;
+  hubs = g .hubs;
+  ready = omega (arith, g .tasks, ready-room s (g .listed));
+  waiters = λ h. omega (arith, g .tasks, waiters-room s (g .listed) h);
+  held = g .ranges .held;
+  stores = stores;
+}
+  where
+    stores : (h : ℕ) → length (hub s h .held) ≤ 8
+    stores h =
+        boolCase (ltb h (length (s .hubs)))
+        (λ b. let n = ltb-true h _ b in store-le (kindOf (hub s h .kind)) _ (hub s h) (g .ranges .range h n) (g .ranges .held h n))
+        (λ b. rw (List·getD-eq-default (s .hubs) noHub (ltb-false h _ b)) (unfold noHub in omega arith))

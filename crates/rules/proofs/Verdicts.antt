@@ -1,0 +1,383 @@
+-- The hub table's laws, a clause for each row. In order: a verdict meets at most one waiter, the first of the other side
+-- (`few`, a view); the hub after a verdict is in its kind's range and holds what it should; who is not met may go on
+-- waiting; who is told "not now" may wait, and nobody waits on the other side. Each by kind, and then by side.
+-- Not here: what a verdict does to the table (Settled.antt).
+use Prim.Native.Nat.{_<_, _≤_, pred, suc, zero, ℕ}
+use Rattle.rules.proofs.Cases.{condCase}
+use Rattle.rules.proofs.Valid.{GetWaits, Held, MayWait, PutWaits, Range}
+use Rattle.rules.specs.HubTable.{Meeting, Verdict, alone, fail, getEvent, getFifo, getPort, getResource, getSemaphore, met, notNow, onGet, onPut, onSide, pair, pass, putEvent, putFifo, putPort, putResource, putSemaphore, verdict}
+use Rattle.rules.specs.Lists.{firstWaiting, holding}
+use Rattle.rules.specs.Table.{Event, Fifo, Get, Hub, Kind, NoKind, NoSide, Port, Put, Resource, Semaphore, Side, State, hub, kindOf, sideOf, task}
+use Rattle.rules.specs.declared.Call.{Call}
+use borrow.Author.Tests.{eqb-false, eqb-true, ltb-false, ltb-true}
+use lib.Dec.{eqb, ltb}
+use lib.ListN.{length, length-append}
+use mathlib.Core.Bool.{false≢true}
+use mathlib.Core.List.{List, [], _++_, _∷_}
+use mathlib.Core.Logic.{_≢_}
+use mathlib.Core.Option.{Option, none, some}
+use mathlib.Core.Path.{_∙_, _≡_, ap, refl}
+use native.Mathlib.Omega.{arith}
+
+-- ---- the waiters met
+
+unfoldable pub waitersMet : Verdict → List Meeting
+waitersMet (met n ws x ms) = ms
+waitersMet notNow = []
+waitersMet fail = []
+
+-- P of each of them
+unfoldable pub Each : (Meeting → Type 0) → List Meeting → Type 0
+Each P [] = Unit {0}
+Each P (m ∷ ms) = P m × Each P ms
+
+pub each-map : (P Q : Meeting → Type 0) → ((m : Meeting) → P m → Q m) → (ms : List Meeting) → Each P ms → Each Q ms
+unfolding Each
+each-map P Q f [] a = tt
+each-map P Q f (m ∷ ms) a = (f m (a .0), each-map P Q f ms (a .1))
+
+-- j is none of them
+abbrev pub Apart : List Meeting → ℕ → Type 0
+Apart ms j = Each (λ m. j ≢ m .waiter) ms
+
+-- where f is the first waiter of the other side: met by the hub alone, or with f, or not now, or fail
+pub data Few (f : Option ℕ) : Verdict → Type 0 where
+  meets-none : (n : ℕ) (ws : List ℕ) (x : ℕ) → Few f (alone n ws x)
+  meets-first : (n : ℕ) (ws : List ℕ) (x w y : ℕ) → f ≡ some w → Few f (pair n ws x w y)
+  meets-later : Few f notNow
+  meets-never : Few f fail
+
+few-put : (k : Kind) (f : Option ℕ) (h : Hub) (i x : ℕ) → Few f (onPut k f h i x)
+unfolding onPut pass putEvent putFifo putPort putResource putSemaphore
+few-put NoKind f h i x = meets-never
+few-put Event (some w) h i x = meets-first _ _ _ w _ refl
+few-put Event none h i x = condCase (Few none) (eqb (h .count) 0) _ _ (λ _. meets-none _ _ _) (λ _. meets-later)
+few-put Semaphore (some w) h i x = meets-first _ _ _ w _ refl
+few-put Semaphore none h i x = condCase (Few none) (ltb (h .count) (h .limit)) _ _ (λ _. meets-none _ _ _) (λ _. meets-later)
+few-put Port (some w) h i x = meets-first _ _ _ w _ refl
+few-put Port none h i x = meets-later
+few-put Fifo (some w) h i x = meets-first _ _ _ w _ refl
+few-put Fifo none h i x = condCase (Few none) (ltb (h .count) (h .limit)) _ _ (λ _. meets-none _ _ _) (λ _. meets-later)
+few-put Resource (some w) h i x =
+    condCase (Few (some w)) (eqb (h .count) (suc i)) (pass (some w) h) fail (λ _. meets-first _ _ _ w _ refl) (λ _. meets-never)
+few-put Resource none h i x = condCase (Few none) (eqb (h .count) (suc i)) (pass none h) fail (λ _. meets-none _ _ _) (λ _. meets-never)
+
+few-get : (k : Kind) (s : State) (f : Option ℕ) (h : Hub) (i : ℕ) → Few f (onGet k s f h i)
+unfolding getEvent getFifo getPort getResource getSemaphore onGet
+few-get NoKind s f h i = meets-never
+few-get Event s (some w) h i = condCase (Few (some w)) (eqb (h .count) 1) _ _ (λ _. meets-first _ _ _ w _ refl) (λ _. meets-later)
+few-get Event s none h i = condCase (Few none) (eqb (h .count) 1) _ _ (λ _. meets-none _ _ _) (λ _. meets-later)
+few-get Semaphore s (some w) h i = condCase (Few (some w)) (ltb 0 (h .count)) _ _ (λ _. meets-first _ _ _ w _ refl) (λ _. meets-later)
+few-get Semaphore s none h i = condCase (Few none) (ltb 0 (h .count)) _ _ (λ _. meets-none _ _ _) (λ _. meets-later)
+few-get Port s (some w) h i = meets-first _ _ _ w _ refl
+few-get Port s none h i = meets-later
+few-get Fifo s f h i = fifo (h .held) f
+  where
+    fifo : (l : List ℕ) (f : Option ℕ) → Few f (getFifo s l f h)
+    fifo [] f = meets-later
+    fifo (x ∷ xs) (some w) = meets-first _ _ _ w _ refl
+    fifo (x ∷ xs) none = meets-none _ _ _
+few-get Resource s f h i =
+    condCase (Few f) (eqb (h .count) 0) _ _
+    (λ _. meets-none _ _ _)
+    (λ _. condCase (Few f) (eqb (h .count) (suc i)) fail notNow (λ _. meets-never) (λ _. meets-later))
+
+-- the other side's number
+unfoldable pub across : Side → ℕ
+across NoSide = 0
+across Put = 2
+across Get = 1
+
+few-side : (d : Side) (s : State) (h : Hub) (c : Call) → Few (firstWaiting s (across d) (h .waiters)) (onSide d s h c)
+unfolding across onSide
+few-side NoSide s h c = meets-never
+few-side Put s h c = few-put (kindOf (h .kind)) _ h (c .caller) (c .word)
+few-side Get s h c = few-get (kindOf (h .kind)) s _ h (c .caller)
+
+pub few : (s : State) (c : Call) → Few (firstWaiting s (across (sideOf (c .side))) (hub s (c .target) .waiters)) (verdict s c)
+unfolding verdict
+few s c = few-side (sideOf (c .side)) s (hub s (c .target)) c
+
+-- ---- the hub after a verdict: its kind's range, with i the caller, and whoever f names in use
+
+unfoldable pub hubAfter : Hub → Verdict → Hub
+hubAfter h (met n ws x ms) = holding n ws h
+hubAfter h notNow = h
+hubAfter h fail = h
+
+pub after-kind : (h : Hub) (v : Verdict) → hubAfter h v .kind ≡ h .kind
+unfolding holding hubAfter
+after-kind h (met n ws x ms) = refl
+after-kind h notNow = refl
+after-kind h fail = refl
+
+abbrev RangeLaw : Kind → ℕ → Hub → Verdict → Type 0
+RangeLaw k T h v = Range k T (hubAfter h v)
+
+range-put : (k : Kind) (T : ℕ) (f : Option ℕ) (h : Hub) (i x : ℕ) → ((w : ℕ) → f ≡ some w → w < T) → Range k T h
+    → RangeLaw k T h (onPut k f h i x)
+unfolding Range holding hubAfter onPut pass putEvent putFifo putPort putResource putSemaphore
+range-put NoKind T f h i x b r = r
+range-put Event T (some w) h i x b r = r
+range-put Event T none h i x b r = condCase (RangeLaw Event T h) (eqb (h .count) 0) _ _ (λ q. (omega arith, r .1, r .2)) (λ q. r)
+range-put Semaphore T (some w) h i x b r = r
+range-put Semaphore T none h i x b r =
+    condCase (RangeLaw Semaphore T h) (ltb (h .count) (h .limit)) _ _ (λ q. (ltb-true _ _ q, r .1, r .2, r .3)) (λ q. r)
+range-put Port T (some w) h i x b r = r
+range-put Port T none h i x b r = r
+range-put Fifo T (some w) h i x b r = r
+range-put Fifo T none h i x b r =
+    condCase (RangeLaw Fifo T h) (ltb (h .count) (h .limit)) _ _ (λ q. (ltb-true _ _ q, r .1, r .2, r .3)) (λ q. r)
+range-put Resource T (some w) h i x b r =
+    condCase (RangeLaw Resource T h) (eqb (h .count) (suc i)) (pass (some w) h) fail (λ q. (b w refl, r .1, r .2)) (λ q. r)
+range-put Resource T none h i x b r =
+    condCase (RangeLaw Resource T h) (eqb (h .count) (suc i)) (pass none h) fail (λ q. (omega arith, r .1, r .2)) (λ q. r)
+
+range-get : (k : Kind) (T : ℕ) (s : State) (f : Option ℕ) (h : Hub) (i : ℕ) → i < T → Range k T h → RangeLaw k T h (onGet k s f h i)
+unfolding Range getEvent getFifo getPort getResource getSemaphore holding hubAfter onGet
+range-get NoKind T s f h i a r = r
+range-get Event T s (some w) h i a r = condCase (RangeLaw Event T h) (eqb (h .count) 1) _ _ (λ q. r) (λ q. r)
+range-get Event T s none h i a r = condCase (RangeLaw Event T h) (eqb (h .count) 1) _ _ (λ q. (omega arith, r .1, r .2)) (λ q. r)
+range-get Semaphore T s (some w) h i a r = condCase (RangeLaw Semaphore T h) (ltb 0 (h .count)) _ _ (λ q. r) (λ q. r)
+range-get Semaphore T s none h i a r =
+    condCase (RangeLaw Semaphore T h) (ltb 0 (h .count)) _ _
+    (λ q. (let z : pred (h .count) ≤ h .limit = omega (arith, r .0) in z, r .1, r .2, r .3))
+    (λ q. r)
+range-get Port T s (some w) h i a r = r
+range-get Port T s none h i a r = r
+range-get Fifo T s f h i a r = fifo (h .held) f
+  where
+    fifo : (l : List ℕ) (f : Option ℕ) → RangeLaw Fifo T h (getFifo s l f h)
+    fifo [] f = r
+    fifo (y ∷ ys) (some w) = r
+    fifo (y ∷ ys) none = (let z : pred (h .count) ≤ h .limit = omega (arith, r .0) in z, r .1, r .2, r .3)
+range-get Resource T s f h i a r =
+    condCase (RangeLaw Resource T h) (eqb (h .count) 0) _ _
+    (λ q. (a, r .1, r .2))
+    (λ q. condCase (RangeLaw Resource T h) (eqb (h .count) (suc i)) fail notNow (λ _. r) (λ _. r))
+
+pub range-side : (d : Side) (T : ℕ) (s : State) (h : Hub) (c : Call) → c .caller < T → ((w : ℕ) → firstWaiting s 2 (h .waiters) ≡ some w → w < T)
+    → Range (kindOf (h .kind)) T h → RangeLaw (kindOf (h .kind)) T h (onSide d s h c)
+unfolding hubAfter onSide
+range-side NoSide T s h c a b r = r
+range-side Put T s h c a b r = range-put (kindOf (h .kind)) T _ h (c .caller) (c .word) b r
+range-side Get T s h c a b r = range-get (kindOf (h .kind)) T s _ h (c .caller) a r
+
+-- ---- the words held
+
+abbrev HeldLaw : Kind → Hub → Verdict → Type 0
+HeldLaw k h v = Held k (hubAfter h v)
+
+held-put : (k : Kind) (f : Option ℕ) (h : Hub) (i x : ℕ) → Held k h → HeldLaw k h (onPut k f h i x)
+unfolding Held holding hubAfter onPut pass putEvent putFifo putPort putResource putSemaphore
+held-put NoKind f h i x e = e
+held-put Event (some w) h i x e = e
+held-put Event none h i x e = condCase (HeldLaw Event h) (eqb (h .count) 0) _ _ (λ q. e) (λ q. e)
+held-put Semaphore (some w) h i x e = e
+held-put Semaphore none h i x e = condCase (HeldLaw Semaphore h) (ltb (h .count) (h .limit)) _ _ (λ q. e) (λ q. e)
+held-put Port (some w) h i x e = e
+held-put Port none h i x e = e
+held-put Fifo (some w) h i x e = e
+held-put Fifo none h i x e =
+    condCase (HeldLaw Fifo h) (ltb (h .count) (h .limit)) _ _
+    (λ q. let z : suc (h .count) ≡ length (h .held ++ x ∷ []) = omega (arith, length-append (h .held) (x ∷ [])) in z)
+    (λ q. e)
+held-put Resource (some w) h i x e = condCase (HeldLaw Resource h) (eqb (h .count) (suc i)) (pass (some w) h) fail (λ q. e) (λ q. e)
+held-put Resource none h i x e = condCase (HeldLaw Resource h) (eqb (h .count) (suc i)) (pass none h) fail (λ q. e) (λ q. e)
+
+held-get : (k : Kind) (s : State) (f : Option ℕ) (h : Hub) (i : ℕ) → Held k h → HeldLaw k h (onGet k s f h i)
+unfolding Held getEvent getFifo getPort getResource getSemaphore holding hubAfter onGet
+held-get NoKind s f h i e = e
+held-get Event s (some w) h i e = condCase (HeldLaw Event h) (eqb (h .count) 1) _ _ (λ q. e) (λ q. e)
+held-get Event s none h i e = condCase (HeldLaw Event h) (eqb (h .count) 1) _ _ (λ q. e) (λ q. e)
+held-get Semaphore s (some w) h i e = condCase (HeldLaw Semaphore h) (ltb 0 (h .count)) _ _ (λ q. e) (λ q. e)
+held-get Semaphore s none h i e = condCase (HeldLaw Semaphore h) (ltb 0 (h .count)) _ _ (λ q. e) (λ q. e)
+held-get Port s (some w) h i e = e
+held-get Port s none h i e = e
+held-get Fifo s f h i e = fifo (h .held) refl f
+  where
+    fifo : (l : List ℕ) → h .held ≡ l → (f : Option ℕ) → HeldLaw Fifo h (getFifo s l f h)
+    fifo [] q f = e
+    fifo (y ∷ ys) q (some w) =
+        let z : h .count ≡ length (ys ++ task s w .word ∷ []) = omega (arith, e ∙ ap length q, length-append ys (task s w .word ∷ [])) in z
+    fifo (y ∷ ys) q none = let z : pred (h .count) ≡ length ys = omega (arith, e ∙ ap length q) in z
+held-get Resource s f h i e =
+    condCase (HeldLaw Resource h) (eqb (h .count) 0) _ _
+    (λ q. e)
+    (λ q. condCase (HeldLaw Resource h) (eqb (h .count) (suc i)) fail notNow (λ _. e) (λ _. e))
+
+pub held-side : (d : Side) (s : State) (h : Hub) (c : Call) → Held (kindOf (h .kind)) h → HeldLaw (kindOf (h .kind)) h (onSide d s h c)
+unfolding hubAfter onSide
+held-side NoSide s h c e = e
+held-side Put s h c e = held-put (kindOf (h .kind)) _ h (c .caller) (c .word) e
+held-side Get s h c e = held-get (kindOf (h .kind)) s _ h (c .caller) e
+
+-- ---- a waiter j that the call does not meet may go on waiting
+
+abbrev WaitLaw : Kind → Side → Hub → ℕ → Verdict → Type 0
+WaitLaw k d h j v = MayWait d k (hubAfter h v) j
+
+-- a put: j a putter, or a getter where f is not none
+wait-put : (k : Kind) (d : Side) (T : ℕ) (f : Option ℕ) (h : Hub) (i x j : ℕ) → Range k T h → MayWait d k h j → (f ≡ none → d ≡ Get → ⊥)
+    → Apart (waitersMet (onPut k f h i x)) j → WaitLaw k d h j (onPut k f h i x)
+unfolding Each GetWaits MayWait PutWaits Range holding hubAfter onPut pass putEvent putFifo putPort putResource putSemaphore waitersMet
+wait-put NoKind d T f h i x j r m a n = absurd r
+wait-put Event d T (some w) h i x j r m a n = m
+wait-put Event NoSide T none h i x j r m a n = absurd m
+wait-put Event Put T none h i x j r m a n =
+    condCase (WaitLaw Event Put h j) (eqb (h .count) 0) _ _ (λ q. absurd (omega (arith, r .1, eqb-true (h .count) 0 q))) (λ q. m)
+wait-put Event Get T none h i x j r m a n = absurd (a refl refl)
+wait-put Semaphore d T (some w) h i x j r m a n = m
+wait-put Semaphore NoSide T none h i x j r m a n = absurd m
+wait-put Semaphore Put T none h i x j r m a n =
+    condCase (WaitLaw Semaphore Put h j) (ltb (h .count) (h .limit)) _ _ (λ q. absurd (omega (arith, ltb-true (h .count) (h .limit) q))) (λ q. m)
+wait-put Semaphore Get T none h i x j r m a n = absurd (a refl refl)
+wait-put Port d T (some w) h i x j r m a n = m
+wait-put Port d T none h i x j r m a n = m
+wait-put Fifo d T (some w) h i x j r m a n = m
+wait-put Fifo NoSide T none h i x j r m a n = absurd m
+wait-put Fifo Put T none h i x j r m a n =
+    condCase (WaitLaw Fifo Put h j) (ltb (h .count) (h .limit)) _ _ (λ q. absurd (omega (arith, ltb-true (h .count) (h .limit) q))) (λ q. m)
+wait-put Fifo Get T none h i x j r m a n = absurd (a refl refl)
+wait-put Resource NoSide T f h i x j r m a n = absurd m
+wait-put Resource Put T f h i x j r m a n = absurd m
+wait-put Resource Get T (some w) h i x j r m a n =
+    condCase (λ v. Apart (waitersMet v) j → WaitLaw Resource Get h j v) (eqb (h .count) (suc i)) (pass (some w) h) fail
+    (λ q p. (λ e. omega (arith, e), λ e. p .0 (omega (arith, e))))
+    (λ q p. m)
+    n
+wait-put Resource Get T none h i x j r m a n = absurd (a refl refl)
+
+-- a get: j a getter, or a putter where f is not none
+wait-get : (k : Kind) (d : Side) (s : State) (f : Option ℕ) (h : Hub) (i j : ℕ) → Held k h → MayWait d k h j → (f ≡ none → d ≡ Put → ⊥)
+    → WaitLaw k d h j (onGet k s f h i)
+unfolding GetWaits Held MayWait PutWaits getEvent getFifo getPort getResource getSemaphore holding hubAfter onGet
+wait-get NoKind d s f h i j e m a = m
+wait-get Event d s (some w) h i j e m a = condCase (WaitLaw Event d h j) (eqb (h .count) 1) _ _ (λ q. m) (λ q. m)
+wait-get Event NoSide s none h i j e m a = absurd m
+wait-get Event Put s none h i j e m a = absurd (a refl refl)
+wait-get Event Get s none h i j e m a = condCase (WaitLaw Event Get h j) (eqb (h .count) 1) _ _ (λ q. refl) (λ q. m)
+wait-get Semaphore d s (some w) h i j e m a = condCase (WaitLaw Semaphore d h j) (ltb 0 (h .count)) _ _ (λ q. m) (λ q. m)
+wait-get Semaphore NoSide s none h i j e m a = absurd m
+wait-get Semaphore Put s none h i j e m a = absurd (a refl refl)
+wait-get Semaphore Get s none h i j e m a =
+    condCase (WaitLaw Semaphore Get h j) (ltb 0 (h .count)) _ _ (λ q. absurd (omega (arith, ltb-true 0 (h .count) q))) (λ q. m)
+wait-get Port d s (some w) h i j e m a = m
+wait-get Port d s none h i j e m a = m
+wait-get Fifo NoSide s f h i j e m a = absurd m
+wait-get Fifo Put s f h i j e m a = fifo (h .held) f a
+  where
+    fifo : (l : List ℕ) (f : Option ℕ) → (f ≡ none → Put ≡ Put → ⊥) → WaitLaw Fifo Put h j (getFifo s l f h)
+    fifo [] f a = m
+    fifo (y ∷ ys) (some w) a = m
+    fifo (y ∷ ys) none a = absurd (a refl refl)
+wait-get Fifo Get s f h i j e m a = fifo (h .held) refl
+  where
+    fifo : (l : List ℕ) → h .held ≡ l → WaitLaw Fifo Get h j (getFifo s l f h)
+    fifo [] q = m
+    fifo (y ∷ ys) q = absurd (omega (arith, e ∙ ap length q))
+wait-get Resource NoSide s f h i j e m a = absurd m
+wait-get Resource Put s f h i j e m a = absurd m
+wait-get Resource Get s f h i j e m a =
+    condCase (WaitLaw Resource Get h j) (eqb (h .count) 0) _ _
+    (λ q. absurd (m .0 (eqb-true (h .count) 0 q)))
+    (λ q. condCase (WaitLaw Resource Get h j) (eqb (h .count) (suc i)) fail notNow (λ _. m) (λ _. m))
+
+side-put : (n : ℕ) → sideOf n ≡ Put → n ≡ 1
+unfolding sideOf
+side-put zero e = absurd (false≢true (cc))
+side-put (suc zero) e = refl
+side-put (suc (suc zero)) e = absurd (false≢true (cc))
+side-put (suc (suc (suc n))) e = absurd (false≢true (cc))
+
+side-get : (n : ℕ) → sideOf n ≡ Get → n ≡ 2
+unfolding sideOf
+side-get zero e = absurd (false≢true (cc))
+side-get (suc zero) e = absurd (false≢true (cc))
+side-get (suc (suc zero)) e = refl
+side-get (suc (suc (suc n))) e = absurd (false≢true (cc))
+
+-- n is the side that j waits on: where nobody waits on the other side, it is not that one
+pub wait-side : (d : Side) (n T : ℕ) (s : State) (h : Hub) (c : Call) (j : ℕ) → Range (kindOf (h .kind)) T h → Held (kindOf (h .kind)) h
+    → MayWait (sideOf n) (kindOf (h .kind)) h j → (firstWaiting s (across d) (h .waiters) ≡ none → n ≢ across d)
+    → Apart (waitersMet (onSide d s h c)) j → WaitLaw (kindOf (h .kind)) (sideOf n) h j (onSide d s h c)
+unfolding across hubAfter onSide
+wait-side NoSide n T s h c j r e m a p = m
+wait-side Put n T s h c j r e m a p =
+    wait-put (kindOf (h .kind)) (sideOf n) T _ h (c .caller) (c .word) j r m (λ f g. a f (side-get n g)) p
+wait-side Get n T s h c j r e m a p = wait-get (kindOf (h .kind)) (sideOf n) s _ h (c .caller) j e m (λ f g. a f (side-put n g))
+
+-- ---- "not now": the caller may wait, and nobody waits on the other side
+
+unfoldable pub JoinLaw : Kind → Side → Hub → ℕ → Option ℕ → Verdict → Type 0
+JoinLaw k d h i f (met n ws x ms) = Unit {0}
+JoinLaw k d h i f notNow = MayWait d k h i × (f ≡ none)
+JoinLaw k d h i f fail = Unit {0}
+
+join-put : (k : Kind) (T : ℕ) (f : Option ℕ) (h : Hub) (i x : ℕ) → Range k T h → JoinLaw k Put h i f (onPut k f h i x)
+unfolding JoinLaw MayWait PutWaits Range onPut pass putEvent putFifo putPort putResource putSemaphore
+join-put NoKind T f h i x r = absurd r
+join-put Event T (some w) h i x r = tt
+join-put Event T none h i x r =
+    condCase (JoinLaw Event Put h i none) (eqb (h .count) 0) _ _
+    (λ q. tt)
+    (λ q. (let n : h .count ≢ 0 = eqb-false (h .count) 0 q in omega (arith, r .0, r .1), refl))
+join-put Semaphore T (some w) h i x r = tt
+join-put Semaphore T none h i x r =
+    condCase (JoinLaw Semaphore Put h i none) (ltb (h .count) (h .limit)) _ _
+    (λ q. tt)
+    (λ q. (omega (arith, r .0, ltb-false (h .count) (h .limit) q), refl))
+join-put Port T (some w) h i x r = tt
+join-put Port T none h i x r = (tt, refl)
+join-put Fifo T (some w) h i x r = tt
+join-put Fifo T none h i x r =
+    condCase (JoinLaw Fifo Put h i none) (ltb (h .count) (h .limit)) _ _
+    (λ q. tt)
+    (λ q. (omega (arith, r .0, ltb-false (h .count) (h .limit) q), refl))
+join-put Resource T (some w) h i x r =
+    condCase (JoinLaw Resource Put h i (some w)) (eqb (h .count) (suc i)) (pass (some w) h) fail (λ q. tt) (λ q. tt)
+join-put Resource T none h i x r =
+    condCase (JoinLaw Resource Put h i none) (eqb (h .count) (suc i)) (pass none h) fail (λ q. tt) (λ q. tt)
+
+join-get : (k : Kind) (T : ℕ) (s : State) (f : Option ℕ) (h : Hub) (i : ℕ) → Range k T h → Held k h → ((w : ℕ) → f ≡ some w → MayWait Put k h w)
+    → JoinLaw k Get h i f (onGet k s f h i)
+unfolding GetWaits Held JoinLaw MayWait PutWaits Range getEvent getFifo getPort getResource getSemaphore onGet
+join-get NoKind T s f h i r e m = absurd r
+join-get Event T s (some w) h i r e m =
+    condCase (JoinLaw Event Get h i (some w)) (eqb (h .count) 1) _ _
+    (λ q. tt)
+    (λ q. absurd (eqb-false (h .count) 1 q (m w refl ∙ r .1)))
+join-get Event T s none h i r e m =
+    condCase (JoinLaw Event Get h i none) (eqb (h .count) 1) _ _
+    (λ q. tt)
+    (λ q. (let n : h .count ≢ 1 = eqb-false (h .count) 1 q in omega (arith, r .0), refl))
+join-get Semaphore T s (some w) h i r e m =
+    condCase (JoinLaw Semaphore Get h i (some w)) (ltb 0 (h .count)) _ _
+    (λ q. tt)
+    (λ q. absurd (omega (arith, r .1, m w refl, ltb-false 0 (h .count) q)))
+join-get Semaphore T s none h i r e m =
+    condCase (JoinLaw Semaphore Get h i none) (ltb 0 (h .count)) _ _ (λ q. tt) (λ q. (omega (arith, ltb-false 0 (h .count) q), refl))
+join-get Port T s (some w) h i r e m = tt
+join-get Port T s none h i r e m = (tt, refl)
+join-get Fifo T s f h i r e m = fifo (h .held) refl f m
+  where
+    fifo : (l : List ℕ) → h .held ≡ l → (f : Option ℕ) → ((w : ℕ) → f ≡ some w → MayWait Put Fifo h w) → JoinLaw Fifo Get h i f (getFifo s l f h)
+    fifo [] q (some w) m = absurd (omega (arith, r .1, m w refl, e ∙ ap length q))
+    fifo [] q none m = (e ∙ ap length q, refl)
+    fifo (y ∷ ys) q (some w) m = tt
+    fifo (y ∷ ys) q none m = tt
+join-get Resource T s (some w) h i r e m = absurd (m w refl)
+join-get Resource T s none h i r e m =
+    condCase (JoinLaw Resource Get h i none) (eqb (h .count) 0) _ _
+    (λ q. tt)
+    (λ q. condCase (JoinLaw Resource Get h i none) (eqb (h .count) (suc i)) fail notNow
+    (λ _. tt)
+    (λ p. ((eqb-false (h .count) 0 q, eqb-false (h .count) (suc i) p), refl)))
+
+pub join-side : (d : Side) (T : ℕ) (s : State) (h : Hub) (c : Call) → Range (kindOf (h .kind)) T h → Held (kindOf (h .kind)) h
+    → ((w : ℕ) → firstWaiting s 1 (h .waiters) ≡ some w → MayWait Put (kindOf (h .kind)) h w)
+    → JoinLaw (kindOf (h .kind)) d h (c .caller) (firstWaiting s (across d) (h .waiters)) (onSide d s h c)
+unfolding JoinLaw across onSide
+join-side NoSide T s h c r e m = tt
+join-side Put T s h c r e m = join-put (kindOf (h .kind)) T _ h (c .caller) (c .word) r
+join-side Get T s h c r e m = join-get (kindOf (h .kind)) T s _ h (c .caller) r e m

@@ -1,0 +1,141 @@
+-- "The calls": services 0 to 10, each as the paper has it, on the state that stands in the table.
+-- A call fixes a key for each task before it does anything: lists are joined by it. Not here: when a call is refused.
+use Prim.Native.Nat.{suc, zero, ℕ}
+use Rattle.rules.specs.HubTable.{Meeting, Verdict, fail, met, notNow, verdict}
+use Rattle.rules.specs.Lists.{answer, asleep, counted, flagged, holding, joinHub, joinReady, leave, readied, waits, wake}
+use Rattle.rules.specs.Table.{Hub, State, Task, hub, inactive, isSuspended, kindOf, setHub, setTask, task}
+use Rattle.rules.specs.WellFormed.{bearsWord, urgency, within}
+use Rattle.rules.specs.declared.Call.{Call}
+use lib.Dec.{eqb}
+use lib.ListN.{getD, length}
+use mathlib.Core.Bool.{Bool, _&&_, cond, false, not, true}
+use mathlib.Core.List.{List, [], _++_, _∷_}
+
+pub data Service : Type 0 where
+  Blank HubRequest Start Stop Suspend Resume Yield Sleep Tick AddTask AddHub Unknown : Service
+
+-- the services by their numbers, 0 to 10
+unfoldable pub serviceOf : ℕ → Service
+serviceOf n =
+    getD (Blank ∷ HubRequest ∷ Start ∷ Stop ∷ Suspend ∷ Resume ∷ Yield ∷ Sleep ∷ Tick ∷ AddTask ∷ AddHub ∷ []) n Unknown
+
+-- ---- 0 Blank: "contents 1, 0, 0, 8, 136, 200, 216, 472 and the other words 0"
+
+unfoldable pub blank : State
+blank = record { tasks = []; hubs = []; ready = [] }
+
+-- ---- 1 Hub request
+
+-- "The word of a put to a Port or FIFO is kept; any other word is stored as 0."
+unfoldable pub kept : Hub → Call → ℕ
+kept h c = cond (eqb (c .side) 1 && bearsWord (kindOf (h .kind))) (c .word) 0
+
+-- "the caller leaves the ready list, gets state 3, the hub, side and ticks, answer 0, and joins the hub's list"
+unfoldable pub wait : (ℕ → ℕ) → State → Call → State
+wait key s c =
+    joinHub key (c .target) (c .caller)
+    (setTask (c .caller) (waits (c .target) (c .ticks) (c .side) (kept (hub s (c .target)) c) (task s (c .caller)))
+    (leave (c .caller) s))
+
+unfoldable pub hold : ℕ → ℕ → List ℕ → State → State
+hold h n ws s = setHub h (holding n ws (hub s h)) s
+
+-- "A met waiter becomes ready with answer 1, hub, ticks and side 0, and word likewise; it joins the ready list behind its equals."
+unfoldable pub meetAll : (ℕ → ℕ) → List Meeting → State → State
+meetAll key [] s = s
+meetAll key (m ∷ ms) s = meetAll key ms (wake key (m .waiter) 1 (m .word) s)
+
+-- "A request that is met answers 1." "'Not now' under NW answers 2 and changes nothing but the caller's answer and word."
+-- "A met or failed caller keeps its ready place. Its word is the word received by a FIFO or Port get, else 0."
+unfoldable pub settle : (ℕ → ℕ) → Verdict → State → Call → State
+settle key (met n ws x ms) s c = meetAll key ms (answer (c .caller) 1 x (hold (c .target) n ws s))
+settle key notNow s c = cond (eqb (c .mode) 2) (answer (c .caller) 2 0 s) (wait key s c)
+settle key fail s c = answer (c .caller) 2 0 s
+
+-- ---- 2 to 5: "Each answers 1, or 2 where its condition doesn't hold." "In 2 to 7 the caller's word becomes 0."
+
+unfoldable pub grant : Bool → State → State → Call → State
+grant true s′ s c = answer (c .caller) 1 0 s′
+grant false s′ s c = answer (c .caller) 2 0 s
+
+-- 2 Start "an inactive task: ready, behind its equals"
+unfoldable pub start : (ℕ → ℕ) → ℕ → State → State
+start key i s = joinReady key i (setTask i (readied 0 0 (task s i)) s)
+
+-- 3 Stop "a task neither inactive nor the caller: taken from any list, made inactive with all but state and priority 0"
+unfoldable pub stop : ℕ → State → State
+stop i s = setTask i (inactive (task s i .priority)) (leave i s)
+
+-- 4 Suspend, 5 Resume: "flag set, state and lists kept", "flag cleared"
+unfoldable pub flag : ℕ → ℕ → State → State
+flag f i s = setTask i (flagged f (task s i)) s
+
+abbrev pub isInactive : Task → Bool
+isInactive t = eqb (t .state) 1
+
+-- ---- 6 Yield: "caller goes behind its equals, answer 1"
+
+unfoldable pub yielded : (ℕ → ℕ) → ℕ → State → State
+yielded key i s = joinReady key i (answer i 1 0 (leave i s))
+
+-- ---- 7 Sleep "(ticks): state 4, these ticks, answer 0, out of the ready list"
+
+unfoldable pub slept : ℕ → ℕ → State → State
+slept n i s = setTask i (asleep n (task s i)) (leave i s)
+
+-- ---- 8 Tick: "in task number order, each task in state 3 or 4 with ticks above 0 loses one, suspended or not. At 0 it leaves
+-- its list and becomes ready behind its equals, answer 3, hub, side and word 0."
+
+-- by the ticks left
+unfoldable pub tickBy : (ℕ → ℕ) → ℕ → ℕ → State → State
+tickBy key zero i s = s
+tickBy key (suc zero) i s = wake key i 3 0 s
+tickBy key (suc (suc n)) i s = setTask i (counted (suc n) (task s i)) s
+
+unfoldable pub tickOne : (ℕ → ℕ) → ℕ → State → State
+tickOne key i s = tickBy key (cond (within 3 4 (task s i .state)) (task s i .ticks) 0) i s
+
+-- tasks 0 to n - 1
+unfoldable pub tickAll : (ℕ → ℕ) → ℕ → State → State
+tickAll key zero s = s
+tickAll key (suc n) s = tickOne key n (tickAll key n s)
+
+-- ---- 9 Add task, 10 Add hub: "Each takes the next number."
+
+-- "target is priority"
+unfoldable pub addTask : ℕ → State → State
+addTask p s = record { tasks = s .tasks ++ inactive p ∷ []; hubs = s .hubs; ready = s .ready }
+
+-- "side 1 starts it at once, side 0 doesn't": it joins by its own priority
+unfoldable pub addStarted : ℕ → State → State
+addStarted p s = start (urgency (addTask p s)) (length (s .tasks)) (addTask p s)
+
+-- "target is kind, ticks the limit, word the start, count = start"
+unfoldable pub newHub : Call → Hub
+newHub c = record { kind = c .target; count = c .word; limit = c .ticks; start = c .word; waiters = []; held = [] }
+
+unfoldable pub addHub : Hub → State → State
+addHub h s = record { tasks = s .tasks; hubs = s .hubs ++ h ∷ []; ready = s .ready }
+
+-- ---- by service
+
+unfoldable pub serve : (ℕ → ℕ) → Service → State → Call → State
+serve key Blank s c = blank
+serve key HubRequest s c = settle key (verdict s c) s c
+serve key Start s c = grant (isInactive (task s (c .target))) (start key (c .target) s) s c
+serve key Stop s c =
+    grant (not (isInactive (task s (c .target))) && not (eqb (c .target) (c .caller))) (stop (c .target) s) s c
+serve key Suspend s c =
+    grant (not (isInactive (task s (c .target))) && (not (isSuspended (task s (c .target))) && not (eqb (c .target) (c .caller))))
+    (flag 1 (c .target) s) s c
+serve key Resume s c = grant (isSuspended (task s (c .target))) (flag 0 (c .target) s) s c
+serve key Yield s c = yielded key (c .caller) s
+serve key Sleep s c = slept (c .ticks) (c .caller) s
+serve key Tick s c = tickAll key (length (s .tasks)) s
+serve key AddTask s c = cond (eqb (c .side) 1) (addStarted (c .target) s) (addTask (c .target) s)
+serve key AddHub s c = addHub (newHub c) s
+serve key Unknown s c = s
+
+-- the state after an accepted call: the key is each task's own priority before the call
+unfoldable pub served : State → Call → State
+served s c = serve (urgency s) (serviceOf (c .service)) s c

@@ -1,0 +1,114 @@
+-- The hub table: what a hub says of a put or a get, by its kind; a row of the paper for each definition. What a verdict does
+-- to the table is in Calls.antt.
+use Prim.Native.Nat.{pred, suc, ℕ}
+use Rattle.rules.specs.Lists.{firstWaiting}
+use Rattle.rules.specs.Table.{Event, Fifo, Get, Hub, Kind, NoKind, NoSide, Port, Put, Resource, Semaphore, Side, State, hub, kindOf, sideOf, task}
+use Rattle.rules.specs.declared.Call.{Call}
+use lib.Dec.{eqb, ltb}
+use mathlib.Core.Bool.{cond}
+use mathlib.Core.List.{List, [], _++_, _∷_}
+use mathlib.Core.Option.{Option, none, some}
+
+-- a waiter that is met, and the word it has afterwards
+pub record Meeting : Type 0 where
+  pub waiter : ℕ
+  pub word : ℕ
+
+-- The caller is met: the hub's count and words held afterwards, the word the caller has afterwards, and the waiters met with
+-- it, in the order of meeting. Or not now; or FAIL in every mode.
+pub data Verdict : Type 0 where
+  met : (count : ℕ) (held : List ℕ) (word : ℕ) (waiters : List Meeting) → Verdict
+  notNow : Verdict
+  fail : Verdict
+
+-- met by the hub alone; met together with waiter w, who has word y afterwards
+abbrev pub alone : ℕ → List ℕ → ℕ → Verdict
+alone n ws x = met n ws x []
+
+abbrev pub pair : ℕ → List ℕ → ℕ → ℕ → ℕ → Verdict
+pair n ws x w y = met n ws x (record { waiter = w; word = y } ∷ [])
+
+-- ---- put: by the first getter that waits, and the hub
+
+-- "a getter waits: the first is met, count stays 0. Else count 0: becomes 1. Else not now"
+unfoldable pub putEvent : Option ℕ → Hub → Verdict
+putEvent (some w) h = pair (h .count) (h .held) 0 w 0
+putEvent none h = cond (eqb (h .count) 0) (alone 1 (h .held) 0) notNow
+
+-- "a getter waits: the first is met, count stays 0. Else below limit: plus 1. Else not now"
+unfoldable pub putSemaphore : Option ℕ → Hub → Verdict
+putSemaphore (some w) h = pair (h .count) (h .held) 0 w 0
+putSemaphore none h = cond (ltb (h .count) (h .limit)) (alone (suc (h .count)) (h .held) 0) notNow
+
+-- "a getter waits: the first is met with this word. Else not now"
+unfoldable pub putPort : Option ℕ → Hub → ℕ → Verdict
+putPort (some w) h x = pair (h .count) (h .held) 0 w x
+putPort none h x = notNow
+
+-- "a getter waits: the first is met with this word. Else below limit: appended. Else not now"
+unfoldable pub putFifo : Option ℕ → Hub → ℕ → Verdict
+putFifo (some w) h x = pair (h .count) (h .held) 0 w x
+putFifo none h x = cond (ltb (h .count) (h .limit)) (alone (suc (h .count)) (h .held ++ x ∷ []) 0) notNow
+
+-- "first waiter, if any, is met and becomes owner, else free"
+unfoldable pub pass : Option ℕ → Hub → Verdict
+pass (some w) h = pair (suc w) (h .held) 0 w 0
+pass none h = alone 0 (h .held) 0
+
+-- "caller owns it: ... Otherwise FAIL in every mode"
+unfoldable pub putResource : Option ℕ → Hub → ℕ → Verdict
+putResource f h caller = cond (eqb (h .count) (suc caller)) (pass f h) fail
+
+-- ---- get: by the first putter that waits, and the hub
+
+-- "count 1: a putter waits, the first is met and count stays 1; else becomes 0. Count 0: not now"
+unfoldable pub getEvent : Option ℕ → Hub → Verdict
+getEvent (some w) h = cond (eqb (h .count) 1) (pair (h .count) (h .held) 0 w 0) notNow
+getEvent none h = cond (eqb (h .count) 1) (alone 0 (h .held) 0) notNow
+
+-- "above 0: a putter waits, the first is met and count stays; else minus 1. At 0: not now"
+unfoldable pub getSemaphore : Option ℕ → Hub → Verdict
+getSemaphore (some w) h = cond (ltb 0 (h .count)) (pair (h .count) (h .held) 0 w 0) notNow
+getSemaphore none h = cond (ltb 0 (h .count)) (alone (pred (h .count)) (h .held) 0) notNow
+
+-- "a putter waits: the first is met and its word taken. Else not now"
+unfoldable pub getPort : State → Option ℕ → Hub → Verdict
+getPort s (some w) h = pair (h .count) (h .held) (task s w .word) w 0
+getPort s none h = notNow
+
+-- "holds a word: oldest taken; if a putter waits, the first is met and its word appended. Empty: not now"
+unfoldable pub getFifo : State → List ℕ → Option ℕ → Hub → Verdict
+getFifo s [] f h = notNow
+getFifo s (x ∷ xs) (some w) h = pair (h .count) (xs ++ task s w .word ∷ []) x w 0
+getFifo s (x ∷ xs) none h = alone (pred (h .count)) xs x
+
+-- "free: caller owns it. Owned by caller: FAIL in every mode. Owned by another: not now"
+unfoldable pub getResource : Hub → ℕ → Verdict
+getResource h caller =
+    cond (eqb (h .count) 0) (alone (suc caller) (h .held) 0) (cond (eqb (h .count) (suc caller)) fail notNow)
+
+-- ---- by kind, and by side; a kind or side that no table in use has fails
+
+unfoldable pub onPut : Kind → Option ℕ → Hub → ℕ → ℕ → Verdict
+onPut NoKind f h caller x = fail
+onPut Event f h caller x = putEvent f h
+onPut Semaphore f h caller x = putSemaphore f h
+onPut Port f h caller x = putPort f h x
+onPut Fifo f h caller x = putFifo f h x
+onPut Resource f h caller x = putResource f h caller
+
+unfoldable pub onGet : Kind → State → Option ℕ → Hub → ℕ → Verdict
+onGet NoKind s f h caller = fail
+onGet Event s f h caller = getEvent f h
+onGet Semaphore s f h caller = getSemaphore f h
+onGet Port s f h caller = getPort s f h
+onGet Fifo s f h caller = getFifo s (h .held) f h
+onGet Resource s f h caller = getResource h caller
+
+unfoldable pub onSide : Side → State → Hub → Call → Verdict
+onSide NoSide s h c = fail
+onSide Put s h c = onPut (kindOf (h .kind)) (firstWaiting s 2 (h .waiters)) h (c .caller) (c .word)
+onSide Get s h c = onGet (kindOf (h .kind)) s (firstWaiting s 1 (h .waiters)) h (c .caller)
+
+unfoldable pub verdict : State → Call → Verdict
+verdict s c = onSide (sideOf (c .side)) s (hub s (c .target)) c

@@ -1,0 +1,84 @@
+-- "Refusal numbers, tested in this order": 3 to 7 by the service, on the state; 1 and 2 on the words.
+use Prim.Native.Nat.{suc, ℕ}
+use Rattle.rules.specs.Calls.{AddHub, AddTask, Blank, HubRequest, Resume, Service, Sleep, Start, Stop, Suspend, Tick, Unknown, Yield, serviceOf}
+use Rattle.rules.specs.Lists.{next}
+use Rattle.rules.specs.Table.{Event, Fifo, Kind, NoKind, Port, Resource, Semaphore, State, kindOf, one, read, size}
+use Rattle.rules.specs.WellFormed.{wellFormed, within}
+use Rattle.rules.specs.declared.Call.{Call}
+use lib.Dec.{eqb, leb, ltb}
+use lib.ListN.{getD, length}
+use mathlib.Core.Bool.{Bool, _&&_, _||_, false, true}
+use mathlib.Core.List.{List, [], _∷_}
+
+-- the test must pass, or the call is refused with number r; 0 is no refusal
+unfoldable pub need : Bool → ℕ → ℕ → ℕ
+need true r rest = rest
+need false r rest = r
+
+-- ---- 4 "services 1 to 7: caller isn't the running task"
+
+unfoldable pub byRunning : State → Call → ℕ → ℕ
+byRunning s c rest = need (eqb (next s) (suc (c .caller))) 4 rest
+
+-- ---- 5 "service 1: hub not in use; 2 to 5: task not in use"
+
+unfoldable pub onTask : State → Call → ℕ
+onTask s c = byRunning s c (need (ltb (c .target) (length (s .tasks))) 5 0)
+
+-- ---- 6, the arguments
+
+pub data Mode : Type 0 where
+  NoMode W NW WT : Mode
+
+-- 1 W, 2 NW, 3 WT with ticks
+unfoldable pub modeOf : ℕ → Mode
+modeOf n = getD (NoMode ∷ W ∷ NW ∷ WT ∷ []) n NoMode
+
+-- "mode not 1 to 3, ticks not 0 under W or NW, ticks outside 1 to 1,000,000 under WT"
+unfoldable pub goodWait : Mode → ℕ → Bool
+goodWait NoMode ticks = false
+goodWait W ticks = eqb ticks 0
+goodWait NW ticks = eqb ticks 0
+goodWait WT ticks = within 1 1000000 ticks
+
+-- "side not 1 or 2", and the mode with its ticks
+abbrev pub goodRequest : Call → Bool
+goodRequest c = within 1 2 (c .side) && goodWait (modeOf (c .mode)) (c .ticks)
+
+-- "kind not 1 to 5, limit or start outside the kinds table"
+unfoldable pub goodHub : Kind → ℕ → ℕ → Bool
+goodHub NoKind limit start = false
+goodHub Event limit start = eqb limit 1 && eqb start 0
+goodHub Semaphore limit start = within 1 65535 limit && leb start limit
+goodHub Port limit start = eqb limit 0 && eqb start 0
+goodHub Fifo limit start = within 1 8 limit && eqb start 0
+goodHub Resource limit start = eqb limit 1 && eqb start 0
+
+-- ---- by service, each row's tests in the order of their numbers; 3 "service above 10"; 7 "service 9 or 10 with 16 already"
+
+unfoldable pub refusalFor : Service → State → Call → ℕ
+refusalFor Blank s c = 0
+refusalFor HubRequest s c = byRunning s c (need (ltb (c .target) (length (s .hubs))) 5 (need (goodRequest c) 6 0))
+refusalFor Start s c = onTask s c
+refusalFor Stop s c = onTask s c
+refusalFor Suspend s c = onTask s c
+refusalFor Resume s c = onTask s c
+refusalFor Yield s c = byRunning s c 0
+refusalFor Sleep s c = byRunning s c (need (within 1 1000000 (c .ticks)) 6 0)
+refusalFor Tick s c = 0
+refusalFor AddTask s c = need (leb (c .target) 255 && leb (c .side) 1) 6 (need (ltb (length (s .tasks)) 16) 7 0)
+refusalFor AddHub s c =
+    need (goodHub (kindOf (c .target)) (c .ticks) (c .word)) 6 (need (ltb (length (s .hubs)) 16) 7 0)
+refusalFor Unknown s c = 3
+
+unfoldable pub refusal : State → Call → ℕ
+refusal s c = refusalFor (serviceOf (c .service)) s c
+
+-- ---- 1 "length isn't 600 words", 2 "not well formed (never for Blank)"; then the service's own
+
+abbrev pub isBlank : Call → Bool
+isBlank c = eqb (c .service) 0
+
+unfoldable pub refusalOf : List ℕ → Call → ℕ
+refusalOf t c =
+    need (eqb (length t) (size one)) 1 (need (isBlank c || wellFormed t) 2 (refusal (read one t) c))

@@ -1,0 +1,98 @@
+-- "A call gives back refusal, answer and next": the answer and its numbers, the table after a call, the hub summary.
+-- `replyTo`, `tableAfter` and `summaryOf` are what the public promises name, for any words and any numbers.
+use Prim.Native.Nat.{_*_, _+_, _^_, suc, zero, ℕ}
+use Rattle.lists.specs.Lists.{bit}
+use Rattle.rules.specs.Calls.{AddHub, AddTask, Blank, HubRequest, Resume, Service, Sleep, Start, Stop, Suspend, Tick, Unknown, Yield, served, serviceOf}
+use Rattle.rules.specs.Lists.{next}
+use Rattle.rules.specs.Refusals.{need, refusalOf}
+use Rattle.rules.specs.Table.{State, one, read, size, task, words}
+use Rattle.rules.specs.WellFormed.{waitsFor, wellFormed}
+use Rattle.rules.specs.declared.Answer.the-variants.{Accepted, Refused}
+use Rattle.rules.specs.declared.Answer.{Answer}
+use Rattle.rules.specs.declared.Call.{Call}
+use Rattle.rules.specs.declared.Outcome.the-variants.{Fail, NothingYet, Ok}
+use Rattle.rules.specs.declared.Outcome.{Outcome}
+use Rattle.rules.specs.declared.Reply.{Reply}
+use Rattle.rules.specs.declared.Summary.{Summary}
+use lib.Count.{ones}
+use lib.Dec.{eqb, ltb}
+use lib.ListN.{getD, length}
+use mathlib.Core.Bool.{Bool, cond, false, true}
+use mathlib.Core.List.{List, [], _∷_}
+
+-- ---- the paper's numbers
+
+-- "nothing yet (answer 0), OK 1, FAIL 2"
+abbrev pub outcomeNumber : Outcome → ℕ
+outcomeNumber NothingYet = 0
+outcomeNumber Ok = 1
+outcomeNumber Fail = 2
+
+abbrev pub refusalNumber : Answer → ℕ
+refusalNumber (Accepted o) = 0
+refusalNumber (Refused n) = n
+
+-- "A refused call gives answer 0"
+abbrev pub answerNumber : Answer → ℕ
+answerNumber (Accepted o) = outcomeNumber o
+answerNumber (Refused n) = 0
+
+-- the outcome that a caller's answer word shows; TO "reaches a task by Tick, so no call returns 3"
+unfoldable pub outcomeOf : ℕ → Outcome
+outcomeOf a = getD (NothingYet ∷ Ok ∷ Fail ∷ []) a NothingYet
+
+-- ---- the reply
+
+-- "For services 1 to 7 the answer is the caller's answer word after the call; for 0, 8, 9 and 10 it is 0."
+unfoldable pub bearsAnswer : Service → Bool
+bearsAnswer Blank = false
+bearsAnswer HubRequest = true
+bearsAnswer Start = true
+bearsAnswer Stop = true
+bearsAnswer Suspend = true
+bearsAnswer Resume = true
+bearsAnswer Yield = true
+bearsAnswer Sleep = true
+bearsAnswer Tick = false
+bearsAnswer AddTask = false
+bearsAnswer AddHub = false
+bearsAnswer Unknown = false
+
+unfoldable pub outcome : State → Call → Outcome
+outcome s′ c = cond (bearsAnswer (serviceOf (c .service))) (outcomeOf (task s′ (c .caller) .answer)) NothingYet
+
+-- by the refusal number, and the state after the call where it is accepted
+unfoldable pub replyBy : ℕ → State → Call → Reply
+replyBy zero s′ c = record { answer = Accepted (outcome s′ c); next = next s′ }
+replyBy (suc r) s′ c = record { answer = Refused (suc r); next = 0 }
+
+unfoldable pub replyTo : List ℕ → Call → Reply
+replyTo t c = replyBy (refusalOf t c) (served (read one t) c) c
+
+-- ---- the table after the call: "no word of the table changes" where it is refused
+
+unfoldable pub tableBy : ℕ → List ℕ → State → List ℕ
+tableBy zero t s′ = words one s′
+tableBy (suc r) t s′ = t
+
+unfoldable pub tableAfter : List ℕ → Call → List ℕ
+tableAfter t c = tableBy (refusalOf t c) t (served (read one t) c)
+
+-- ---- "Hub summary: given a table and a hub"
+
+-- "one word with bit i set when task i waits there", for the tasks below n
+unfoldable pub maskBelow : ℕ → (ℕ → Bool) → ℕ
+maskBelow zero p = 0
+maskBelow (suc n) p = bit (p n) * 2 ^ n + maskBelow n p
+
+-- "and the number of set bits as count"
+unfoldable pub summaryBy : ℕ → ℕ → Summary
+summaryBy zero m = record { refusal = 0; mask = m; count = ones m }
+summaryBy (suc r) m = record { refusal = suc r; mask = 0; count = 0 }
+
+-- "Refused with 1, 2 or 5, then both are 0."
+unfoldable pub summaryOf : List ℕ → ℕ → Summary
+summaryOf t h =
+    summaryBy
+    (need (eqb (length t) (size one)) 1 (need (wellFormed t) 2 (need (ltb h (length (read one t .hubs))) 5 0)))
+    (maskBelow 16 (waitsFor (read one t) h))

@@ -1,0 +1,114 @@
+// Services 0, 9 and 10 in the words of an edition 1 table, and the keys that order its lists.
+// Not here: when these calls are refused, and the start of a task that is added.
+ghost use Prim.Native.Nat.{_<_, _≤_, ℕ};
+ghost use Rattle.rules.specs.Calls.{addHub, addTask, blank};
+ghost use Rattle.rules.specs.Table.{State, one, words};
+ghost use Rattle.rules.specs.WellFormed.{urgency};
+ghost use lib.ListN.{getD, length, replicate};
+ghost use mathlib.Core.List.{[]};
+ghost use mathlib.Core.Path.{_≡_};
+use records::TaskNo;
+use records::TaskRecord;
+
+// "contents: edition 1, tasks T, hubs H, then where each body starts"
+const EDITION: u32 = 1;
+
+const TASKS_AT: usize = 8;
+
+const HUBS_AT: usize = 136;
+
+const READY_AT: usize = 200;
+
+const WAITS_AT: usize = 216;
+
+const STORES_AT: usize = 472;
+
+// How many words a task record and a hub record have, and which of a task's is its priority.
+const TASK_SIZE: usize = 8;
+
+const HUB_SIZE: usize = 4;
+
+const PRIORITY: usize = 2;
+
+// "1 inactive"
+const INACTIVE: u32 = 1;
+
+fn clear(t: &mut [u32])
+    ensures { λ _. ⌜ now (t .exit) ≡ replicate (length (now (t .entry))) 0 ⌝ }
+{
+    let mut i = 0;
+    while i < t.len() {
+        t[i] = 0;
+        i += 1;
+    }
+}
+
+// "contents 1, 0, 0, 8, 136, 200, 216, 472 and the other words 0"
+pub fn blank(t: &mut [u32])
+    requires { ⌜ length (now t) ≡ 600 ⌝ }
+    ensures { λ _. ⌜ now (t .exit) ≡ words one blank ⌝ }
+{
+    clear(t);
+    t[0] = EDITION;
+    t[3] = TASKS_AT as u32;
+    t[4] = HUBS_AT as u32;
+    t[5] = READY_AT as u32;
+    t[6] = WAITS_AT as u32;
+    t[7] = STORES_AT as u32;
+}
+
+// "Each takes the next number": a task of this priority, inactive.
+pub fn add_task(t: &mut [u32], priority: u32)
+    requires { ⌜ length (now t) ≡ 600 ⌝ }
+    requires { ⌜ getD (now t) 1 0 < 16 ⌝ }
+    ensures { λ _. ⌜ ((s : State) → length (s .tasks) < 16 → now (t .entry) ≡ words one s
+        → now (t .exit) ≡ words one (addTask priority s)) ⌝ }
+{
+    let n = t[1] as usize;
+    records::set_task(
+        t,
+        TASK_SIZE,
+        TaskNo(n),
+        TaskRecord {
+            state: INACTIVE,
+            suspended: 0,
+            priority,
+            hub: 0,
+            ticks: 0,
+            side: 0,
+            word: 0,
+            answer: 0,
+        },
+    );
+    t[1] = (n + 1) as u32;
+}
+
+// "target is kind, ticks the limit, word the start, count = start"
+pub fn add_hub(t: &mut [u32], kind: u32, limit: u32, start: u32)
+    requires { ⌜ length (now t) ≡ 600 ⌝ }
+    requires { ⌜ getD (now t) 2 0 < 16 ⌝ }
+    ensures { λ _. ⌜ ((s : State) → length (s .hubs) < 16 → now (t .entry) ≡ words one s
+        → now (t .exit)
+        ≡ words one (addHub record { kind = kind; count = start; limit = limit; start = start; waiters = []; held = [] } s)) ⌝ }
+{
+    let n = t[2] as usize;
+    records::set_field(t, HUBS_AT, HUB_SIZE, n, 0, kind);
+    records::set_field(t, HUBS_AT, HUB_SIZE, n, 1, start);
+    records::set_field(t, HUBS_AT, HUB_SIZE, n, 2, limit);
+    records::set_field(t, HUBS_AT, HUB_SIZE, n, 3, start);
+    t[2] = (n + 1) as u32;
+}
+
+// The key of each task number, by which it joins a list: its own priority; of a number not in use 0.
+pub fn keys(t: &[u32]) -> [u32; 16]
+    ensures { λ r. ⌜ ((s : State) → length (s .tasks) ≤ 16 → now (t .entry) ≡ words one s
+        → (j : ℕ) → getD r j 0 ≡ urgency s j) ⌝ }
+{
+    let mut ks = [0u32; 16];
+    let mut i = 0;
+    while i < 16 {
+        ks[i] = records::field(t, TASKS_AT, TASK_SIZE, i, PRIORITY);
+        i += 1;
+    }
+    ks
+}

@@ -1,0 +1,42 @@
+use Rattle.rules.proofs.Places.{one-sized}
+use Rattle.rules.specs.Calls.{serve, yielded}
+use Rattle.rules.specs.Lists.{answer, leave}
+use Rattle.rules.specs.Table.{one}
+use Rattle.tasks.proofs.yield_turn.Statement.{statement}
+use Rattle.tasks.proofs.yield_turn.Tie as tie
+use borrow.Author.Needs.{needs}
+use mathlib.Core.Path.{refl}
+
+cast-t5 : tie.Need-cast-t5
+cast-t5 c = search needs
+
+leave-list-requires : tie.Need-leave-list-requires
+leave-list-requires c κs = search needs
+
+give-answer-requires : tie.Need-give-answer-requires
+give-answer-requires c κs = search needs
+
+join-ready-requires : tie.Need-join-ready-requires
+join-ready-requires c κs = search needs
+
+same-length : tie.Need-same-length
+same-length c = search needs
+
+returns : tie.Need-returns
+unfolding answer leave serve yielded
+returns c = λ s sound caller e.
+    let i = c .before .before .before .before .before .before .before .before .before .before .before .before .before .before .before .args .c .caller in
+    let left = c .before .before .before .before .before .before .before .before .before .before .leave-list .ensures s sound caller e in
+    let said = c .before .before .before .before .before .before .give-answer .ensures (leave i s) (sound .tasks) caller left in
+    c .before .before .join-ready .ensures one _ one-sized refl said
+
+pub yield-turn-spec : {M : Type 1} → statement M
+yield-turn-spec =
+    tie.close
+    (tie.spec
+    cast-t5
+    leave-list-requires
+    give-answer-requires
+    join-ready-requires
+    same-length
+    returns)

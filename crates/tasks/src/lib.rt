@@ -1,0 +1,185 @@
+// Services 2 to 7: Start, Stop, Suspend, Resume, Yield, Sleep, each on a table that holds a state, by the caller that runs.
+// Not here: when a call is refused, and what it gives back.
+use records::TaskNo;
+use records::TaskRecord;
+use rules::Call;
+ghost use Prim.Native.Nat.{_<_, _≤_, ℕ};
+ghost use Rattle.moves.specs.Moves.{Sound, keyOf};
+ghost use Rattle.rules.specs.Calls.{Resume, Sleep, Start, Stop, Suspend, Yield, flag, serve};
+ghost use Rattle.rules.specs.Table.{State, inactive, one, setTask, words};
+ghost use lib.ListN.{length};
+ghost use mathlib.Core.Path.{_≡_};
+
+// "Each answers 1, or 2 where its condition doesn't hold." "In 2 to 7 the caller's word becomes 0."
+const OK: u32 = 1;
+
+const FAIL: u32 = 2;
+
+// "Start an inactive task: ready, behind its equals."
+pub fn start_task(t: &mut [u32], keys: &[u32], c: Call)
+    requires { ⌜ c .caller < 16 ⌝ }
+    requires { ⌜ c .target < 16 ⌝ }
+    requires { ⌜ length (now t) ≡ 600 ⌝ }
+    ensures { λ _. ⌜ ((s : State) → Sound s → c .caller < length (s .tasks) → c .target < length (s .tasks) → now (t .entry) ≡ words one s → now (t .exit) ≡ words one (serve (keyOf (now (keys .entry))) Start s c)) ⌝ }
+{
+    let caller = TaskNo(c.caller as usize);
+    let i = TaskNo(c.target as usize);
+    let x = moves::task_at(&*t, i);
+    let state = x.state;
+    if state != 1 {
+        moves::give_answer(t, caller, FAIL, 0);
+        return;
+    }
+    moves::make_ready(t, i, 0, 0);
+    moves::join_ready(t, moves::TASK_SIZE, keys, i);
+    moves::give_answer(t, caller, OK, 0);
+}
+
+// "made inactive with all but state and priority 0"
+fn make_inactive(t: &mut [u32], i: TaskNo, priority: u32)
+    requires { ⌜ i .0 < 16 ⌝ }
+    ensures { λ _. ⌜ ((s : State) → length (s .tasks) ≤ 16 → i .0 < length (s .tasks) → now (t .entry) ≡ words one s → now (t .exit) ≡ words one (setTask (i .0) (inactive priority) s)) ⌝ }
+{
+    moves::set_task(
+        t,
+        i,
+        TaskRecord {
+            state: 1,
+            suspended: 0,
+            priority,
+            hub: 0,
+            ticks: 0,
+            side: 0,
+            word: 0,
+            answer: 0,
+        },
+    );
+}
+
+// "Stop a task neither inactive nor the caller: taken from any list".
+pub fn stop_task(t: &mut [u32], c: Call)
+    requires { ⌜ c .caller < 16 ⌝ }
+    requires { ⌜ c .target < 16 ⌝ }
+    requires { ⌜ length (now t) ≡ 600 ⌝ }
+    ensures { λ _. ⌜ ((key : ℕ → ℕ) (s : State) → Sound s → c .caller < length (s .tasks) → c .target < length (s .tasks) → now (t .entry) ≡ words one s → now (t .exit) ≡ words one (serve key Stop s c)) ⌝ }
+{
+    let caller = TaskNo(c.caller as usize);
+    let i = TaskNo(c.target as usize);
+    let x = moves::task_at(&*t, i);
+    let state = x.state;
+    if state == 1 {
+        moves::give_answer(t, caller, FAIL, 0);
+        return;
+    }
+    if c.target == c.caller {
+        moves::give_answer(t, caller, FAIL, 0);
+        return;
+    }
+    moves::leave_list(t, i);
+    make_inactive(t, i, x.priority);
+    moves::give_answer(t, caller, OK, 0);
+}
+
+// The flag of task i, and nothing else.
+fn set_flag(t: &mut [u32], i: TaskNo, f: u32)
+    requires { ⌜ i .0 < 16 ⌝ }
+    ensures { λ _. ⌜ ((s : State) → length (s .tasks) ≤ 16 → i .0 < length (s .tasks) → now (t .entry) ≡ words one s → now (t .exit) ≡ words one (flag f (i .0) s)) ⌝ }
+{
+    let x = moves::task_at(&*t, i);
+    moves::set_task(
+        t,
+        i,
+        TaskRecord {
+            state: x.state,
+            suspended: f,
+            priority: x.priority,
+            hub: x.hub,
+            ticks: x.ticks,
+            side: x.side,
+            word: x.word,
+            answer: x.answer,
+        },
+    );
+}
+
+// "Suspend a task that is neither inactive, suspended nor the caller: flag set, state and lists kept."
+pub fn suspend_task(t: &mut [u32], c: Call)
+    requires { ⌜ c .caller < 16 ⌝ }
+    requires { ⌜ c .target < 16 ⌝ }
+    ensures { λ _. ⌜ ((key : ℕ → ℕ) (s : State) → Sound s → c .caller < length (s .tasks) → c .target < length (s .tasks) → now (t .entry) ≡ words one s → now (t .exit) ≡ words one (serve key Suspend s c)) ⌝ }
+{
+    let caller = TaskNo(c.caller as usize);
+    let i = TaskNo(c.target as usize);
+    let x = moves::task_at(&*t, i);
+    let state = x.state;
+    let suspended = x.suspended;
+    if state == 1 {
+        moves::give_answer(t, caller, FAIL, 0);
+        return;
+    }
+    if suspended != 0 {
+        moves::give_answer(t, caller, FAIL, 0);
+        return;
+    }
+    if c.target == c.caller {
+        moves::give_answer(t, caller, FAIL, 0);
+        return;
+    }
+    set_flag(t, i, 1);
+    moves::give_answer(t, caller, OK, 0);
+}
+
+// "Resume a suspended task: flag cleared."
+pub fn resume_task(t: &mut [u32], c: Call)
+    requires { ⌜ c .caller < 16 ⌝ }
+    requires { ⌜ c .target < 16 ⌝ }
+    ensures { λ _. ⌜ ((key : ℕ → ℕ) (s : State) → Sound s → c .caller < length (s .tasks) → c .target < length (s .tasks) → now (t .entry) ≡ words one s → now (t .exit) ≡ words one (serve key Resume s c)) ⌝ }
+{
+    let caller = TaskNo(c.caller as usize);
+    let i = TaskNo(c.target as usize);
+    let x = moves::task_at(&*t, i);
+    let suspended = x.suspended;
+    if suspended == 0 {
+        moves::give_answer(t, caller, FAIL, 0);
+        return;
+    }
+    set_flag(t, i, 0);
+    moves::give_answer(t, caller, OK, 0);
+}
+
+// "Yield: caller goes behind its equals, answer 1."
+pub fn yield_turn(t: &mut [u32], keys: &[u32], c: Call)
+    requires { ⌜ c .caller < 16 ⌝ }
+    requires { ⌜ length (now t) ≡ 600 ⌝ }
+    ensures { λ _. ⌜ ((s : State) → Sound s → c .caller < length (s .tasks) → now (t .entry) ≡ words one s → now (t .exit) ≡ words one (serve (keyOf (now (keys .entry))) Yield s c)) ⌝ }
+{
+    let caller = TaskNo(c.caller as usize);
+    moves::leave_list(t, caller);
+    moves::give_answer(t, caller, OK, 0);
+    moves::join_ready(t, moves::TASK_SIZE, keys, caller);
+}
+
+// "Sleep (ticks): state 4, these ticks, answer 0, out of the ready list."
+pub fn sleep_task(t: &mut [u32], c: Call)
+    requires { ⌜ c .caller < 16 ⌝ }
+    requires { ⌜ length (now t) ≡ 600 ⌝ }
+    ensures { λ _. ⌜ ((key : ℕ → ℕ) (s : State) → Sound s → c .caller < length (s .tasks) → now (t .entry) ≡ words one s → now (t .exit) ≡ words one (serve key Sleep s c)) ⌝ }
+{
+    let caller = TaskNo(c.caller as usize);
+    moves::leave_list(t, caller);
+    let x = moves::task_at(&*t, caller);
+    moves::set_task(
+        t,
+        caller,
+        TaskRecord {
+            state: 4,
+            suspended: x.suspended,
+            priority: x.priority,
+            hub: 0,
+            ticks: c.ticks,
+            side: 0,
+            word: 0,
+            answer: 0,
+        },
+    );
+}

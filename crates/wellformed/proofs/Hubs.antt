@@ -1,0 +1,195 @@
+-- A hub by its words: its record, its list and its store, one after the other; and the hubs below h, with the marks so far.
+-- Not here: the walk of a list (Turns.antt). Assumes nothing.
+use Prim.Native.Nat.{_*_, _+_, _-_, _<_, _≤_, pred, suc, zero, zero-le, ℕ}
+use Rattle.lists.proofs.Laws.{length-numbers}
+use Rattle.lists.specs.Lists.{allZero, numbers, occ}
+use Rattle.rules.proofs.Reading.{read-hub, read-tasks}
+use Rattle.rules.proofs.Tests.{t-kind}
+use Rattle.rules.proofs.Valid.{Range}
+use Rattle.rules.specs.Table.{Fifo, Hub, hub, hubAt, kindOf, one, read, storePart, task, waitPart}
+use Rattle.rules.specs.WellFormed.{forAll, kindRight, storeRight}
+use Rattle.wellformed.proofs.Parts.{so-many}
+use Rattle.wellformed.proofs.Turns.{entry-side, forAll-fail, forAll-none, forAll-step, numbers-end, occ-le}
+use Rattle.wellformed.specs.Walks.{Marked, Marks, Used, hubRight, may, metAt, ownerOf, queueRight, walks}
+use borrow.Author.Tests.{eq-eqb, le-leb, leb-true, lt-leb, ne-eqb}
+use lib.Dec.{eqb, leb}
+use lib.ListN.{drop, getD, length, length-take, take}
+use lib.Seq.{length-take-le}
+use mathlib.Core.Bool.{Bool, _&&_, and-false, false, false≢true, true}
+use mathlib.Core.List.{List, []}
+use mathlib.Core.Path.{_∙_, _≡_, ap, refl, sym}
+use native.Mathlib.Nat.{add-zero}
+use native.Mathlib.Numerals.{add-one}
+use native.Mathlib.Omega.{arith}
+
+-- ---- what a marking test gives back
+
+module _ {test : Bool} {met : ℕ → ℕ} {m : List ℕ} where
+  -- a test that failed
+  pub marked-no : test ≡ false → Marked false test met m m
+  marked-no e = record { right = sym e; long = refl; marks = λ f. absurd (false≢true f) }
+
+  -- a test that met nobody
+  pub marked-none : (r : Bool) → r ≡ test → ((j : ℕ) → met j ≡ 0) → Marked r test met m m
+  marked-none r e z = record { right = e; long = refl; marks = λ f j. sym (add-zero (getD m j 0)) ∙ rw (z j) }
+
+  -- the same test, said otherwise
+  pub marked-as : {other : Bool} {with : ℕ → ℕ} {r : Bool} {n : List ℕ} → other ≡ test → ((j : ℕ) → with j ≡ met j) → Marked r other with m n → Marked r test met m n
+  marked-as e q w = record { right = w .right ∙ e; long = w .long; marks = λ f j. rw (q j) at (w .marks f j) }
+
+-- ---- the words of a hub's record
+
+module _ (t : List ℕ) (h : ℕ) (u : h < getD t 2 0) where
+  pub kind-word : hub (read one t) h .kind ≡ getD t (136 + h * 4) 0
+  unfolding hubAt
+  kind-word = ap (λ (x : Hub). x .kind) (read-hub one t h u) ∙ rw add-zero
+
+  pub count-word : hub (read one t) h .count ≡ getD t (136 + h * 4 + 1) 0
+  unfolding hubAt
+  count-word = ap (λ (x : Hub). x .count) (read-hub one t h u)
+
+  pub limit-word : hub (read one t) h .limit ≡ getD t (136 + h * 4 + 2) 0
+  unfolding hubAt
+  limit-word = ap (λ (x : Hub). x .limit) (read-hub one t h u)
+
+  pub start-word : hub (read one t) h .start ≡ getD t (136 + h * 4 + 3) 0
+  unfolding hubAt
+  start-word = ap (λ (x : Hub). x .start) (read-hub one t h u)
+
+  pub wait-words : hub (read one t) h .waiters ≡ numbers (waitPart one t h)
+  unfolding hubAt
+  wait-words = ap (λ (x : Hub). x .waiters) (read-hub one t h u)
+
+  -- ---- its list, by the first word
+
+  module _ (l m : List ℕ) where
+    abbrev queue : Bool
+    queue = queueRight (read one t) h (hub (read one t) h) l
+
+    abbrev first : ℕ
+    first = getD l 0 0
+
+    pub queue-none : 0 < length l → first ≡ 0 → (r : Bool) → r ≡ allZero l → Marked r queue (λ j. occ j (numbers l)) m m
+    unfolding occ queueRight
+    queue-none n e r q = marked-none r (q ∙ rw (eq-eqb first 0 e)) (λ j. rw (numbers-end l 0 n e))
+
+    module _ (some : first ≡ 0 → ⊥) where
+      pub queue-far : getD t 1 0 < first → Marked false queue (λ j. occ j (numbers l)) m m
+      unfolding queueRight
+      queue-far f = marked-no (rw (ne-eqb first 0 some, read-tasks one t, lt-leb first (getD t 1 0) f))
+
+      module _ (near : first ≤ getD t 1 0) where
+        abbrev mayDo : Bool
+        mayDo = may (getD t (first * 8 + 5) 0) (getD t (136 + h * 4) 0) (getD t (136 + h * 4 + 1) 0) (getD t (136 + h * 4 + 2) 0)
+
+        queue-is : queue ≡ (mayDo && walks (read one t) (suc h) (getD t (first * 8 + 5) 0) (ownerOf (getD t (136 + h * 4) 0) (getD t (136 + h * 4 + 1) 0)) 0 l)
+        unfolding queueRight
+        queue-is =
+            rw (
+              ne-eqb first 0 some,
+              read-tasks one t,
+              le-leb first (getD t 1 0) near,
+              entry-side t first some near,
+              kind-word,
+              count-word,
+              limit-word,
+            )
+
+        pub queue-barred : mayDo ≡ false → Marked false queue (λ j. occ j (numbers l)) m m
+        queue-barred e = marked-no (queue-is ∙ rw e)
+
+        pub queue-walked : mayDo ≡ true → (owner : ℕ) → owner ≡ ownerOf (getD t (136 + h * 4) 0) (getD t (136 + h * 4 + 1) 0) → {r : Bool} {n : List ℕ} → Marked r (walks (read one t) (h + 1) (getD t (first * 8 + 5) 0) owner 0 l) (λ j. occ j (numbers l)) m n → Marked r queue (λ j. occ j (numbers l)) m n
+        queue-walked e owner q w = marked-as (rw (add-one, q) (sym (queue-is ∙ rw e))) (λ j. refl) w
+
+  -- ---- the whole hub
+
+  abbrev kindTest : Bool
+  kindTest = kindRight (kindOf (getD t (136 + h * 4) 0)) (getD t 1 0) (hub (read one t) h)
+
+  abbrev storeTest : Bool
+  storeTest =
+      storeRight one (kindOf (getD t (136 + h * 4) 0)) (getD t (136 + h * 4 + 1) 0)
+      (take (472 + h * 8 + 8 - (472 + h * 8)) (drop (472 + h * 8) t))
+
+  hub-is : hubRight t h ≡ (kindTest && (storeTest && queueRight (read one t) h (hub (read one t) h) (waitPart one t h)))
+  unfolding hubRight
+  hub-is = rw (so-many (472 + h * 8) 8 t, kind-word, count-word)
+
+  module _ (m : List ℕ) where
+    abbrev waiting : ℕ → ℕ
+    waiting j = occ j (hub (read one t) h .waiters)
+
+    pub hub-kind-no : kindTest ≡ false → Marked false (hubRight t h) waiting m m
+    hub-kind-no e = marked-no (hub-is ∙ rw e)
+
+    pub hub-store-no : kindTest ≡ true → storeTest ≡ false → Marked false (hubRight t h) waiting m m
+    hub-store-no a e = marked-no (hub-is ∙ rw (a, e))
+
+    pub hub-queue : kindTest ≡ true → storeTest ≡ true → {r : Bool} {n : List ℕ} → Marked r (queueRight (read one t) h (hub (read one t) h) (take (216 + h * 16 + 16 - (216 + h * 16)) (drop (216 + h * 16) t))) (λ j. occ j (numbers (take (216 + h * 16 + 16 - (216 + h * 16)) (drop (216 + h * 16) t)))) m n → Marked r (hubRight t h) waiting m n
+    hub-queue a b w =
+        marked-as (rw (so-many (216 + h * 16) 16 t) (sym (hub-is ∙ rw (a, b)))) (λ j. rw (so-many (216 + h * 16) 16 t, wait-words)) w
+
+  -- a FIFO's words have room in its store
+  pub fifo-fits : kindTest ≡ true → getD t (136 + h * 4) 0 ≡ 4 → getD t (136 + h * 4 + 1) 0 ≤ 8
+  unfolding Range kindOf
+  fifo-fits a e =
+      let q = t-kind Fifo (getD t 1 0) (hub (read one t) h) .yes (rw e at a) in omega (arith, q .0, q .2, count-word)
+
+-- ---- the hubs below h, with the marks so far
+
+pub record Passing (t m₀ m : List ℕ) (h : ℕ) : Type 0 where
+  pub inside : h ≤ getD t 2 0
+  pub long : length m ≡ length m₀
+  pub right : forAll h (hubRight t) ≡ true
+  pub marks : (j : ℕ) → getD m j 0 ≡ getD m₀ j 0 + metAt (read one t) h j
+
+module _ (t m₀ : List ℕ) where
+  abbrev hubs : Bool
+  hubs = forAll (getD t 2 0) (hubRight t)
+
+  abbrev met : ℕ → ℕ
+  met = metAt (read one t) (getD t 2 0)
+
+  met-le : (h : ℕ) → h ≤ getD t 2 0 → (j : ℕ) → metAt (read one t) h j ≤ h * 16
+  unfolding metAt
+  met-le zero u j = zero-le
+  met-le (suc h) u j =
+      let a : occ j (hub (read one t) h .waiters) ≤ 16 = rw (wait-words t h u) (omega (arith, occ-le j (numbers (waitPart one t h)), length-numbers (waitPart one t h), length-take 16 (drop (216 + h * 16) t))) in
+      omega (arith, met-le h (omega arith) j)
+
+  pub passing-begin : Passing t m₀ m₀ 0
+  unfolding metAt
+  passing-begin = record { inside = zero-le; long = refl; right = forAll-none (hubRight t); marks = λ j. sym (add-zero (getD m₀ j 0)) }
+
+  module _ (m : List ℕ) (h : ℕ) (w : Passing t m₀ m h) where
+    pub passing-low : Used t → Marks 16 m₀ → h < getD t 2 0 → Marks 256 m
+    passing-low o ok u = record {
+      long = w .long ∙ ok .long;
+      low = λ j. omega (arith, w .marks j, ok .low j, met-le h (w .inside) j, o .hubs);
+    }
+
+    pub passing-end : getD t 2 0 ≤ h → Marked true hubs met m₀ m
+    passing-end u =
+        let q : h ≡ getD t 2 0 = omega (arith, w .inside) in
+        record {
+          right = sym (rw q at (w .right));
+          long = w .long;
+          marks = λ f j. rw q at (w .marks j);
+        }
+
+    module _ (u : h < getD t 2 0) (r : Bool) (n : List ℕ) (g : Marked r (hubRight t h) (λ j. occ j (hub (read one t) h .waiters)) m n) where
+      pub passing-no : r ≡ false → Marked false hubs met m₀ n
+      passing-no e = record {
+        right = sym (forAll-fail (hubRight t) (getD t 2 0) h u (sym (g .right) ∙ e));
+        long = g .long ∙ w .long;
+        marks = λ f. absurd (false≢true f);
+      }
+
+      pub passing-step : r ≡ true → Passing t m₀ n (h + 1)
+      unfolding metAt
+      passing-step e = record {
+        inside = omega arith;
+        long = g .long ∙ w .long;
+        right = forAll-step (hubRight t) h (w .right) (sym (g .right) ∙ e);
+        marks = λ j. rw add-one (omega (arith, g .marks e j, w .marks j));
+      }

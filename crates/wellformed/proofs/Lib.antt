@@ -1,0 +1,7 @@
+pub mod Hubs
+pub mod Marks
+pub mod Numbers
+pub mod Parts
+pub mod Queues
+pub mod Turns
+pub mod Whole

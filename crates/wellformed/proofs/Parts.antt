@@ -1,0 +1,16 @@
+-- Parts of a slice as the code lends them: from a to a + n, and from k to the end. Assumes nothing.
+use Prim.Native.Nat.{_+_, _-_, _≤_, ℕ}
+use lib.ListN.{drop, length, length-drop, take}
+use lib.Seq.{length-take-le, take-all}
+use mathlib.Core.List.{List}
+use mathlib.Core.Path.{_≡_, ap}
+use native.Mathlib.Omega.{arith}
+
+pub so-many : (a n : ℕ) (t : List ℕ) → take (a + n - a) (drop a t) ≡ take n (drop a t)
+so-many a n t = let e : a + n - a ≡ n = omega arith in ap (λ (k : ℕ). take k (drop a t)) e
+
+pub to-end : (k : ℕ) (t : List ℕ) → take (length t - k) (drop k t) ≡ drop k t
+to-end k t = take-all (length t - k) (drop k t) (rw (length-drop k t) (omega arith))
+
+pub part-long : (t : List ℕ) (a n : ℕ) → a + n ≤ length t → length (take n (drop a t)) ≡ n
+part-long t a n h = length-take-le n (drop a t) (rw (length-drop a t) (omega arith))

@@ -1,0 +1,183 @@
+-- A turn of each loop of this crate, and its end: what is left of a list's walk, of the marks, and of a test of every number.
+-- Not here: laws of `packed`, `allZero` and `numbers` alone (crate lists). Assumes nothing.
+use Prim.Native.Nat.{_*_, _+_, _-_, _<_, _≤_, pred, suc, zero, zero-le, ℕ}
+use Rattle.lists.proofs.Laws.{boolCase, length-numbers}
+use Rattle.lists.specs.Lists.{allZero, bit, numbers, occ}
+use Rattle.rules.proofs.Reading.{read-hub, read-task, read-tasks}
+use Rattle.rules.specs.Table.{Hub, State, Task, hub, hubAt, one, read, stageOf, task, taskAt}
+use Rattle.rules.specs.WellFormed.{fieldsRight, forAll, stageRight}
+use Rattle.wellformed.proofs.Parts.{to-end}
+use Rattle.wellformed.specs.Walks.{Marked, Marks, listed, meets, taskRight, walks}
+use borrow.Author.Tests.{eq-eqb, eqb-false, eqb-true, le-leb, lt-leb, ne-eqb}
+use lib.Dec.{eqb, leb}
+use lib.ListN.{drop, drop-of-length-le, getD, length, length-set, set, take}
+use lib.Seq.{drop-cons, getD-set-other, getD-set-same}
+use mathlib.Core.Bool.{Bool, _&&_, and-false, false, false≢true, not, true}
+use mathlib.Core.List.{List, [], _∷_}
+use mathlib.Core.Path.{_∙_, _≡_, ap, refl, sym}
+use native.Mathlib.Nat.{add-zero, not-suc-le-zero}
+use native.Mathlib.Numerals.{add-one}
+use native.Mathlib.Omega.{arith}
+
+-- ---- a list's walk from place k on, by the word there
+
+module _ (l : List ℕ) (k : ℕ) (h : k < length l) where
+  module _ (s : State) (a d owner p : ℕ) where
+    pub walks-end : getD l k 0 ≡ 0 → walks s a d owner p (drop k l) ≡ allZero (drop k l)
+    unfolding allZero walks
+    walks-end e = rw (drop-cons l k 0 h, eq-eqb (getD l k 0) 0 e)
+
+    pub walks-turn : (getD l k 0 ≡ 0 → ⊥) → walks s a d owner p (drop k l) ≡ (meets s a d owner p (getD l k 0) && walks s a d owner (task s (pred (getD l k 0)) .priority) (drop (suc k) l))
+    unfolding walks
+    walks-turn n = rw (drop-cons l k 0 h, ne-eqb (getD l k 0) 0 n)
+
+  pub numbers-end : getD l k 0 ≡ 0 → numbers (drop k l) ≡ []
+  unfolding numbers
+  numbers-end e = rw (drop-cons l k 0 h, eq-eqb (getD l k 0) 0 e)
+
+  pub numbers-turn : (getD l k 0 ≡ 0 → ⊥) → numbers (drop k l) ≡ pred (getD l k 0) ∷ numbers (drop (suc k) l)
+  unfolding numbers
+  numbers-turn n = rw (drop-cons l k 0 h, ne-eqb (getD l k 0) 0 n)
+
+-- ---- an entry, by its task's words
+
+module _ (t : List ℕ) (e : ℕ) (n : e ≡ 0 → ⊥) (u : e ≤ getD t 1 0) where
+  known : task (read one t) (pred e) ≡ taskAt one t (pred e)
+  known = read-task one t (pred e) (omega arith)
+
+  pub entry-priority : task (read one t) (pred e) .priority ≡ getD t (e * 8 + 2) 0
+  unfolding taskAt
+  entry-priority = let q : 8 + pred e * 8 + 2 ≡ e * 8 + 2 = omega arith in ap (λ (x : Task). x .priority) known ∙ ap (λ (k : ℕ). getD t k 0) q
+
+  pub entry-hub : task (read one t) (pred e) .hub ≡ getD t (e * 8 + 3) 0
+  unfolding taskAt
+  entry-hub = let q : 8 + pred e * 8 + 3 ≡ e * 8 + 3 = omega arith in ap (λ (x : Task). x .hub) known ∙ ap (λ (k : ℕ). getD t k 0) q
+
+  pub entry-side : task (read one t) (pred e) .side ≡ getD t (e * 8 + 5) 0
+  unfolding taskAt
+  entry-side = let q : 8 + pred e * 8 + 5 ≡ e * 8 + 5 = omega arith in ap (λ (x : Task). x .side) known ∙ ap (λ (k : ℕ). getD t k 0) q
+
+  pub meets-words : (a d owner p : ℕ) → meets (read one t) a d owner p e ≡ (eqb (getD t (e * 8 + 3) 0) a && (eqb (getD t (e * 8 + 5) 0) d && (leb p (getD t (e * 8 + 2) 0) && not (eqb e owner))))
+  unfolding meets
+  meets-words a d owner p = rw (read-tasks one t, le-leb e (getD t 1 0) u, entry-hub, entry-side, entry-priority)
+
+pub meets-far : (t : List ℕ) (a d owner p e : ℕ) → getD t 1 0 < e → meets (read one t) a d owner p e ≡ false
+unfolding meets
+meets-far t a d owner p e h = rw (read-tasks one t, lt-leb e (getD t 1 0) h)
+
+-- ---- a task's record by its words, and the kind of the hub that it names
+
+pub hub-kind : (t : List ℕ) (n : ℕ) → (n ≡ 0 → ⊥) → n ≤ getD t 2 0 → hub (read one t) (pred n) .kind ≡ getD t (132 + n * 4) 0
+unfolding hubAt
+hub-kind t n z u =
+    let q : 136 + pred n * 4 + 0 ≡ 132 + n * 4 = omega arith in
+    ap (λ (x : Hub). x .kind) (read-hub one t (pred n) (omega arith)) ∙ ap (λ (k : ℕ). getD t k 0) q
+
+module _ (t : List ℕ) (i mark : ℕ) (u : i < getD t 1 0) where
+  state-word : taskAt one t i .state ≡ getD t (8 + i * 8) 0
+  unfolding taskAt
+  state-word = rw add-zero
+
+  pub task-range : fieldsRight (taskAt one t i) ≡ false → taskRight (read one t) i mark ≡ false
+  unfolding taskRight
+  task-range e = rw (read-task one t i u, e)
+
+  pub task-stage : fieldsRight (taskAt one t i) ≡ true → (n : ℕ) → getD t (8 + i * 8) 0 ≡ n → taskRight (read one t) i mark ≡ (stageRight (stageOf n) (read one t) (taskAt one t i) && eqb mark (listed n))
+  unfolding taskRight
+  task-stage e n q = rw (read-task one t i u, e, state-word ∙ q)
+
+-- ---- the marks
+
+pub mark-step : (m : List ℕ) (i j : ℕ) → i < length m → getD (set m i (getD m i 0 + 1)) j 0 ≡ getD m j 0 + bit (eqb i j)
+mark-step m i j h =
+    boolCase (eqb i j)
+    (λ b. rw (b, ← eqb-true i j b) (getD-set-same m i (getD m i 0 + 1) 0 h))
+    (λ b. rw b (rw add-zero (getD-set-other m i j (getD m i 0 + 1) 0 (λ e. eqb-false i j b (sym e)))))
+
+pub occ-le : (j : ℕ) (l : List ℕ) → occ j l ≤ length l
+unfolding occ
+occ-le j [] = zero-le
+occ-le j (x ∷ xs) = boolCase (eqb x j) (λ b. rw b (omega (arith, occ-le j xs))) (λ b. rw b (omega (arith, occ-le j xs)))
+
+-- ---- a walk of a list of 16 words at place k, where the last priority was p and the marks m
+
+pub record Walking (t l : List ℕ) (a d owner : ℕ) (m₀ m : List ℕ) (p k : ℕ) : Type 0 where
+  pub inside : k ≤ 16
+  pub long : length m ≡ length m₀
+  pub rest : walks (read one t) a d owner 0 l ≡ walks (read one t) a d owner p (drop k l)
+  pub met : (j : ℕ) → getD m j 0 + occ j (numbers (drop k l)) ≡ getD m₀ j 0 + occ j (numbers l)
+
+module _ (t l : List ℕ) (a d owner : ℕ) (m₀ : List ℕ) where
+  pub walking-begin : {n : ℕ} → Marks n m₀ → Walking t l a d owner m₀ m₀ 0 0
+  walking-begin w = record { inside = zero-le; long = refl; rest = refl; met = λ j. refl }
+
+  module _ (m : List ℕ) (p k : ℕ) (w : Walking t l a d owner m₀ m p k) (n : length l ≡ 16) where
+    pub walking-low : {b : ℕ} → Marks b m₀ → (j : ℕ) → getD m j 0 ≤ b + 16
+    walking-low ok j = omega (arith, w .met j, ok .low j, occ-le j (numbers l), length-numbers l)
+
+    refused : walks (read one t) a d owner p (drop k l) ≡ false → Marked false (walks (read one t) a d owner 0 l) (λ j. occ j (numbers l)) m₀ m
+    refused e = record { right = sym (w .rest ∙ e); long = w .long; marks = λ f. absurd (false≢true f) }
+
+    accepted : (r : Bool) → r ≡ walks (read one t) a d owner p (drop k l) → numbers (drop k l) ≡ [] → Marked r (walks (read one t) a d owner 0 l) (λ j. occ j (numbers l)) m₀ m
+    unfolding occ
+    accepted r e z = record { right = e ∙ sym (w .rest); long = w .long; marks = λ f j. sym (add-zero (getD m j 0)) ∙ rw z at (w .met j) }
+
+    pub walking-full : 16 ≤ k → Marked true (walks (read one t) a d owner 0 l) (λ j. occ j (numbers l)) m₀ m
+    unfolding numbers walks
+    walking-full h =
+        let z : drop k l ≡ [] = drop-of-length-le l {i = k} (omega arith) in accepted true (rw z) (rw z)
+
+    module _ (h : k < 16) where
+      inner : k < length l
+      inner = omega arith
+
+      pub walking-end : getD l k 0 ≡ 0 → (r : Bool) → r ≡ allZero (take (length l - k) (drop k l)) → Marked r (walks (read one t) a d owner 0 l) (λ j. occ j (numbers l)) m₀ m
+      walking-end e r q =
+          accepted r (q ∙ ap allZero (to-end k l) ∙ sym (walks-end l k inner (read one t) a d owner p e)) (numbers-end l k inner e)
+
+      module _ (some : getD l k 0 ≡ 0 → ⊥) where
+        pub walking-far : getD t 1 0 < getD l k 0 → Marked false (walks (read one t) a d owner 0 l) (λ j. occ j (numbers l)) m₀ m
+        walking-far f =
+            refused (walks-turn l k inner (read one t) a d owner p some ∙ rw (meets-far t a d owner p (getD l k 0) f))
+
+        module _ (u : getD l k 0 ≤ getD t 1 0) where
+          turned : walks (read one t) a d owner p (drop k l) ≡ ((eqb (getD t (getD l k 0 * 8 + 3) 0) a && (eqb (getD t (getD l k 0 * 8 + 5) 0) d && (leb p (getD t (getD l k 0 * 8 + 2) 0) && not (eqb (getD l k 0) owner)))) && walks (read one t) a d owner (getD t (getD l k 0 * 8 + 2) 0) (drop (suc k) l))
+          turned =
+              walks-turn l k inner (read one t) a d owner p some
+              ∙ rw (meets-words t (getD l k 0) some u a d owner p, entry-priority t (getD l k 0) some u)
+
+          pub walking-miss : (eqb (getD t (getD l k 0 * 8 + 3) 0) a && (eqb (getD t (getD l k 0 * 8 + 5) 0) d && (leb p (getD t (getD l k 0 * 8 + 2) 0) && not (eqb (getD l k 0) owner)))) ≡ false → Marked false (walks (read one t) a d owner 0 l) (λ j. occ j (numbers l)) m₀ m
+          walking-miss e = refused (turned ∙ rw e)
+
+          pub walking-hit : length m₀ ≡ 16 → getD t 1 0 ≤ 16 → (eqb (getD t (getD l k 0 * 8 + 3) 0) a && (eqb (getD t (getD l k 0 * 8 + 5) 0) d && (leb p (getD t (getD l k 0 * 8 + 2) 0) && not (eqb (getD l k 0) owner)))) ≡ true → Walking t l a d owner m₀ (set m (getD l k 0 - 1) (getD m (getD l k 0 - 1) 0 + 1)) (getD t (getD l k 0 * 8 + 2) 0) (k + 1)
+          unfolding occ
+          walking-hit all few e = record {
+            inside = omega arith;
+            long = length-set m (getD l k 0 - 1) (getD m (getD l k 0 - 1) 0 + 1) ∙ w .long;
+            rest = rw add-one (w .rest ∙ turned ∙ rw e);
+            met = λ j.
+                let q : getD l k 0 - 1 ≡ pred (getD l k 0) = omega arith in
+                let x = rw (numbers-turn l k inner some) at (w .met j) in
+                rw (q, mark-step m (pred (getD l k 0)) j (omega (arith, w .long)), add-one k) (omega (arith, x));
+          }
+
+-- ---- a test of every number below n, from 0 up
+
+pub forAll-fail : (p : ℕ → Bool) (n k : ℕ) → k < n → p k ≡ false → forAll n p ≡ false
+unfolding forAll
+forAll-fail p zero k h e = absurd (not-suc-le-zero h)
+forAll-fail p (suc n) k h e =
+    boolCase (eqb k n)
+    (λ b. rw (← eqb-true k n b, e))
+    (λ b. let m = eqb-false k n b in rw (forAll-fail p n k (omega arith) e, and-false))
+
+pub forAll-none : (p : ℕ → Bool) → forAll 0 p ≡ true
+unfolding forAll
+forAll-none p = refl
+
+pub forAll-step : (p : ℕ → Bool) (k : ℕ) → forAll k p ≡ true → p k ≡ true → forAll (k + 1) p ≡ true
+unfolding forAll
+forAll-step p k a e = rw (add-one, e, a)
+
+pub forAll-end : (p : ℕ → Bool) (n k : ℕ) → k ≤ n → n ≤ k → forAll k p ≡ true → forAll n p ≡ true
+forAll-end p n k a b e = let q : n ≡ k = omega arith in rw (q, e)

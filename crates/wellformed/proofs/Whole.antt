@@ -1,0 +1,303 @@
+-- The tests of this crate, taken together, are `wellFormed`: `passed-well` and `well-passed`.
+-- Not here: what a walk of a list says (Queues.antt), exact lists by marks (Marks.antt). Assumes nothing.
+use Prim.Native.Nat.{_+_, _<_, _≤_, pred, suc, zero, ℕ}
+use Rattle.lists.proofs.Laws.{boolCase, length-numbers}
+use Rattle.lists.specs.Lists.{numbers, occ, packed}
+use Rattle.rules.proofs.Cases.{and-l, and-r}
+use Rattle.rules.proofs.Reading.{Written, read-fits, read-hub, read-hubs, read-tasks, written-says}
+use Rattle.rules.proofs.Standing.{listed-ready, listed-waiting, listed-waits}
+use Rattle.rules.proofs.Tests.{t-all, t-each, t-is, t-kind, t-may, t-oneSide, t-records, t-sorted, t-task, tested}
+use Rattle.rules.proofs.Valid.{Records, Valid}
+use Rattle.rules.specs.Table.{Hub, State, Task, hub, hubAt, hubWordAt, inactive, kindOf, one, part, read, sideOf, stageOf, storePart, task, waitPart}
+use Rattle.rules.specs.WellFormed.{contentsRight, fieldsRight, forAll, hubsRight, inOrder, kindRight, listsExact, listsPacked, mayWait, stageRight, storeRight, storesRight, tasksRight, unusedZero, urgency, valid, waitersRight, wellFormed, written}
+use Rattle.wellformed.proofs.Hubs.{wait-words}
+use Rattle.wellformed.proofs.Marks.{Placed, exact-marks, marks-exact, ready-shape}
+use Rattle.wellformed.proofs.Queues.{Entry, Line, Queue, first-in, first-none, low-zero, may-wait, queue-holds, queue-says, walks-holds, walks-says}
+use Rattle.wellformed.proofs.Turns.{occ-le}
+use Rattle.wellformed.specs.Walks.{Marked, Marks, Used, hubRight, listed, may, metAt, ownerOf, queueRight, taskRight, walks}
+use borrow.Author.Tests.{eq-eqb, eqb-false, eqb-true, leb-true, ltb-false, ltb-true, ne-eqb, not-true}
+use lib.Dec.{eqb, leb, ltb}
+use lib.ListN.{List·getD-eq-default, getD, length, replicate}
+use mathlib.Core.Bool.{Bool, _&&_, false, false≢true, not, true}
+use mathlib.Core.List.{List}
+use mathlib.Core.Path.{_∙_, _≡_, ap, refl, subst, sym}
+use native.Mathlib.Omega.{arith}
+
+-- how often task i is met in all lists
+abbrev markOf : List ℕ → ℕ → ℕ
+markOf t i = occ i (read one t .ready) + metAt (read one t) (getD t 2 0) i
+
+pub record Passed (t : List ℕ) : Type 0 where
+  pub used : Used t
+  pub contents : contentsRight one t ≡ true
+  pub unused : unusedZero one t ≡ true
+  pub ready : walks (read one t) 0 0 0 0 (part 200 16 t) ≡ true
+  pub hubs : forAll (getD t 2 0) (hubRight t) ≡ true
+  pub tasks : forAll (getD t 1 0) (λ i. taskRight (read one t) i (markOf t i)) ≡ true
+
+pub contents-used : (t : List ℕ) → length t ≡ 600 → contentsRight one t ≡ true → Used t
+unfolding contentsRight
+contents-used t l e =
+    let a = and-r (eqb (getD t 0 0) 1) _ e in
+    record {
+      long = l;
+      tasks = leb-true (getD t 1 0) 16 (and-l _ _ a);
+      hubs = leb-true (getD t 2 0) 16 (and-l _ _ (and-r (leb (getD t 1 0) 16) _ a));
+    }
+
+-- every number below n, one by one
+each-at : (n : ℕ) (p : ℕ → Bool) → forAll n p ≡ true → (i : ℕ) → i < n → p i ≡ true
+each-at n p = t-all (λ i. p i ≡ true) p (λ i. t-is (p i)) n .yes
+
+each-so : (n : ℕ) (p : ℕ → Bool) → ((i : ℕ) → i < n → p i ≡ true) → forAll n p ≡ true
+each-so n p = t-all (λ i. p i ≡ true) p (λ i. t-is (p i)) n .conv
+
+-- ---- what passed is well formed
+
+module _ (t : List ℕ) (p : Passed t) where
+  abbrev s : State
+  s = read one t
+
+  queue : Queue s 0 0 0 0 (part 200 16 t)
+  queue = walks-says s 0 0 0 0 (part 200 16 t) (p .ready)
+
+  module _ (h : ℕ) (u : h < getD t 2 0) where
+    right : hubRight t h ≡ true
+    right = each-at (getD t 2 0) (hubRight t) (p .hubs) h u
+
+    kind-passed : kindRight (kindOf (hub s h .kind)) (length (s .tasks)) (hub s h) ≡ true
+    unfolding hubRight
+    kind-passed = rw (read-tasks one t) (and-l _ _ right)
+
+    store-passed : storeRight one (kindOf (hubWordAt one t h 0)) (hubWordAt one t h 1) (storePart one t h) ≡ true
+    unfolding hubAt hubRight
+    store-passed =
+        let e : storeRight one (kindOf (hub s h .kind)) (hub s h .count) (storePart one t h) ≡ true = and-l _ _ (and-r (kindRight (kindOf (hub s h .kind)) (getD t 1 0) (hub s h)) _ right) in
+        rw (read-hub one t h u) at e
+
+    line : Line s h (hub s h) (waitPart one t h)
+    unfolding hubRight
+    line =
+        queue-says s h (hub s h) (waitPart one t h) (and-r (storeRight one (kindOf (hub s h .kind)) (hub s h .count) (storePart one t h)) _ (and-r (kindRight (kindOf (hub s h .kind)) (getD t 1 0) (hub s h)) _ right))
+
+    waits : (i : ℕ) → 1 ≤ occ i (hub s h .waiters) → 1 ≤ occ i (numbers (waitPart one t h))
+    waits i o = rw (wait-words t h u) at o
+
+    may-passed : (i : ℕ) → 1 ≤ occ i (hub s h .waiters) → mayWait (sideOf (task s i .side)) (kindOf (hub s h .kind)) (hub s h) i ≡ true
+    may-passed i o =
+        let g = line .queue .each i (waits i o) in
+        let a = may-wait (task s i .side) (hub s h .kind) (length (s .tasks)) i (hub s h) (t-kind (kindOf (hub s h .kind)) (length (s .tasks)) (hub s h) .yes kind-passed) in
+        a ∙ rw (g .side, line .allowed i (waits i o), ne-eqb (suc i) (ownerOf (hub s h .kind) (hub s h .count)) (g .other))
+
+  task-passed : (i : ℕ) → i < getD t 1 0 → taskRight s i (markOf t i) ≡ true
+  task-passed i u = each-at (getD t 1 0) (λ i. taskRight s i (markOf t i)) (p .tasks) i u
+
+  tasks-passed : tasksRight s ≡ true
+  unfolding taskRight tasksRight
+  tasks-passed =
+      each-so (length (s .tasks)) _
+      (λ i u. let e = task-passed i (rw (read-tasks one t) at u) in
+      rw (and-l (fieldsRight (task s i)) _ e) (and-l _ _ (and-r (fieldsRight (task s i)) _ e)))
+
+  placed : Placed s
+  unfolding read
+  placed = record {
+    ready = λ i o. let g = queue .each i o in (g .used, g .hub);
+    waiters = λ h k i o. let u = rw (read-hubs one t) at k in let g = line h u .queue .each i (waits h u i o) in (g .used, g .hub);
+  }
+
+  lists-passed : listsExact s ≡ true
+  unfolding taskRight
+  lists-passed =
+      marks-exact s (t-records s .yes tasks-passed) placed
+      (λ i u. rw (read-hubs one t) (eqb-true _ _ (and-r (stageRight (stageOf (task s i .state)) s (task s i)) _ (and-r (fieldsRight (task s i)) _ (task-passed i (rw (read-tasks one t) at u))))))
+
+  order-passed : inOrder s ≡ true
+  unfolding inOrder read
+  order-passed =
+      rw
+      (t-sorted (urgency s) (s .ready) .conv (queue .sorted))
+      (each-so (length (s .hubs)) _ (λ h k. let u = rw (read-hubs one t) at k in t-sorted (urgency s) (hub s h .waiters) .conv (rw (wait-words t h u) (line h u .queue .sorted))))
+
+  waiters-passed : waitersRight s ≡ true
+  unfolding waitersRight
+  waiters-passed =
+      each-so (length (s .hubs)) _
+      (λ h k. let u = rw (read-hubs one t) at k in
+      rw
+      (t-oneSide s (hub s h .waiters) .conv (λ i o j r. line h u .queue .each i (waits h u i o) .side ∙ sym (line h u .queue .each j (waits h u j r) .side)))
+      (t-each (λ i. mayWait (sideOf (task s i .side)) (kindOf (hub s h .kind)) (hub s h) i ≡ true) _ (λ i. t-is _) (hub s h .waiters) .conv (λ i o. may-passed h u i o)))
+
+  hubs-passed : hubsRight s ≡ true
+  unfolding hubsRight
+  hubs-passed = each-so (length (s .hubs)) _ (λ h k. kind-passed h (rw (read-hubs one t) at k))
+
+  valid-passed : valid s ≡ true
+  unfolding valid
+  valid-passed = rw (hubs-passed, lists-passed, order-passed, tasks-passed, waiters-passed)
+
+  written-passed : written one t ≡ true
+  unfolding listsPacked storesRight written
+  written-passed =
+      rw (
+        eq-eqb (length t) 600 (p .used .long),
+        p .contents,
+        p .unused,
+        queue .full,
+        each-so (getD t 2 0) (λ h. packed (waitPart one t h)) (λ h u. line h u .queue .full),
+      )
+      (each-so (getD t 2 0) _ store-passed)
+
+  pub passed-well : wellFormed t ≡ true
+  unfolding wellFormed
+  passed-well = rw (written-passed, valid-passed)
+
+-- ---- what is well formed passes
+
+-- a task that is ready or waits is in use
+in-use : (s : State) (i n : ℕ) → task s i .state ≡ suc (suc n) → i < length (s .tasks)
+unfolding inactive
+in-use s i n e =
+    boolCase (ltb i (length (s .tasks))) (ltb-true i _)
+    (λ b. absurd (omega (arith, e, ap (λ (x : Task). x .state) (List·getD-eq-default (s .tasks) (inactive 0) (ltb-false i (length (s .tasks)) b)))))
+
+module _ (t : List ℕ) (e : wellFormed t ≡ true) where
+  wrote : written one t ≡ true
+  unfolding wellFormed
+  wrote = and-l _ _ e
+
+  says : Written one t
+  says = written-says one t wrote
+
+  state : Valid (read one t)
+  unfolding wellFormed
+  state = let v = and-r (written one t) _ e in tested (read one t) (read-fits t wrote v) v
+
+  contents-pass : contentsRight one t ≡ true
+  unfolding written
+  contents-pass = and-l _ _ (and-r (eqb (length t) 600) _ wrote)
+
+  ready-pass : walks (read one t) 0 0 0 0 (part 200 16 t) ≡ true
+  unfolding read
+  ready-pass =
+      walks-holds (read one t) 0 0 0 0 (part 200 16 t)
+      (record { full = says .ready; each = entry; low = low-zero _ _; sorted = state .ordered .ready })
+    where
+      entry : (i : ℕ) → 1 ≤ occ i (read one t .ready) → Entry (read one t) 0 0 0 i
+      entry i o =
+          let two = listed-ready (read one t) (state .listed) i o in
+          let q = ready-shape (read one t) (task (read one t) i) (state .records .each i) two in
+          record { used = in-use (read one t) i 0 two; hub = q .0; side = q .1; other = λ z. omega arith }
+
+  module _ (h : ℕ) (u : h < getD t 2 0) where
+    abbrev x : Hub
+    x = hub (read one t) h
+
+    kind-pass : kindRight (kindOf (x .kind)) (length (read one t .tasks)) x ≡ true
+    kind-pass = t-kind (kindOf (x .kind)) (length (read one t .tasks)) x .conv (state .ranges .range h (rw (read-hubs one t) u))
+
+    store-pass : storeRight one (kindOf (x .kind)) (x .count) (storePart one t h) ≡ true
+    unfolding hubAt
+    store-pass = rw (read-hub one t h u) (says .stores h u)
+
+    module _ (i : ℕ) (o : 1 ≤ occ i (numbers (waitPart one t h))) where
+      stands : 1 ≤ occ i (x .waiters)
+      stands = rw (wait-words t h u) o
+
+      may-pass : (may (task (read one t) i .side) (x .kind) (x .count) (x .limit) && not (eqb (suc i) (ownerOf (x .kind) (x .count)))) ≡ true
+      may-pass =
+          sym (may-wait (task (read one t) i .side) (x .kind) (length (read one t .tasks)) i x (t-kind (kindOf (x .kind)) (length (read one t .tasks)) x .yes kind-pass))
+          ∙ t-may (sideOf (task (read one t) i .side)) (kindOf (x .kind)) x i .conv (state .waits .may h i (listed-waiting (read one t) (state .listed) h i stands))
+
+    abbrev first : ℕ
+    first = pred (getD (waitPart one t h) 0 0)
+
+    same-side : (i : ℕ) → 1 ≤ occ i (numbers (waitPart one t h)) → task (read one t) i .side ≡ task (read one t) first .side
+    same-side i o =
+        state .waits .oneSide h i first (listed-waiting (read one t) (state .listed) h i (stands i o))
+        (listed-waiting (read one t) (state .listed) h first (stands first (first-in (waitPart one t h) (λ z. first-none (waitPart one t h) z i o))))
+
+    line-pass : Line (read one t) h x (waitPart one t h)
+    line-pass = record {
+      side = task (read one t) first .side;
+      queue = record {
+        full = says .waiters h u;
+        each = λ i o. let three = listed-waits (read one t) (state .listed) h i (stands i o) in
+            record {
+              used = in-use (read one t) i 1 (three .0);
+              hub = three .1;
+              side = same-side i o;
+              other = eqb-false _ _ (not-true _ (and-r (may (task (read one t) i .side) (x .kind) (x .count) (x .limit)) _ (may-pass i o)));
+            };
+        low = low-zero _ _;
+        sorted = rw (wait-words t h u) at (state .ordered .waiters h);
+      };
+      allowed = λ i o. rw (same-side i o) at (and-l (may (task (read one t) i .side) (x .kind) (x .count) (x .limit)) _ (may-pass i o));
+    }
+
+    hub-pass : hubRight t h ≡ true
+    unfolding hubRight
+    hub-pass =
+        rw (rw (read-tasks one t) at kind-pass, store-pass) (queue-holds (read one t) h x (waitPart one t h) line-pass)
+
+  task-pass : (i : ℕ) → taskRight (read one t) i (markOf t i) ≡ true
+  unfolding taskRight
+  task-pass i =
+      let q = t-task (read one t) (task (read one t) i) .conv (state .records .each i) in
+      let m : markOf t i ≡ listed (task (read one t) i .state) = rw (read-hubs one t) at (exact-marks (read one t) (state .records) (state .listed) i) in
+      let a : fieldsRight (task (read one t) i) ≡ true = and-l _ _ q in
+      rw (a, and-r (fieldsRight (task (read one t) i)) _ q, eq-eqb (markOf t i) _ m)
+
+  pub well-passed : Passed t
+  well-passed = record {
+    used = record { long = says .long; tasks = says .tasks; hubs = says .hubs };
+    contents = contents-pass;
+    unused = says .unused;
+    ready = ready-pass;
+    hubs = each-so (getD t 2 0) (hubRight t) hub-pass;
+    tasks = each-so (getD t 1 0) (λ i. taskRight (read one t) i (markOf t i)) (λ i u. task-pass i);
+  }
+
+-- ---- a test that well formed tables pass, and the last one
+
+pub refused : (t : List ℕ) (b : Bool) → (wellFormed t ≡ true → b ≡ true) → b ≡ false → false ≡ wellFormed t
+refused t b f e = boolCase (wellFormed t) (λ w. absurd (false≢true (sym e ∙ f w))) (λ w. sym w)
+
+settled : (t : List ℕ) (b : Bool) → (wellFormed t ≡ true → b ≡ true) → (b ≡ true → wellFormed t ≡ true) → b ≡ wellFormed t
+settled t b f g = boolCase b (λ e. rw (e, g e)) (λ e. rw e (refused t b f e))
+
+-- the same test of every number
+forAll-same : (n : ℕ) (p q : ℕ → Bool) → ((i : ℕ) → p i ≡ q i) → forAll n p ≡ forAll n q
+unfolding forAll
+forAll-same zero p q f = refl
+forAll-same (suc n) p q f = rw (f n, forAll-same n p q f)
+
+-- ---- the marks, from none to all
+
+pub no-marks : (n j : ℕ) → getD {A = ℕ} (replicate n 0) j 0 ≡ 0
+no-marks zero j = refl
+no-marks (suc n) zero = refl
+no-marks (suc n) (suc j) = no-marks n j
+
+pub ready-marks : {r test : Bool} {m : List ℕ} (l : List ℕ) → Marked r test (λ j. occ j (numbers l)) (replicate 16 0) m → r ≡ true → length l ≡ 16 → Marks 16 m
+ready-marks l g e n = record {
+  long = g .long;
+  low = λ j. omega (arith, g .marks e j, no-marks 16 j, occ-le j (numbers l), length-numbers l);
+}
+
+-- all tests but the last have passed, and the last is of the marks that they left
+pub whole : (t : List ℕ) {m n : List ℕ} (a b r : Bool) → Used t → contentsRight one t ≡ true → unusedZero one t ≡ true
+    → Marked a (walks (read one t) 0 0 0 0 (part 200 16 t)) (λ j. occ j (numbers (part 200 16 t))) (replicate 16 0) m → a ≡ true
+    → Marked b (forAll (getD t 2 0) (hubRight t)) (metAt (read one t) (getD t 2 0)) m n → b ≡ true
+    → r ≡ forAll (getD t 1 0) (λ i. taskRight (read one t) i (getD n i 0)) → r ≡ wellFormed t
+unfolding read
+whole t {m} {n} a b r u c z f fa g gb e =
+    settled t r (λ w. same ∙ well-passed t w .tasks)
+    (λ o. passed-well t (record { used = u; contents = c; unused = z; ready = sym (f .right) ∙ fa; hubs = sym (g .right) ∙ gb; tasks = sym same ∙ o }))
+  where
+    mark : (j : ℕ) → getD n j 0 ≡ markOf t j
+    mark j = omega (arith, f .marks fa j, g .marks gb j, no-marks 16 j)
+
+    same : r ≡ forAll (getD t 1 0) (λ i. taskRight (read one t) i (markOf t i))
+    same =
+        e ∙ forAll-same (getD t 1 0) (λ i. taskRight (read one t) i (getD n i 0)) (λ i. taskRight (read one t) i (markOf t i)) (λ i. ap (taskRight (read one t) i) (mark i))

@@ -1,0 +1,85 @@
+-- What each function of this crate tests: a list of words in one walk, a hub with its store and its list, a task with its
+-- mark. In the code's order. Not here: that together they are `wellFormed` (proofs/).
+use Prim.Native.Nat.{_+_, _≤_, pred, suc, zero, ℕ}
+use Rattle.lists.specs.Lists.{allZero, bit, occ}
+use Rattle.rules.specs.Table.{Hub, State, hub, kindOf, one, read, stageOf, storePart, task, waitPart}
+use Rattle.rules.specs.WellFormed.{fieldsRight, kindRight, stageRight, storeRight}
+use lib.Dec.{eqb, leb}
+use lib.ListN.{getD, length}
+use mathlib.Core.Bool.{Bool, _&&_, _||_, cond, not, true}
+use mathlib.Core.List.{List, [], _∷_}
+use mathlib.Core.Path.{_≡_}
+
+-- a table whose length and counts are right, so that every place that is read is in it
+pub record Used (t : List ℕ) : Type 0 where
+  pub long : length t ≡ 600
+  pub tasks : getD t 1 0 ≤ 16
+  pub hubs : getD t 2 0 ≤ 16
+
+-- ---- one list
+
+-- entry x: a task in use, at this hub, on this side, not more urgent than the entry before it, and not the owner
+unfoldable pub meets : State → ℕ → ℕ → ℕ → ℕ → ℕ → Bool
+meets s h d owner p x =
+    leb x (length (s .tasks))
+    && (eqb (task s (pred x) .hub) h
+    && (eqb (task s (pred x) .side) d && (leb p (task s (pred x) .priority) && not (eqb x owner))))
+
+-- such entries, then nothing but zeros
+unfoldable pub walks : State → ℕ → ℕ → ℕ → ℕ → List ℕ → Bool
+walks s h d owner p [] = true
+walks s h d owner p (x ∷ xs) =
+    cond (eqb x 0) (allZero xs) (meets s h d owner p x && walks s h d owner (task s (pred x) .priority) xs)
+
+-- a mark for each task, none above n
+pub record Marks (n : ℕ) (m : List ℕ) : Type 0 where
+  pub long : length m ≡ 16
+  pub low : (j : ℕ) → getD m j 0 ≤ n
+
+-- what a walk that marks the tasks that it meets gives back
+pub record Marked (r test : Bool) (met : ℕ → ℕ) (before after : List ℕ) : Type 0 where
+  pub right : r ≡ test
+  pub long : length after ≡ length before
+  pub marks : r ≡ true → (j : ℕ) → getD after j 0 ≡ getD before j 0 + met j
+
+-- ---- a hub
+
+-- who may wait, but for a Resource's owner, where the hub's ranges are right: a Port's count and limit are 0
+abbrev pub may : ℕ → ℕ → ℕ → ℕ → Bool
+may side kind count limit =
+    (eqb side 1 && (not (eqb kind 5) && eqb count limit))
+    || (eqb side 2 && ((eqb kind 5 && not (eqb count 0)) || (not (eqb kind 5) && eqb count 0)))
+
+-- a Resource's owner plus 1, else 0
+abbrev pub ownerOf : ℕ → ℕ → ℕ
+ownerOf kind count = cond (eqb kind 5) count 0
+
+-- a hub's list: the side of the first entry may wait, and all others are on that side
+unfoldable pub queueRight : State → ℕ → Hub → List ℕ → Bool
+queueRight s h x l =
+    cond (eqb (getD l 0 0) 0) (allZero l)
+    (leb (getD l 0 0) (length (s .tasks))
+    && (may (task s (pred (getD l 0 0)) .side) (x .kind) (x .count) (x .limit)
+    && walks s (suc h) (task s (pred (getD l 0 0)) .side) (ownerOf (x .kind) (x .count)) 0 l))
+
+unfoldable pub hubRight : List ℕ → ℕ → Bool
+hubRight t h =
+    kindRight (kindOf (hub (read one t) h .kind)) (getD t 1 0) (hub (read one t) h)
+    && (storeRight one (kindOf (hub (read one t) h .kind)) (hub (read one t) h .count) (storePart one t h)
+    && queueRight (read one t) h (hub (read one t) h) (waitPart one t h))
+
+-- how often task j stands in the lists of the hubs below n
+unfoldable pub metAt : State → ℕ → ℕ → ℕ
+metAt s zero j = 0
+metAt s (suc n) j = metAt s n j + occ j (hub s n .waiters)
+
+-- ---- a task
+
+-- a task stands in a list where it is ready or waits
+abbrev pub listed : ℕ → ℕ
+listed n = bit (eqb n 2 || eqb n 3)
+
+unfoldable pub taskRight : State → ℕ → ℕ → Bool
+taskRight s i mark =
+    fieldsRight (task s i)
+    && (stageRight (stageOf (task s i .state)) s (task s i) && eqb mark (listed (task s i .state)))

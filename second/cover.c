@@ -1,0 +1,692 @@
+/* The coverage rows and what counts as a hit of each. */
+#include "cover.h"
+
+#include <stdio.h>
+#include <string.h>
+
+#include "gen.h"
+#include "numbers.h"
+
+/* ---- Rows -------------------------------------------------------------- */
+
+typedef enum {
+    MET_ALONE, MET_WITH_WAITER, NOT_NOW_NW, NOT_NOW_W, NOT_NOW_WT, FAIL_W, FAIL_NW, FAIL_WT,
+    OUTCOMES
+} hub_outcome;
+
+/* Rows that stand alone. Those above them are products: services, kind by side
+ * by outcome, kind by side; those below are the families of damaged tables. */
+#define SINGLE_ROWS(ROW)                                                        \
+    ROW(MEETS_SUSPENDED, "request: meets a suspended waiter")                   \
+    ROW(MEETS_URGENT, "request: meets a more urgent waiter, who runs next")     \
+    ROW(OWNER_SUSPENDED, "request: a suspended waiter becomes owner")           \
+    ROW(JOINS_BEHIND_EQUAL, "request: waits behind an equal")                   \
+    ROW(JOINS_BEFORE, "request: waits before a less urgent")                    \
+    ROW(LIST_OF_8, "request: waits as the 8th or later")                        \
+    ROW(LIST_OF_15, "request: waits as the 15th")                               \
+    ROW(FIFO_OF_8, "request: a FIFO's 8th word")                                \
+    ROW(WORD_0_PASSED, "request: word 0 received")                              \
+    ROW(WAITS_MAX, "request: waits with 1000000 ticks")                         \
+    ROW(WAITS_1, "request: waits with 1 tick")                                  \
+    ROW(START_OK, "Start: inactive")                                            \
+    ROW(START_OWNER, "Start: inactive, owns a Resource")                        \
+    ROW(START_READY, "Start FAIL: ready")                                       \
+    ROW(START_WAITING, "Start FAIL: waiting")                                   \
+    ROW(START_SLEEPING, "Start FAIL: sleeping")                                 \
+    ROW(START_CALLER, "Start FAIL: the caller")                                 \
+    ROW(STOP_READY, "Stop: ready")                                              \
+    ROW(STOP_SLEEPING, "Stop: sleeper")                                         \
+    ROW(STOP_SUSPENDED_READY, "Stop: suspended, ready")                         \
+    ROW(STOP_SUSPENDED_WAITING, "Stop: suspended, waiting")                     \
+    ROW(STOP_SUSPENDED_SLEEPING, "Stop: suspended, sleeping")                   \
+    ROW(STOP_OWNER, "Stop: owns a Resource")                                    \
+    ROW(STOP_OWNER_AWAITED, "Stop: owns a Resource that tasks wait for")        \
+    ROW(STOP_INACTIVE, "Stop FAIL: inactive")                                   \
+    ROW(STOP_CALLER, "Stop FAIL: the caller")                                   \
+    ROW(SUSPEND_READY, "Suspend: ready")                                        \
+    ROW(SUSPEND_WAITING, "Suspend: waiting")                                    \
+    ROW(SUSPEND_SLEEPING, "Suspend: sleeping")                                  \
+    ROW(SUSPEND_INACTIVE, "Suspend FAIL: inactive")                             \
+    ROW(SUSPEND_SUSPENDED, "Suspend FAIL: suspended")                           \
+    ROW(SUSPEND_CALLER, "Suspend FAIL: the caller")                             \
+    ROW(RESUME_READY, "Resume: ready")                                          \
+    ROW(RESUME_URGENT, "Resume: ready, runs next")                              \
+    ROW(RESUME_WAITING, "Resume: waiting")                                      \
+    ROW(RESUME_SLEEPING, "Resume: sleeping")                                    \
+    ROW(RESUME_NOT_SUSPENDED, "Resume FAIL: not suspended")                     \
+    ROW(RESUME_INACTIVE, "Resume FAIL: inactive")                               \
+    ROW(RESUME_CALLER, "Resume FAIL: the caller")                               \
+    ROW(YIELD_ALONE, "Yield: no equal")                                         \
+    ROW(YIELD_EQUALS, "Yield: behind an equal")                                 \
+    ROW(YIELD_SUSPENDED, "Yield: behind a suspended equal only")                \
+    ROW(SLEEP_1, "Sleep: 1 tick")                                               \
+    ROW(SLEEP_MAX, "Sleep: 1000000 ticks")                                      \
+    ROW(NONE_LEFT, "nobody runs after Sleep or a request")                      \
+    ROW(NEXT_NOT_FIRST, "next isn't the first ready task: it is suspended")     \
+    ROW(TICK_NOTHING, "Tick: nobody's time is out")                             \
+    ROW(TICK_ONE, "Tick: one task's time is out")                               \
+    ROW(TICK_MORE, "Tick: several tasks' time is out")                          \
+    ROW(TICK_SLEEPER, "Tick: a sleeper wakes")                                  \
+    ROW(TICK_SUSPENDED_WAITING, "Tick: a suspended waiter times out")           \
+    ROW(TICK_SUSPENDED_SLEEPING, "Tick: a suspended sleeper wakes")             \
+    ROW(TICK_NOBODY_RUNS, "Tick: with nobody running")                          \
+    ROW(ADD_TASK_INACTIVE, "Add task: side 0")                                  \
+    ROW(ADD_TASK_STARTED, "Add task: side 1")                                   \
+    ROW(ADD_TASK_URGENT, "Add task: side 1, runs next")                         \
+    ROW(ADD_TASK_255, "Add task: priority 255")                                 \
+    ROW(ADD_TASK_16TH, "Add task: the 16th")                                    \
+    ROW(ADD_EVENT, "Add hub: Event")                                            \
+    ROW(ADD_SEMAPHORE, "Add hub: Semaphore")                                    \
+    ROW(ADD_PORT, "Add hub: Port")                                              \
+    ROW(ADD_FIFO, "Add hub: FIFO")                                              \
+    ROW(ADD_RESOURCE, "Add hub: Resource")                                      \
+    ROW(ADD_SEMAPHORE_MAX, "Add hub: Semaphore, limit 65535")                   \
+    ROW(ADD_HUB_16TH, "Add hub: the 16th")                                      \
+    ROW(BLANK_DAMAGED, "Blank: on a damaged table")                             \
+    ROW(LENGTH_0, "refusal 1: 0 words")                                         \
+    ROW(LENGTH_599, "refusal 1: 599 words")                                     \
+    ROW(LENGTH_601, "refusal 1: 601 words")                                     \
+    ROW(BYTES_2399, "refusal 1: 2399 bytes")                                    \
+    ROW(BYTES_2401, "refusal 1: 2401 bytes")                                    \
+    ROW(DAMAGED_AND_3, "refusal 2: service above 10 as well")                   \
+    ROW(SERVICE_11, "refusal 3: service 11")                                    \
+    ROW(SERVICE_ABOVE, "refusal 3: service above 11")                           \
+    ROW(CALLER_REQUEST, "refusal 4: Hub request, another task runs")            \
+    ROW(CALLER_START, "refusal 4: Start, another task runs")                    \
+    ROW(CALLER_STOP, "refusal 4: Stop, another task runs")                      \
+    ROW(CALLER_SUSPEND, "refusal 4: Suspend, another task runs")                \
+    ROW(CALLER_RESUME, "refusal 4: Resume, another task runs")                  \
+    ROW(CALLER_YIELD, "refusal 4: Yield, another task runs")                    \
+    ROW(CALLER_SLEEP, "refusal 4: Sleep, another task runs")                    \
+    ROW(CALLER_NO_TASK, "refusal 4: caller not in use")                         \
+    ROW(NOBODY_RUNS, "refusal 4: nobody runs")                                  \
+    ROW(NOBODY_RUNS_MAX, "refusal 4: nobody runs, caller 4294967295")           \
+    ROW(CALLER_AND_5, "refusal 4: target not in use as well")                   \
+    ROW(CALLER_AND_6, "refusal 4: an argument wrong as well")                   \
+    ROW(TARGET_REQUEST, "refusal 5: Hub request")                               \
+    ROW(TARGET_START, "refusal 5: Start")                                       \
+    ROW(TARGET_STOP, "refusal 5: Stop")                                         \
+    ROW(TARGET_SUSPEND, "refusal 5: Suspend")                                   \
+    ROW(TARGET_RESUME, "refusal 5: Resume")                                     \
+    ROW(TARGET_AND_6, "refusal 5: an argument wrong as well")                   \
+    ROW(SIDE_0, "refusal 6: Hub request, side 0")                               \
+    ROW(SIDE_ABOVE, "refusal 6: Hub request, side above 2")                     \
+    ROW(MODE_0, "refusal 6: Hub request, mode 0")                               \
+    ROW(MODE_ABOVE, "refusal 6: Hub request, mode above 3")                     \
+    ROW(W_TICKS, "refusal 6: Hub request, ticks under W")                       \
+    ROW(NW_TICKS, "refusal 6: Hub request, ticks under NW")                     \
+    ROW(WT_0, "refusal 6: Hub request, WT, 0 ticks")                            \
+    ROW(WT_MAX_1, "refusal 6: Hub request, WT, 1000001 ticks")                  \
+    ROW(WT_ABOVE, "refusal 6: Hub request, WT, more ticks")                     \
+    ROW(SLEEP_0, "refusal 6: Sleep, 0 ticks")                                   \
+    ROW(SLEEP_MAX_1, "refusal 6: Sleep, 1000001 ticks")                         \
+    ROW(SLEEP_ABOVE, "refusal 6: Sleep, more ticks")                            \
+    ROW(PRIORITY_256, "refusal 6: Add task, priority 256")                      \
+    ROW(PRIORITY_ABOVE, "refusal 6: Add task, priority above 256")              \
+    ROW(TASK_SIDE, "refusal 6: Add task, side above 1")                         \
+    ROW(KIND_0, "refusal 6: Add hub, kind 0")                                   \
+    ROW(KIND_ABOVE, "refusal 6: Add hub, kind above 5")                         \
+    ROW(EVENT_LIMIT_0, "refusal 6: Add hub, Event, limit 0")                    \
+    ROW(EVENT_LIMIT, "refusal 6: Add hub, Event, limit above 1")                \
+    ROW(EVENT_START, "refusal 6: Add hub, Event, start")                        \
+    ROW(SEMAPHORE_LIMIT_0, "refusal 6: Add hub, Semaphore, limit 0")            \
+    ROW(SEMAPHORE_LIMIT, "refusal 6: Add hub, Semaphore, limit above 65535")    \
+    ROW(SEMAPHORE_START, "refusal 6: Add hub, Semaphore, start above limit")    \
+    ROW(PORT_LIMIT, "refusal 6: Add hub, Port, limit")                          \
+    ROW(PORT_START, "refusal 6: Add hub, Port, start")                          \
+    ROW(FIFO_LIMIT_0, "refusal 6: Add hub, FIFO, limit 0")                      \
+    ROW(FIFO_LIMIT, "refusal 6: Add hub, FIFO, limit above 8")                  \
+    ROW(FIFO_START, "refusal 6: Add hub, FIFO, start")                          \
+    ROW(RESOURCE_LIMIT_0, "refusal 6: Add hub, Resource, limit 0")              \
+    ROW(RESOURCE_LIMIT, "refusal 6: Add hub, Resource, limit above 1")          \
+    ROW(RESOURCE_START, "refusal 6: Add hub, Resource, start")                  \
+    ROW(TASK_ARGUMENT_AND_7, "refusal 6: Add task, 16 already as well")         \
+    ROW(HUB_ARGUMENT_AND_7, "refusal 6: Add hub, 16 already as well")           \
+    ROW(FULL_TASKS, "refusal 7: Add task")                                      \
+    ROW(FULL_HUBS, "refusal 7: Add hub")                                        \
+    ROW(SUMMARY_LENGTH, "summary refusal 1")                                    \
+    ROW(SUMMARY_DAMAGED, "summary refusal 2")                                   \
+    ROW(SUMMARY_TARGET, "summary refusal 5")                                    \
+    ROW(SUMMARY_0, "summary: nobody waits")                                     \
+    ROW(SUMMARY_1, "summary: one waits")                                        \
+    ROW(SUMMARY_2, "summary: 2 to 7 wait")                                      \
+    ROW(SUMMARY_8, "summary: 8 and more wait")                                  \
+    ROW(SUMMARY_SUSPENDED, "summary: a suspended task waits")
+
+enum {
+    SERVICE_ROWS = 0,
+    REQUEST_ROWS = SERVICE_ROWS + ADD_HUB + 1,
+    TIMEOUT_ROWS = REQUEST_ROWS + RESOURCE * GET * OUTCOMES,
+    WITHDRAWN_ROWS = TIMEOUT_ROWS + RESOURCE * GET,
+    BEFORE_SINGLE_ROWS = WITHDRAWN_ROWS + RESOURCE * GET - 1,
+#define ROW(symbol, name) symbol,
+    SINGLE_ROWS(ROW)
+#undef ROW
+    DAMAGE_ROWS
+};
+
+static const char *const single_names[] = {
+#define ROW(symbol, name) name,
+    SINGLE_ROWS(ROW)
+#undef ROW
+};
+
+static const char *const kinds[] = {"Event", "Semaphore", "Port", "FIFO", "Resource"};
+static const char *const sides[] = {"put", "get"};
+
+static size_t row_count(void) { return DAMAGE_ROWS + gen_damages(); }
+static void hit(cover *seen, size_t row) { seen->hits[row]++; }
+static void hit_if(cover *seen, int condition, size_t row) { seen->hits[row] += condition != 0; }
+
+static size_t kind_side(uint32_t kind, uint32_t side)
+{
+    return (kind - EVENT) * (size_t)GET + (side - PUT);
+}
+
+static size_t request_row(uint32_t kind, uint32_t side, hub_outcome outcome)
+{
+    return REQUEST_ROWS + kind_side(kind, side) * OUTCOMES + outcome;
+}
+
+/* The hub table has no such entry: nobody waits to put to a Resource, a get
+ * meets no waiter there, a Port holds nothing, and only a Resource FAILs. */
+static int request_reachable(uint32_t kind, uint32_t side, hub_outcome outcome)
+{
+    int not_now = outcome == NOT_NOW_NW || outcome == NOT_NOW_W || outcome == NOT_NOW_WT;
+
+    if (kind != RESOURCE)
+        return outcome < FAIL_W && !(kind == PORT && outcome == MET_ALONE);
+    return side == PUT ? !not_now : outcome != MET_WITH_WAITER;
+}
+
+static int row_reachable(size_t row)
+{
+    size_t resource_put = kind_side(RESOURCE, PUT);
+
+    if (row >= REQUEST_ROWS && row < TIMEOUT_ROWS) {
+        size_t at = row - REQUEST_ROWS, pair = at / OUTCOMES;
+        return request_reachable((uint32_t)(pair / GET + EVENT), (uint32_t)(pair % GET + PUT),
+                                 (hub_outcome)(at % OUTCOMES));
+    }
+    return row != TIMEOUT_ROWS + resource_put && row != WITHDRAWN_ROWS + resource_put;
+}
+
+static void row_name(size_t row, char *name, size_t size)
+{
+    static const char *const services[] = {"Blank", "Hub request", "Start", "Stop", "Suspend",
+                                           "Resume", "Yield", "Sleep", "Tick", "Add task",
+                                           "Add hub"};
+    static const char *const outcomes[] = {
+        "met alone", "met with a waiter", "not now under NW", "not now under W",
+        "not now under WT", "FAIL under W", "FAIL under NW", "FAIL under WT"};
+
+    if (row < REQUEST_ROWS) {
+        snprintf(name, size, "accepted: %s", services[row]);
+    } else if (row < TIMEOUT_ROWS) {
+        size_t at = row - REQUEST_ROWS, pair = at / OUTCOMES;
+        snprintf(name, size, "request: %s %s, %s", kinds[pair / GET], sides[pair % GET],
+                 outcomes[at % OUTCOMES]);
+    } else if (row < WITHDRAWN_ROWS) {
+        size_t pair = row - TIMEOUT_ROWS;
+        snprintf(name, size, "Tick: %s %s times out", kinds[pair / GET], sides[pair % GET]);
+    } else if (row <= BEFORE_SINGLE_ROWS) {
+        size_t pair = row - WITHDRAWN_ROWS;
+        snprintf(name, size, "Stop: %s %s withdrawn", kinds[pair / GET], sides[pair % GET]);
+    } else if (row < DAMAGE_ROWS) {
+        snprintf(name, size, "%s", single_names[row - BEFORE_SINGLE_ROWS - 1]);
+    } else {
+        snprintf(name, size, "refusal 2: %s", gen_damage_name(row - DAMAGE_ROWS));
+    }
+}
+
+/* ---- Reading the tables ------------------------------------------------ */
+
+static uint32_t task_word(const uint32_t *table, uint32_t task, size_t field)
+{
+    return table[task_place(task) + field];
+}
+
+static int owns(const uint32_t *table, uint32_t task, int awaited)
+{
+    for (uint32_t hub = 0; hub < table[HUBS_IN_USE_AT]; hub++)
+        if (table[hub_place(hub) + H_KIND] == RESOURCE &&
+            table[hub_place(hub) + H_COUNT] == task + 1 &&
+            (!awaited || table[list_place(hub)] != 0))
+            return 1;
+    return 0;
+}
+
+static uint32_t length_of(const uint32_t *list)
+{
+    uint32_t length = 0;
+    while (length < LIST_WORDS && list[length] != 0)
+        length++;
+    return length;
+}
+
+static int somebody_runs(const uint32_t *table)
+{
+    for (const uint32_t *entry = table + READY_AT; entry < table + WAITING_AT && *entry; entry++)
+        if (!task_word(table, *entry - 1, T_SUSPENDED))
+            return 1;
+    return 0;
+}
+
+/* ---- Accepted calls ---------------------------------------------------- */
+
+static void cover_waits(cover *seen, const uint32_t *call, const uint32_t *after)
+{
+    const uint32_t *list = after + list_place(call[C_TARGET]);
+    uint32_t at = 0, length = length_of(list), own = task_word(after, call[C_CALLER], T_PRIORITY);
+
+    while (list[at] != call[C_CALLER] + 1)
+        at++;
+    hit_if(seen, at > 0 && task_word(after, list[at - 1] - 1, T_PRIORITY) == own,
+           JOINS_BEHIND_EQUAL);
+    hit_if(seen, at + 1 < length, JOINS_BEFORE);
+    hit_if(seen, length >= 8, LIST_OF_8);
+    hit_if(seen, length == 15, LIST_OF_15);
+    hit_if(seen, call[C_TICKS] == TICKS_MAX, WAITS_MAX);
+    hit_if(seen, call[C_TICKS] == 1, WAITS_1);
+}
+
+static void cover_met_waiter(cover *seen, uint32_t waiter, uint32_t kind, second_reply reply,
+                             const uint32_t *after)
+{
+    int suspended = task_word(after, waiter, T_SUSPENDED) == 1;
+
+    hit_if(seen, suspended, MEETS_SUSPENDED);
+    hit_if(seen, suspended && kind == RESOURCE, OWNER_SUSPENDED);
+    hit_if(seen, reply.next == waiter + 1, MEETS_URGENT);
+}
+
+static void cover_request(cover *seen, const uint32_t *before, const uint32_t *call,
+                          second_reply reply, const uint32_t *after)
+{
+    uint32_t kind = after[hub_place(call[C_TARGET]) + H_KIND], side = call[C_SIDE];
+    uint32_t count = before[hub_place(call[C_TARGET]) + H_COUNT], mode = call[C_MODE];
+    uint32_t first = before[list_place(call[C_TARGET])];
+    hub_outcome outcome;
+
+    if (reply.answer == OK && first != 0 && task_word(after, first - 1, T_STATE) == READY)
+        outcome = MET_WITH_WAITER;
+    else if (reply.answer == OK)
+        outcome = MET_ALONE;
+    else if (kind == RESOURCE && (side == PUT || count == call[C_CALLER] + 1))
+        outcome = mode == W ? FAIL_W : mode == NW ? FAIL_NW : FAIL_WT;
+    else
+        outcome = mode == W ? NOT_NOW_W : mode == NW ? NOT_NOW_NW : NOT_NOW_WT;
+    hit(seen, request_row(kind, side, outcome));
+
+    if (outcome == NOT_NOW_W || outcome == NOT_NOW_WT)
+        cover_waits(seen, call, after);
+    if (outcome == MET_WITH_WAITER)
+        cover_met_waiter(seen, first - 1, kind, reply, after);
+    hit_if(seen, reply.answer == OK && kind == FIFO && side == PUT && count == 7 && first == 0,
+           FIFO_OF_8);
+    hit_if(seen, reply.answer == OK && (kind == FIFO || kind == PORT) && side == GET &&
+                     task_word(after, call[C_CALLER], T_WORD) == 0,
+           WORD_0_PASSED);
+    hit_if(seen, reply.next == 0, NONE_LEFT);
+}
+
+static void cover_start(cover *seen, const uint32_t *before, const uint32_t *call)
+{
+    uint32_t target = call[C_TARGET], state = task_word(before, target, T_STATE);
+
+    hit_if(seen, state == INACTIVE, START_OK);
+    hit_if(seen, state == INACTIVE && owns(before, target, 0), START_OWNER);
+    hit_if(seen, state == READY && target != call[C_CALLER], START_READY);
+    hit_if(seen, state == WAITING, START_WAITING);
+    hit_if(seen, state == SLEEPING, START_SLEEPING);
+    hit_if(seen, target == call[C_CALLER], START_CALLER);
+}
+
+static void cover_stop(cover *seen, const uint32_t *before, const uint32_t *call)
+{
+    uint32_t target = call[C_TARGET], state = task_word(before, target, T_STATE);
+    int suspended = task_word(before, target, T_SUSPENDED) == 1;
+
+    hit_if(seen, state == INACTIVE, STOP_INACTIVE);
+    hit_if(seen, target == call[C_CALLER], STOP_CALLER);
+    if (state == INACTIVE || target == call[C_CALLER])
+        return;
+    hit_if(seen, state == READY, STOP_READY);
+    hit_if(seen, state == SLEEPING, STOP_SLEEPING);
+    hit_if(seen, suspended && state == READY, STOP_SUSPENDED_READY);
+    hit_if(seen, suspended && state == WAITING, STOP_SUSPENDED_WAITING);
+    hit_if(seen, suspended && state == SLEEPING, STOP_SUSPENDED_SLEEPING);
+    hit_if(seen, owns(before, target, 0), STOP_OWNER);
+    hit_if(seen, owns(before, target, 1), STOP_OWNER_AWAITED);
+    if (state == WAITING)
+        hit(seen, WITHDRAWN_ROWS +
+                      kind_side(before[hub_place(task_word(before, target, T_HUB) - 1) + H_KIND],
+                                task_word(before, target, T_SIDE)));
+}
+
+static void cover_suspend(cover *seen, const uint32_t *before, const uint32_t *call)
+{
+    uint32_t target = call[C_TARGET], state = task_word(before, target, T_STATE);
+    int suspended = task_word(before, target, T_SUSPENDED) == 1, caller = target == call[C_CALLER];
+
+    hit_if(seen, state == INACTIVE, SUSPEND_INACTIVE);
+    hit_if(seen, suspended, SUSPEND_SUSPENDED);
+    hit_if(seen, caller, SUSPEND_CALLER);
+    hit_if(seen, state == READY && !suspended && !caller, SUSPEND_READY);
+    hit_if(seen, state == WAITING && !suspended, SUSPEND_WAITING);
+    hit_if(seen, state == SLEEPING && !suspended, SUSPEND_SLEEPING);
+}
+
+static void cover_resume(cover *seen, const uint32_t *before, const uint32_t *call,
+                         second_reply reply)
+{
+    uint32_t target = call[C_TARGET], state = task_word(before, target, T_STATE);
+    int suspended = task_word(before, target, T_SUSPENDED) == 1, caller = target == call[C_CALLER];
+
+    hit_if(seen, suspended && state == READY, RESUME_READY);
+    hit_if(seen, suspended && state == READY && reply.next == target + 1, RESUME_URGENT);
+    hit_if(seen, suspended && state == WAITING, RESUME_WAITING);
+    hit_if(seen, suspended && state == SLEEPING, RESUME_SLEEPING);
+    hit_if(seen, !suspended && state != INACTIVE && !caller, RESUME_NOT_SUSPENDED);
+    hit_if(seen, state == INACTIVE, RESUME_INACTIVE);
+    hit_if(seen, caller, RESUME_CALLER);
+}
+
+static void cover_yield(cover *seen, const uint32_t *before, const uint32_t *call)
+{
+    uint32_t own = task_word(before, call[C_CALLER], T_PRIORITY), equals = 0, suspended = 0;
+    const uint32_t *entry = before + READY_AT;
+
+    while (*entry != call[C_CALLER] + 1)
+        entry++;
+    for (entry++; entry < before + WAITING_AT && *entry != 0; entry++) {
+        if (task_word(before, *entry - 1, T_PRIORITY) != own)
+            break;
+        equals++;
+        suspended += task_word(before, *entry - 1, T_SUSPENDED);
+    }
+    hit_if(seen, equals == 0, YIELD_ALONE);
+    hit_if(seen, equals > suspended, YIELD_EQUALS);
+    hit_if(seen, equals > 0 && equals == suspended, YIELD_SUSPENDED);
+}
+
+static void cover_tick(cover *seen, const uint32_t *before)
+{
+    uint32_t out = 0;
+
+    for (uint32_t task = 0; task < before[TASKS_IN_USE_AT]; task++) {
+        int suspended = task_word(before, task, T_SUSPENDED) == 1;
+        if (task_word(before, task, T_TICKS) != 1)
+            continue;
+        out++;
+        if (task_word(before, task, T_STATE) == SLEEPING) {
+            hit(seen, TICK_SLEEPER);
+            hit_if(seen, suspended, TICK_SUSPENDED_SLEEPING);
+        } else {
+            uint32_t hub = task_word(before, task, T_HUB) - 1;
+            hit(seen, TIMEOUT_ROWS + kind_side(before[hub_place(hub) + H_KIND],
+                                               task_word(before, task, T_SIDE)));
+            hit_if(seen, suspended, TICK_SUSPENDED_WAITING);
+        }
+    }
+    hit(seen, out == 0 ? TICK_NOTHING : out == 1 ? TICK_ONE : TICK_MORE);
+    hit_if(seen, !somebody_runs(before), TICK_NOBODY_RUNS);
+}
+
+static void cover_adds(cover *seen, const uint32_t *call, second_reply reply, const uint32_t *after)
+{
+    if (call[C_SERVICE] == ADD_TASK) {
+        hit(seen, call[C_SIDE] == 0 ? ADD_TASK_INACTIVE : ADD_TASK_STARTED);
+        hit_if(seen, reply.next == after[TASKS_IN_USE_AT], ADD_TASK_URGENT);
+        hit_if(seen, call[C_TARGET] == PRIORITY_MAX, ADD_TASK_255);
+        hit_if(seen, after[TASKS_IN_USE_AT] == TASKS, ADD_TASK_16TH);
+    } else {
+        hit(seen, ADD_EVENT + call[C_TARGET] - EVENT);
+        hit_if(seen, call[C_TARGET] == SEMAPHORE && call[C_TICKS] == SEMAPHORE_MAX,
+               ADD_SEMAPHORE_MAX);
+        hit_if(seen, after[HUBS_IN_USE_AT] == HUBS, ADD_HUB_16TH);
+    }
+}
+
+static void cover_accepted(cover *seen, const uint32_t *before, const uint32_t *call,
+                           second_reply reply, const uint32_t *after)
+{
+    hit(seen, SERVICE_ROWS + call[C_SERVICE]);
+    hit_if(seen, reply.next != 0 && reply.next != after[READY_AT], NEXT_NOT_FIRST);
+    switch (call[C_SERVICE]) {
+    case HUB_REQUEST:
+        cover_request(seen, before, call, reply, after);
+        break;
+    case START:
+        cover_start(seen, before, call);
+        break;
+    case STOP:
+        cover_stop(seen, before, call);
+        break;
+    case SUSPEND:
+        cover_suspend(seen, before, call);
+        break;
+    case RESUME:
+        cover_resume(seen, before, call, reply);
+        break;
+    case YIELD:
+        cover_yield(seen, before, call);
+        break;
+    case SLEEP:
+        hit_if(seen, call[C_TICKS] == 1, SLEEP_1);
+        hit_if(seen, call[C_TICKS] == TICKS_MAX, SLEEP_MAX);
+        hit_if(seen, reply.next == 0, NONE_LEFT);
+        break;
+    case TICK:
+        cover_tick(seen, before);
+        break;
+    case ADD_TASK:
+    case ADD_HUB:
+        cover_adds(seen, call, reply, after);
+        break;
+    }
+}
+
+/* ---- Refused calls ----------------------------------------------------- */
+
+enum { NO_CAUSE = 0 };
+
+/* The row for 0 ticks is followed by those for 1,000,001 and for more. */
+static size_t ticks_cause(uint32_t ticks, size_t zero)
+{
+    return ticks == 0               ? zero
+           : ticks == TICKS_MAX + 1 ? zero + 1
+           : ticks > TICKS_MAX      ? zero + 2
+                                    : NO_CAUSE;
+}
+
+static size_t request_cause(const uint32_t *call)
+{
+    if (call[C_SIDE] != PUT && call[C_SIDE] != GET)
+        return call[C_SIDE] == 0 ? SIDE_0 : SIDE_ABOVE;
+    if (call[C_MODE] < W || call[C_MODE] > WT)
+        return call[C_MODE] == 0 ? MODE_0 : MODE_ABOVE;
+    if (call[C_MODE] == WT)
+        return ticks_cause(call[C_TICKS], WT_0);
+    return call[C_TICKS] == 0 ? NO_CAUSE : call[C_MODE] == W ? W_TICKS : NW_TICKS;
+}
+
+static size_t add_hub_cause(const uint32_t *call)
+{
+    uint32_t limit = call[C_TICKS], start = call[C_WORD];
+
+    switch (call[C_TARGET]) {
+    case EVENT:
+        return limit == 0  ? EVENT_LIMIT_0
+               : limit > 1 ? EVENT_LIMIT
+               : start     ? EVENT_START
+                           : NO_CAUSE;
+    case SEMAPHORE:
+        return limit == 0               ? SEMAPHORE_LIMIT_0
+               : limit > SEMAPHORE_MAX ? SEMAPHORE_LIMIT
+               : start > limit         ? SEMAPHORE_START
+                                       : NO_CAUSE;
+    case PORT:
+        return limit != 0 ? PORT_LIMIT : start ? PORT_START : NO_CAUSE;
+    case FIFO:
+        return limit == 0         ? FIFO_LIMIT_0
+               : limit > FIFO_MAX ? FIFO_LIMIT
+               : start            ? FIFO_START
+                                  : NO_CAUSE;
+    case RESOURCE:
+        return limit == 0  ? RESOURCE_LIMIT_0
+               : limit > 1 ? RESOURCE_LIMIT
+               : start     ? RESOURCE_START
+                           : NO_CAUSE;
+    default:
+        return call[C_TARGET] == 0 ? KIND_0 : KIND_ABOVE;
+    }
+}
+
+/* The first wrong argument, or NO_CAUSE. */
+static size_t argument_cause(const uint32_t *call)
+{
+    switch (call[C_SERVICE]) {
+    case HUB_REQUEST:
+        return request_cause(call);
+    case SLEEP:
+        return ticks_cause(call[C_TICKS], SLEEP_0);
+    case ADD_TASK:
+        if (call[C_TARGET] > PRIORITY_MAX)
+            return call[C_TARGET] == PRIORITY_MAX + 1 ? PRIORITY_256 : PRIORITY_ABOVE;
+        return call[C_SIDE] > 1 ? TASK_SIDE : NO_CAUSE;
+    case ADD_HUB:
+        return add_hub_cause(call);
+    default:
+        return NO_CAUSE;
+    }
+}
+
+static int target_missing(const uint32_t *table, const uint32_t *call)
+{
+    if (call[C_SERVICE] == HUB_REQUEST)
+        return call[C_TARGET] >= table[HUBS_IN_USE_AT];
+    return call[C_SERVICE] >= START && call[C_SERVICE] <= RESUME &&
+           call[C_TARGET] >= table[TASKS_IN_USE_AT];
+}
+
+static void cover_not_running(cover *seen, const uint32_t *table, const uint32_t *call)
+{
+    if (!somebody_runs(table)) {
+        hit(seen, NOBODY_RUNS);
+        hit_if(seen, call[C_CALLER] == UINT32_MAX, NOBODY_RUNS_MAX);
+    } else if (call[C_CALLER] >= table[TASKS_IN_USE_AT]) {
+        hit(seen, CALLER_NO_TASK);
+    } else {
+        hit(seen, CALLER_REQUEST + call[C_SERVICE] - HUB_REQUEST);
+    }
+    hit_if(seen, target_missing(table, call), CALLER_AND_5);
+    hit_if(seen, argument_cause(call) != NO_CAUSE, CALLER_AND_6);
+}
+
+static void cover_refused(cover *seen, const uint32_t *table, const uint32_t *call,
+                          uint32_t refusal)
+{
+    switch (refusal) {
+    case NOT_WELL_FORMED:
+        hit_if(seen, call[C_SERVICE] > ADD_HUB, DAMAGED_AND_3);
+        break;
+    case NO_SUCH_SERVICE:
+        hit(seen, call[C_SERVICE] == ADD_HUB + 1 ? SERVICE_11 : SERVICE_ABOVE);
+        break;
+    case NOT_RUNNING:
+        cover_not_running(seen, table, call);
+        break;
+    case NOT_IN_USE:
+        hit(seen, TARGET_REQUEST + call[C_SERVICE] - HUB_REQUEST);
+        hit_if(seen, argument_cause(call) != NO_CAUSE, TARGET_AND_6);
+        break;
+    case BAD_ARGUMENT:
+        hit(seen, argument_cause(call));
+        hit_if(seen, call[C_SERVICE] == ADD_TASK && table[TASKS_IN_USE_AT] == TASKS,
+               TASK_ARGUMENT_AND_7);
+        hit_if(seen, call[C_SERVICE] == ADD_HUB && table[HUBS_IN_USE_AT] == HUBS,
+               HUB_ARGUMENT_AND_7);
+        break;
+    case TABLE_FULL:
+        hit(seen, call[C_SERVICE] == ADD_TASK ? FULL_TASKS : FULL_HUBS);
+        break;
+    }
+}
+
+void cover_call(cover *seen, const uint32_t *before, const uint32_t call[7], second_reply reply,
+                const uint32_t *after)
+{
+    if (reply.refusal == ACCEPTED)
+        cover_accepted(seen, before, call, reply, after);
+    else
+        cover_refused(seen, before, call, reply.refusal);
+}
+
+void cover_call_length(cover *seen, size_t words)
+{
+    hit_if(seen, words == 0, LENGTH_0);
+    hit_if(seen, words == WORDS - 1, LENGTH_599);
+    hit_if(seen, words == WORDS + 1, LENGTH_601);
+}
+
+void cover_call_byte_length(cover *seen, size_t bytes)
+{
+    hit_if(seen, bytes == BYTES - 1, BYTES_2399);
+    hit_if(seen, bytes == BYTES + 1, BYTES_2401);
+}
+
+void cover_summary(cover *seen, const uint32_t *table, size_t words, second_summary_reply reply)
+{
+    hit_if(seen, words != WORDS, SUMMARY_LENGTH);
+    hit_if(seen, reply.refusal == NOT_WELL_FORMED, SUMMARY_DAMAGED);
+    hit_if(seen, reply.refusal == NOT_IN_USE, SUMMARY_TARGET);
+    if (reply.refusal != ACCEPTED)
+        return;
+    hit(seen, reply.count == 0   ? SUMMARY_0
+              : reply.count == 1 ? SUMMARY_1
+              : reply.count < 8  ? SUMMARY_2
+                                 : SUMMARY_8);
+    for (uint32_t task = 0; task < TASKS; task++)
+        if ((reply.mask >> task & 1) != 0 && task_word(table, task, T_SUSPENDED) == 1) {
+            hit(seen, SUMMARY_SUSPENDED);
+            break;
+        }
+}
+
+void cover_damage(cover *seen, size_t family)
+{
+    hit(seen, DAMAGE_ROWS + family);
+    hit(seen, BLANK_DAMAGED);
+}
+
+/* ---- The table --------------------------------------------------------- */
+
+void cover_print(const cover *seen)
+{
+    char name[96];
+
+    for (size_t row = 0; row < row_count(); row++) {
+        if (!row_reachable(row))
+            continue;
+        row_name(row, name, sizeof name);
+        printf("%10llu  %s\n", (unsigned long long)seen->hits[row], name);
+    }
+}
+
+uint64_t cover_fewest(const cover *seen, char *name, size_t size, size_t *rows)
+{
+    uint64_t fewest = UINT64_MAX;
+
+    *rows = 0;
+    for (size_t row = 0; row < row_count(); row++) {
+        if (!row_reachable(row) && seen->hits[row] == 0)
+            continue;
+        ++*rows;
+        if (!row_reachable(row) || seen->hits[row] < fewest) {
+            fewest = row_reachable(row) ? seen->hits[row] : 0;
+            row_name(row, name, size);
+        }
+    }
+    return fewest;
+}

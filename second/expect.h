@@ -1,0 +1,24 @@
+/* What the tests expect of a call, worked out a second way: slowly, and with
+ * none of second.c's mechanisms. Well formed is read sentence by sentence with
+ * counts over all entries; lists are never shifted: a task has a rank, and a
+ * list is its members sorted by priority and rank. */
+#ifndef EXPECT_H
+#define EXPECT_H
+
+#include <stddef.h>
+#include <stdint.h>
+
+#include "second.h"
+
+int expect_well_formed(const uint32_t *table);
+
+/* The running task plus 1, or 0, of a well-formed table. */
+uint32_t expect_next(const uint32_t *table);
+
+/* The refusal of a call on 600 words. */
+uint32_t expect_refusal(const uint32_t *table, const uint32_t call[7]);
+
+/* The reply to a call, and the table after it in place. */
+second_reply expect_call(uint32_t table[600], const uint32_t call[7]);
+
+#endif

@@ -1,0 +1,1264 @@
+/* The generator's draws: random numbers, calls, well-formed tables, damaged
+ * tables, drill lines. gen.h says what each is for. */
+#include "gen.h"
+
+#include <stdio.h>
+#include <string.h>
+
+#include "numbers.h"
+#include "second.h" /* second_clause only: what a family breaks */
+
+enum { NOBODY = UINT32_MAX };
+
+/* ---- Random numbers ----------------------------------------------------
+ * No expression below draws twice unless ?:, && or || orders the draws: the
+ * order of arguments and of the sides of = or + is the compiler's own. */
+
+void gen_seed(gen_random *random, uint64_t seed) { random->state = seed; }
+
+/* Steele, Lea and Flood's SplitMix64: one addition and a mix, no state that
+ * goes bad, the same on every machine. */
+uint32_t gen_word(gen_random *random)
+{
+    uint64_t z = random->state += UINT64_C(0x9E3779B97F4A7C15);
+    z = (z ^ z >> 30) * UINT64_C(0xBF58476D1CE4E5B9);
+    z = (z ^ z >> 27) * UINT64_C(0x94D049BB133111EB);
+    return (uint32_t)(z >> 32);
+}
+
+uint32_t gen_below(gen_random *random, uint32_t bound)
+{
+    return (uint32_t)((uint64_t)gen_word(random) * bound >> 32);
+}
+
+int gen_chance(gen_random *random, uint32_t percent) { return gen_below(random, 100) < percent; }
+
+static uint32_t from_to(gen_random *random, uint32_t low, uint32_t high)
+{
+    return low + gen_below(random, high - low + 1);
+}
+
+static uint32_t one_of(gen_random *random, size_t count, const uint32_t *values)
+{
+    return values[gen_below(random, (uint32_t)count)];
+}
+
+#define ONE_OF(random, ...)                                                        \
+    one_of(random, sizeof((uint32_t[]){__VA_ARGS__}) / sizeof(uint32_t), \
+           (uint32_t[]){__VA_ARGS__})
+
+/* Least, just above it, the largest, or anything between. */
+static uint32_t at_least(gen_random *random, uint32_t least)
+{
+    switch (gen_below(random, 4)) {
+    case 0:
+        return least;
+    case 1:
+        return UINT32_MAX;
+    case 2:
+        return least + gen_below(random, 4);
+    default:
+        return least + gen_below(random, UINT32_MAX - least);
+    }
+}
+
+/* A word as tasks send it, the edges often. */
+static uint32_t any_word(gen_random *random)
+{
+    return gen_chance(random, 20) ? ONE_OF(random, 0, 1, UINT32_MAX, UINT32_C(1) << 31)
+                                  : gen_word(random);
+}
+
+/* ---- Reading the table ------------------------------------------------- */
+
+static uint32_t tasks_in_use(const uint32_t *table) { return table[TASKS_IN_USE_AT]; }
+static uint32_t hubs_in_use(const uint32_t *table) { return table[HUBS_IN_USE_AT]; }
+
+static uint32_t task_field(const uint32_t *table, uint32_t task, size_t field)
+{
+    return table[task_place(task) + field];
+}
+
+static uint32_t hub_field(const uint32_t *table, uint32_t hub, size_t field)
+{
+    return table[hub_place(hub) + field];
+}
+
+static uint32_t list_length(const uint32_t *list)
+{
+    uint32_t length = 0;
+    while (length < LIST_WORDS && list[length] != 0)
+        length++;
+    return length;
+}
+
+static uint32_t running_task(const uint32_t *table)
+{
+    const uint32_t *list = table + READY_AT;
+    for (uint32_t i = 0; i < list_length(list); i++)
+        if (task_field(table, list[i] - 1, T_SUSPENDED) == 0)
+            return list[i] - 1;
+    return NOBODY;
+}
+
+/* How many tasks a field of whose records has this value. */
+static uint32_t tasks_with(const uint32_t *table, size_t field, uint32_t value)
+{
+    uint32_t count = 0;
+    for (uint32_t task = 0; task < tasks_in_use(table); task++)
+        count += task_field(table, task, field) == value;
+    return count;
+}
+
+/* A task with this value in this field, all alike, or NOBODY. */
+static uint32_t pick_task(gen_random *random, const uint32_t *table, size_t field, uint32_t value)
+{
+    uint32_t count = tasks_with(table, field, value), task = 0;
+    if (count == 0)
+        return NOBODY;
+    for (uint32_t chosen = gen_below(random, count);; task++)
+        if (task_field(table, task, field) == value && chosen-- == 0)
+            return task;
+}
+
+/* ---- Calls ------------------------------------------------------------- */
+
+void gen_turn(gen_random *random, gen_mood *mood)
+{
+    mood->favourite = ONE_OF(random, 0, 30, 90);
+    mood->puts = ONE_OF(random, 10, 35, 50, 65, 90);
+    mood->longest = ONE_OF(random, 1, 3, 8, 30, TICKS_MAX);
+    mood->waits = ONE_OF(random, 30, 75, 95);
+}
+
+void gen_draw_mood(gen_random *random, gen_mood *mood)
+{
+    mood->tasks = gen_chance(random, 30) ? TASKS : from_to(random, 1, TASKS);
+    mood->hubs = gen_chance(random, 20) ? HUBS : from_to(random, 1, 6);
+    mood->priorities = ONE_OF(random, 1, 2, 4, PRIORITY_MAX + 1);
+    mood->kind = gen_below(random, RESOURCE + 1);
+    mood->refused = ONE_OF(random, 0, 5, 25);
+    gen_turn(random, mood);
+}
+
+static uint32_t draw_ticks(gen_random *random, const gen_mood *mood)
+{
+    return gen_chance(random, 2) ? ONE_OF(random, 1, TICKS_MAX)
+                                 : from_to(random, 1, mood->longest);
+}
+
+static uint32_t draw_limit(gen_random *random, uint32_t kind)
+{
+    switch (kind) {
+    case SEMAPHORE:
+        return gen_chance(random, 80) ? from_to(random, 1, 4)
+                                      : ONE_OF(random, SEMAPHORE_MAX, SEMAPHORE_MAX - 1, 100);
+    case FIFO:
+        return from_to(random, 1, FIFO_MAX);
+    case PORT:
+        return 0;
+    default:
+        return 1;
+    }
+}
+
+static uint32_t draw_kind(gen_random *random, uint32_t favourite)
+{
+    return favourite != 0 && gen_chance(random, 60) ? favourite : from_to(random, EVENT, RESOURCE);
+}
+
+static void draw_add_task(gen_random *random, const gen_mood *mood, uint32_t *call)
+{
+    call[C_SERVICE] = ADD_TASK;
+    call[C_TARGET] = gen_chance(random, 3) ? PRIORITY_MAX : gen_below(random, mood->priorities);
+    call[C_SIDE] = gen_chance(random, 85) ? 1 : 0;
+}
+
+static void draw_add_hub(gen_random *random, const gen_mood *mood, uint32_t *call)
+{
+    uint32_t kind = draw_kind(random, mood->kind), limit = draw_limit(random, kind);
+
+    call[C_SERVICE] = ADD_HUB;
+    call[C_TARGET] = kind;
+    call[C_TICKS] = limit;
+    call[C_WORD] = kind == SEMAPHORE && gen_chance(random, 50) ? gen_below(random, limit + 1) : 0;
+}
+
+/* The last task that can run seldom waits without limit: a run in which all
+ * wait for ever is over. */
+static void draw_mode(gen_random *random, const gen_mood *mood, const uint32_t *table,
+                      uint32_t *call)
+{
+    int last = tasks_with(table, T_STATE, READY) < 2;
+
+    call[C_MODE] = NW;
+    call[C_TICKS] = 0;
+    if (!gen_chance(random, mood->waits))
+        return;
+    call[C_MODE] = gen_chance(random, last ? 5 : 40) ? W : WT;
+    if (call[C_MODE] == WT)
+        call[C_TICKS] = draw_ticks(random, mood);
+}
+
+static void draw_request(gen_random *random, const gen_mood *mood, const uint32_t *table,
+                         uint32_t *call)
+{
+    uint32_t hub = gen_chance(random, mood->favourite) ? 0 : gen_below(random, hubs_in_use(table));
+    int puts = gen_chance(random, mood->puts);
+
+    if (hub_field(table, hub, H_KIND) == RESOURCE && gen_chance(random, 80))
+        puts = hub_field(table, hub, H_COUNT) == call[C_CALLER] + 1;
+    call[C_SERVICE] = HUB_REQUEST;
+    call[C_TARGET] = hub;
+    call[C_SIDE] = puts ? PUT : GET;
+    call[C_WORD] = any_word(random);
+    draw_mode(random, mood, table, call);
+}
+
+/* Start, Stop, Suspend and Resume: mostly a task that the service can change. */
+static void draw_on_task(gen_random *random, const uint32_t *table, uint32_t service,
+                         uint32_t *call)
+{
+    uint32_t fit = NOBODY;
+
+    if (service == START)
+        fit = pick_task(random, table, T_STATE, INACTIVE);
+    else if (service == RESUME)
+        fit = pick_task(random, table, T_SUSPENDED, 1);
+    else if (gen_chance(random, 50))
+        fit = pick_task(random, table, T_STATE, gen_chance(random, 60) ? WAITING : SLEEPING);
+    call[C_SERVICE] = service;
+    call[C_TARGET] = fit != NOBODY && gen_chance(random, 75)
+                         ? fit
+                         : gen_below(random, tasks_in_use(table));
+}
+
+/* Without a running task only Tick, Add task and Blank lead on. */
+static void draw_idle(gen_random *random, const gen_mood *mood, const uint32_t *table,
+                      uint32_t *call)
+{
+    int over = tasks_with(table, T_TICKS, 0) == tasks_in_use(table);
+
+    if (tasks_in_use(table) < TASKS && gen_chance(random, over ? 60 : 5)) {
+        draw_add_task(random, mood, call);
+        call[C_SIDE] = 1;
+    } else {
+        call[C_SERVICE] = over && gen_chance(random, 50) ? BLANK : TICK;
+    }
+}
+
+static void draw_service(gen_random *random, const gen_mood *mood, const uint32_t *table,
+                         uint32_t *call)
+{
+    uint32_t draw = gen_below(random, 100);
+
+    if (draw < 55 && hubs_in_use(table) > 0) {
+        draw_request(random, mood, table, call);
+    } else if (draw < 67) {
+        call[C_SERVICE] = TICK;
+    } else if (draw < 75) {
+        draw_on_task(random, table, START, call);
+    } else if (draw < 79) {
+        draw_on_task(random, table, STOP, call);
+    } else if (draw < 83) {
+        draw_on_task(random, table, SUSPEND, call);
+    } else if (draw < 88) {
+        draw_on_task(random, table, RESUME, call);
+    } else if (draw < 91) {
+        call[C_SERVICE] = YIELD;
+    } else if (draw < 95) {
+        call[C_SERVICE] = SLEEP;
+        call[C_TICKS] = draw_ticks(random, mood);
+    } else if (draw < 97) {
+        draw_add_task(random, mood, call);
+    } else if (draw < 99) {
+        draw_add_hub(random, mood, call);
+    } else {
+        call[C_SERVICE] = gen_chance(random, 5) ? BLANK : TICK;
+    }
+}
+
+static void draw_good(gen_random *random, const gen_mood *mood, const uint32_t *table,
+                      uint32_t *call)
+{
+    call[C_CALLER] = running_task(table);
+    if (tasks_in_use(table) < mood->tasks && gen_chance(random, 70))
+        draw_add_task(random, mood, call);
+    else if (hubs_in_use(table) < mood->hubs && gen_chance(random, 70))
+        draw_add_hub(random, mood, call);
+    else if (call[C_CALLER] == NOBODY)
+        draw_idle(random, mood, table, call);
+    else
+        draw_service(random, mood, table, call);
+}
+
+/* A request, Sleep or Add whose arguments are right, to be spoiled. */
+static void draw_with_arguments(gen_random *random, const gen_mood *mood, const uint32_t *table,
+                                uint32_t *call)
+{
+    uint32_t draw = gen_below(random, 10);
+
+    if (draw < 4 && hubs_in_use(table) > 0) {
+        draw_request(random, mood, table, call);
+    } else if (draw < 6) {
+        call[C_SERVICE] = SLEEP;
+        call[C_TICKS] = draw_ticks(random, mood);
+    } else if (draw < 8) {
+        draw_add_task(random, mood, call);
+    } else {
+        draw_add_hub(random, mood, call);
+    }
+}
+
+static void spoil_request(gen_random *random, uint32_t *call)
+{
+    switch (gen_below(random, 4)) {
+    case 0:
+        call[C_SIDE] = gen_chance(random, 50) ? NO_SIDE : at_least(random, GET + 1);
+        break;
+    case 1:
+        call[C_MODE] = gen_chance(random, 50) ? 0 : at_least(random, WT + 1);
+        break;
+    case 2:
+        call[C_MODE] = gen_chance(random, 50) ? W : NW;
+        call[C_TICKS] = at_least(random, 1);
+        break;
+    default:
+        call[C_MODE] = WT;
+        call[C_TICKS] = gen_chance(random, 50) ? 0 : at_least(random, TICKS_MAX + 1);
+        break;
+    }
+}
+
+/* Kind, limit or start, each alone; a Semaphore's start is tied to its limit. */
+static void spoil_add_hub(gen_random *random, uint32_t *call)
+{
+    uint32_t kind = call[C_TARGET];
+
+    switch (gen_below(random, 3)) {
+    case 0:
+        call[C_TARGET] = gen_chance(random, 50) ? 0 : at_least(random, RESOURCE + 1);
+        break;
+    case 1:
+        call[C_WORD] = 0;
+        if (kind != PORT && gen_chance(random, 50))
+            call[C_TICKS] = 0;
+        else
+            call[C_TICKS] = at_least(random, kind == SEMAPHORE ? SEMAPHORE_MAX + 1
+                                             : kind == FIFO    ? FIFO_MAX + 1
+                                             : kind == PORT    ? 1
+                                                               : 2);
+        break;
+    default:
+        call[C_WORD] = at_least(random, kind == SEMAPHORE ? call[C_TICKS] + 1 : 1);
+        break;
+    }
+}
+
+static void spoil_arguments(gen_random *random, uint32_t *call)
+{
+    switch (call[C_SERVICE]) {
+    case HUB_REQUEST:
+        spoil_request(random, call);
+        break;
+    case SLEEP:
+        call[C_TICKS] = gen_chance(random, 50) ? 0 : at_least(random, TICKS_MAX + 1);
+        break;
+    case ADD_TASK:
+        if (gen_chance(random, 50))
+            call[C_TARGET] = at_least(random, PRIORITY_MAX + 1);
+        else
+            call[C_SIDE] = at_least(random, 2);
+        break;
+    default:
+        spoil_add_hub(random, call);
+        break;
+    }
+}
+
+/* Another task in use, the first not in use, or any number. */
+static uint32_t wrong_caller(gen_random *random, const uint32_t *table)
+{
+    uint32_t other = gen_below(random, tasks_in_use(table) + 1);
+    return gen_chance(random, 70) && other != running_task(table) ? other
+                                                                  : at_least(random, TASKS);
+}
+
+/* A call that is to be refused for one cause, and at times for later ones too. */
+static void draw_refused(gen_random *random, const gen_mood *mood, const uint32_t *table,
+                         uint32_t *call)
+{
+    call[C_CALLER] = running_task(table);
+    switch (gen_below(random, 6)) {
+    case 0:
+        call[C_SERVICE] = at_least(random, ADD_HUB + 1);
+        break;
+    case 1:
+        call[C_SERVICE] = from_to(random, HUB_REQUEST, SLEEP);
+        call[C_CALLER] = wrong_caller(random, table);
+        break;
+    case 2:
+        draw_mode(random, mood, table, call);
+        call[C_SERVICE] = from_to(random, HUB_REQUEST, RESUME);
+        call[C_SIDE] = from_to(random, NO_SIDE, GET);
+        call[C_TARGET] = at_least(random, call[C_SERVICE] == HUB_REQUEST ? hubs_in_use(table)
+                                                                         : tasks_in_use(table));
+        break;
+    default:
+        draw_with_arguments(random, mood, table, call);
+        spoil_arguments(random, call);
+        break;
+    }
+}
+
+void gen_call(gen_random *random, const gen_mood *mood, const uint32_t *table, uint32_t call[7])
+{
+    /* Fields a service doesn't name are ignored, so they get anything. */
+    for (int i = 0; i < CALL_NUMBERS; i++)
+        call[i] = gen_chance(random, 50) ? 0 : any_word(random);
+    if (table[EDITION_AT] != EDITION)
+        call[C_SERVICE] = BLANK;
+    else if (gen_chance(random, mood->refused))
+        draw_refused(random, mood, table, call);
+    else
+        draw_good(random, mood, table, call);
+}
+
+/* ---- Well-formed tables ------------------------------------------------ */
+
+static void build_hub(gen_random *random, uint32_t *table, uint32_t number, uint32_t kind)
+{
+    uint32_t *hub = table + hub_place(number), *store = table + store_place(number);
+
+    hub[H_KIND] = kind;
+    hub[H_LIMIT] = draw_limit(random, kind);
+    if (kind == SEMAPHORE)
+        hub[H_START] = gen_below(random, hub[H_LIMIT] + 1);
+    if (kind == RESOURCE)
+        hub[H_COUNT] = gen_below(random, tasks_in_use(table) + 1);
+    else /* at an end mostly: there the waiters are */
+        hub[H_COUNT] = gen_chance(random, 80) ? ONE_OF(random, 0, hub[H_LIMIT])
+                                              : gen_below(random, hub[H_LIMIT] + 1);
+    for (uint32_t i = 0; kind == FIFO && i < hub[H_COUNT]; i++)
+        store[i] = any_word(random);
+}
+
+/* The side that may wait at the hub, or none. At a Port a parity decides that
+ * is the same for all its waiters, so that its list holds one side only. */
+static uint32_t side_at(const uint32_t *table, uint32_t number, uint32_t task)
+{
+    const uint32_t *hub = table + hub_place(number);
+
+    if (hub[H_KIND] == PORT)
+        return (number + table[task_place(0) + T_PRIORITY]) % 2 == 0 ? PUT : GET;
+    if (hub[H_KIND] == RESOURCE)
+        return hub[H_COUNT] != 0 && hub[H_COUNT] != task + 1 ? GET : NO_SIDE;
+    if (hub[H_COUNT] == 0)
+        return GET;
+    return hub[H_COUNT] == hub[H_LIMIT] ? PUT : NO_SIDE;
+}
+
+/* Waiting at the hub if its rules let the task, else the record is left. */
+static void build_waiter(gen_random *random, uint32_t *table, uint32_t number, uint32_t hub)
+{
+    uint32_t *task = table + task_place(number), side = side_at(table, hub, number);
+    uint32_t kind = hub_field(table, hub, H_KIND);
+
+    if (side == NO_SIDE)
+        return;
+    task[T_STATE] = WAITING;
+    task[T_HUB] = hub + 1;
+    task[T_SIDE] = side;
+    task[T_TICKS] = ONE_OF(random, 0, 1, 2, 3, TICKS_MAX);
+    if (side == PUT && (kind == PORT || kind == FIFO))
+        task[T_WORD] = any_word(random);
+}
+
+static void build_task(gen_random *random, uint32_t *table, uint32_t number, uint32_t waiters,
+                       uint32_t favourite)
+{
+    uint32_t *task = table + task_place(number);
+
+    task[T_STATE] = INACTIVE;
+    if (hubs_in_use(table) > 0 && gen_chance(random, waiters))
+        build_waiter(random, table, number,
+                     gen_chance(random, favourite) ? 0 : gen_below(random, hubs_in_use(table)));
+    if (task[T_STATE] == INACTIVE && gen_chance(random, 85)) {
+        task[T_STATE] = gen_chance(random, 75) ? READY : SLEEPING;
+        if (task[T_STATE] == SLEEPING)
+            task[T_TICKS] = ONE_OF(random, 1, 2, 3, TICKS_MAX);
+        else
+            task[T_ANSWER] = from_to(random, NO_ANSWER, TO);
+        if (task[T_ANSWER] == OK)
+            task[T_WORD] = any_word(random);
+    }
+    task[T_SUSPENDED] = task[T_STATE] != INACTIVE && gen_chance(random, 20);
+}
+
+/* Puts a task into a list at a right place: behind those before it in
+ * priority, before, between or behind its equals. */
+static void insert(gen_random *random, uint32_t *table, uint32_t *list, uint32_t task)
+{
+    uint32_t at = 0, length = list_length(list), own = task_field(table, task, T_PRIORITY);
+
+    while (at < length && task_field(table, list[at] - 1, T_PRIORITY) < own)
+        at++;
+    while (at < length && task_field(table, list[at] - 1, T_PRIORITY) == own &&
+           gen_chance(random, 50))
+        at++;
+    memmove(list + at + 1, list + at, (length - at) * sizeof *list);
+    list[at] = task + 1;
+}
+
+void gen_table(gen_random *random, uint32_t table[600])
+{
+    gen_mood mood;
+
+    gen_draw_mood(random, &mood);
+    memset(table, 0, WORDS * sizeof *table);
+    memcpy(table,
+           ((uint32_t[]){EDITION, mood.tasks, mood.hubs, TASKS_AT, HUBS_AT, READY_AT, WAITING_AT,
+                         STORES_AT}),
+           TASKS_AT * sizeof *table);
+    if (gen_chance(random, 2))
+        table[gen_chance(random, 50) ? TASKS_IN_USE_AT : HUBS_IN_USE_AT] = 0;
+
+    for (uint32_t task = 0; task < tasks_in_use(table); task++) {
+        uint32_t lowest = gen_chance(random, 50) ? PRIORITY_MAX + 1 - mood.priorities : 0;
+        table[task_place(task) + T_PRIORITY] = lowest + gen_below(random, mood.priorities);
+    }
+    for (uint32_t hub = 0; hub < hubs_in_use(table); hub++)
+        build_hub(random, table, hub, draw_kind(random, mood.kind));
+    for (uint32_t task = 0; task < tasks_in_use(table); task++)
+        build_task(random, table, task, mood.waits, mood.favourite);
+    for (uint32_t task = 0; task < tasks_in_use(table); task++) {
+        if (task_field(table, task, T_STATE) == READY)
+            insert(random, table, table + READY_AT, task);
+        else if (task_field(table, task, T_STATE) == WAITING)
+            insert(random, table, table + list_place(task_field(table, task, T_HUB) - 1), task);
+    }
+}
+
+/* ---- Damaged tables ---------------------------------------------------- */
+
+/* A damage breaks one clause of a well-formed table, and no other where the
+ * clauses allow it. It gives 0 when the table has no place for it. */
+typedef struct damage damage;
+struct damage {
+    const char *name;
+    int clause;
+    int (*make)(gen_random *random, uint32_t *table, const damage *family);
+    uint32_t which; /* a contents word, a state, a kind of hub or of list */
+    uint32_t field; /* a field of that record, or a side */
+    uint32_t least; /* the wrong value is this or more */
+};
+
+enum { ANY = 0 };
+
+static void take_out(uint32_t *list, uint32_t at)
+{
+    memmove(list + at, list + at + 1, (LIST_WORDS - 1 - at) * sizeof *list);
+    list[LIST_WORDS - 1] = 0;
+}
+
+static uint32_t *list_of(uint32_t *table, uint32_t task)
+{
+    return table + list_place(task_field(table, task, T_HUB) - 1);
+}
+
+static uint32_t place_in(const uint32_t *list, uint32_t task)
+{
+    uint32_t at = 0;
+    while (list[at] != task + 1)
+        at++;
+    return at;
+}
+
+/* A hub of this kind (ANY: all kinds) and at least so many waiters. */
+static uint32_t pick_hub(gen_random *random, const uint32_t *table, uint32_t kind,
+                         uint32_t waiters)
+{
+    uint32_t hubs = hubs_in_use(table), first = hubs > 0 ? gen_below(random, hubs) : 0;
+
+    for (uint32_t i = 0; i < hubs; i++) {
+        uint32_t hub = (first + i) % hubs;
+        if ((kind == ANY || hub_field(table, hub, H_KIND) == kind) &&
+            list_length(table + list_place(hub)) >= waiters)
+            return hub;
+    }
+    return NOBODY;
+}
+
+/* A hub of this kind that nobody waits at, emptied: still well formed, and
+ * whatever its record then says, no waiter makes a second clause break. */
+static uint32_t pick_quiet_hub(gen_random *random, uint32_t *table, uint32_t kind)
+{
+    uint32_t hub = pick_hub(random, table, kind, 0);
+
+    if (hub == NOBODY || table[list_place(hub)] != 0)
+        return NOBODY;
+    table[hub_place(hub) + H_COUNT] = 0;
+    table[hub_place(hub) + H_START] = 0;
+    memset(table + store_place(hub), 0, STORE_WORDS * sizeof *table);
+    return hub;
+}
+
+/* A hub of this kind whose waiters (so many at least) are of this side. */
+static uint32_t pick_sided_hub(gen_random *random, const uint32_t *table, uint32_t kind,
+                               uint32_t side, uint32_t waiters)
+{
+    uint32_t hub = pick_hub(random, table, kind, waiters);
+
+    if (hub == NOBODY || task_field(table, table[list_place(hub)] - 1, T_SIDE) != side)
+        return NOBODY;
+    return hub;
+}
+
+/* Contents. */
+
+static int spoil_contents(gen_random *random, uint32_t *table, const damage *family)
+{
+    uint32_t right = table[family->which];
+
+    if (family->least != 0)
+        table[family->which] = at_least(random, family->least);
+    else
+        table[family->which] = gen_chance(random, 50) ? right + 1 : gen_word(random);
+    return table[family->which] != right;
+}
+
+static int one_task_less(gen_random *random, uint32_t *table, const damage *family)
+{
+    uint32_t tasks = tasks_in_use(table);
+
+    (void)random, (void)family;
+    if (tasks == 0 || task_field(table, tasks - 1, T_STATE) != INACTIVE)
+        return 0;
+    table[TASKS_IN_USE_AT]--;
+    return 1;
+}
+
+static int one_hub_less(gen_random *random, uint32_t *table, const damage *family)
+{
+    uint32_t hubs = hubs_in_use(table);
+
+    (void)random, (void)family;
+    if (hubs == 0 || table[list_place(hubs - 1)] != 0)
+        return 0;
+    table[HUBS_IN_USE_AT]--;
+    return 1;
+}
+
+static int one_more(gen_random *random, uint32_t *table, const damage *family)
+{
+    (void)random;
+    return ++table[family->which] <= TASKS;
+}
+
+/* A word in the unused part of a body: which is its start, field the words of
+ * one part, least where its number in use stands. */
+static int spoil_unused(gen_random *random, uint32_t *table, const damage *family)
+{
+    uint32_t in_use = table[family->least];
+
+    if (in_use == TASKS)
+        return 0;
+    uint32_t at = from_to(random, in_use * family->field, TASKS * family->field - 1);
+    table[family->which + at] = at_least(random, 1);
+    return 1;
+}
+
+/* Task records. */
+
+static int spoil_task(gen_random *random, uint32_t *table, const damage *family)
+{
+    uint32_t task = pick_task(random, table, T_STATE, family->which);
+
+    if (task == NOBODY)
+        return 0;
+    table[task_place(task) + family->field] = at_least(random, family->least);
+    return 1;
+}
+
+static int clear_task_field(gen_random *random, uint32_t *table, const damage *family)
+{
+    uint32_t task = pick_task(random, table, T_STATE, family->which);
+
+    if (task == NOBODY)
+        return 0;
+    table[task_place(task) + family->field] = 0;
+    return 1;
+}
+
+static int suspend_inactive(gen_random *random, uint32_t *table, const damage *family)
+{
+    uint32_t task = pick_task(random, table, T_STATE, INACTIVE);
+
+    (void)family;
+    if (task == NOBODY)
+        return 0;
+    table[task_place(task) + T_SUSPENDED] = 1;
+    return 1;
+}
+
+/* Ready, with a word, answer which. */
+static int word_without_ok(gen_random *random, uint32_t *table, const damage *family)
+{
+    uint32_t task = pick_task(random, table, T_STATE, READY);
+
+    if (task == NOBODY)
+        return 0;
+    table[task_place(task) + T_WORD] = at_least(random, 1);
+    table[task_place(task) + T_ANSWER] = family->which;
+    return 1;
+}
+
+/* A waiter at no hub in use, and in no list: that hub has none. */
+static int waits_nowhere(gen_random *random, uint32_t *table, const damage *family)
+{
+    uint32_t task = pick_task(random, table, T_STATE, WAITING);
+
+    if (task == NOBODY)
+        return 0;
+    take_out(list_of(table, task), place_in(list_of(table, task), task));
+    table[task_place(task) + T_HUB] =
+        family->which == 0 ? 0 : at_least(random, hubs_in_use(table) + 1);
+    return 1;
+}
+
+/* A waiter of side field at kind which has a word it may not have. */
+static int waits_with_word(gen_random *random, uint32_t *table, const damage *family)
+{
+    uint32_t hub = pick_sided_hub(random, table, family->which, family->field, 1);
+
+    if (hub == NOBODY)
+        return 0;
+    table[task_place(table[list_place(hub)] - 1) + T_WORD] = at_least(random, 1);
+    return 1;
+}
+
+/* Hub records. */
+
+static int spoil_hub(gen_random *random, uint32_t *table, const damage *family)
+{
+    uint32_t hub = pick_quiet_hub(random, table, family->which);
+
+    if (hub == NOBODY)
+        return 0;
+    table[hub_place(hub) + family->field] = at_least(random, family->least);
+    return 1;
+}
+
+static int clear_hub_field(gen_random *random, uint32_t *table, const damage *family)
+{
+    uint32_t hub = pick_quiet_hub(random, table, family->which);
+
+    if (hub == NOBODY)
+        return 0;
+    table[hub_place(hub) + family->field] = 0;
+    return 1;
+}
+
+static int above_limit(gen_random *random, uint32_t *table, const damage *family)
+{
+    uint32_t hub = pick_quiet_hub(random, table, family->which);
+
+    if (hub == NOBODY)
+        return 0;
+    table[hub_place(hub) + family->field] = at_least(random, hub_field(table, hub, H_LIMIT) + 1);
+    return 1;
+}
+
+/* One word more than its limit, and there it is in the store. */
+static int overfull_fifo(gen_random *random, uint32_t *table, const damage *family)
+{
+    uint32_t hub = pick_quiet_hub(random, table, FIFO);
+
+    (void)family;
+    if (hub == NOBODY || hub_field(table, hub, H_LIMIT) == FIFO_MAX)
+        return 0;
+    table[hub_place(hub) + H_COUNT] = hub_field(table, hub, H_LIMIT) + 1;
+    for (uint32_t i = 0; i < hub_field(table, hub, H_COUNT); i++)
+        table[store_place(hub) + i] = any_word(random);
+    return 1;
+}
+
+static int owner_not_in_use(gen_random *random, uint32_t *table, const damage *family)
+{
+    uint32_t hub = pick_quiet_hub(random, table, RESOURCE);
+
+    (void)family;
+    if (hub == NOBODY)
+        return 0;
+    table[hub_place(hub) + H_COUNT] = at_least(random, tasks_in_use(table) + 1);
+    return 1;
+}
+
+/* Lists. `which` is READY for the ready list, WAITING for a hub's. */
+
+static uint32_t *pick_list(gen_random *random, uint32_t *table, const damage *family,
+                           uint32_t least, uint32_t most)
+{
+    uint32_t *list = table + READY_AT;
+
+    if (family->which == WAITING) {
+        uint32_t hub = pick_hub(random, table, ANY, least);
+        if (hub == NOBODY)
+            return NULL;
+        list = table + list_place(hub);
+    }
+    return list_length(list) >= least && list_length(list) <= most ? list : NULL;
+}
+
+static void make_room(uint32_t *list, uint32_t at)
+{
+    memmove(list + at + 1, list + at, (LIST_WORDS - 1 - at) * sizeof *list);
+}
+
+static int gap_in_list(gen_random *random, uint32_t *table, const damage *family)
+{
+    uint32_t *list = pick_list(random, table, family, 1, LIST_WORDS - 1);
+
+    if (list == NULL)
+        return 0;
+    uint32_t at = gen_below(random, list_length(list));
+    make_room(list, at);
+    list[at] = 0;
+    return 1;
+}
+
+static int twice_in_list(gen_random *random, uint32_t *table, const damage *family)
+{
+    uint32_t *list = pick_list(random, table, family, 1, LIST_WORDS - 1);
+
+    if (list == NULL)
+        return 0;
+    make_room(list, gen_below(random, list_length(list))); /* leaves the entry doubled */
+    return 1;
+}
+
+/* The length stays right: one is there twice and another not at all. */
+static int twice_for_another(gen_random *random, uint32_t *table, const damage *family)
+{
+    uint32_t *list = pick_list(random, table, family, 2, LIST_WORDS);
+
+    if (list == NULL)
+        return 0;
+    uint32_t at = from_to(random, 1, list_length(list) - 1);
+    list[at] = list[at - 1];
+    return 1;
+}
+
+static int missing_in_list(gen_random *random, uint32_t *table, const damage *family)
+{
+    uint32_t *list = pick_list(random, table, family, 1, LIST_WORDS);
+
+    if (list == NULL)
+        return 0;
+    take_out(list, gen_below(random, list_length(list)));
+    return 1;
+}
+
+/* A task of another state, at the right place for its priority. */
+static int stranger_in_list(gen_random *random, uint32_t *table, const damage *family)
+{
+    uint32_t *list = pick_list(random, table, family, 0, LIST_WORDS - 1);
+    uint32_t stranger = pick_task(random, table, T_STATE, family->field);
+
+    if (list == NULL || stranger == NOBODY)
+        return 0;
+    insert(random, table, list, stranger);
+    return 1;
+}
+
+/* A waiter in the list of a hub that isn't its own. */
+static int in_another_list(gen_random *random, uint32_t *table, const damage *family)
+{
+    uint32_t task = pick_task(random, table, T_STATE, WAITING);
+    uint32_t hub = pick_hub(random, table, ANY, 0);
+
+    (void)family;
+    if (task == NOBODY || hub == task_field(table, task, T_HUB) - 1)
+        return 0;
+    take_out(list_of(table, task), place_in(list_of(table, task), task));
+    insert(random, table, table + list_place(hub), task);
+    return 1;
+}
+
+/* An entry behind the last that is no task in use. */
+static int no_task_in_list(gen_random *random, uint32_t *table, const damage *family)
+{
+    uint32_t *list = pick_list(random, table, family, 0, LIST_WORDS - 1);
+
+    if (list == NULL)
+        return 0;
+    list[list_length(list)] = at_least(random, tasks_in_use(table) + 1);
+    return 1;
+}
+
+/* As above, but in the place of a task. */
+static int no_task_for_another(gen_random *random, uint32_t *table, const damage *family)
+{
+    uint32_t *list = pick_list(random, table, family, 1, LIST_WORDS);
+
+    if (list == NULL)
+        return 0;
+    uint32_t at = gen_below(random, list_length(list));
+    list[at] = at_least(random, tasks_in_use(table) + 1);
+    return 1;
+}
+
+static int wrong_order(gen_random *random, uint32_t *table, const damage *family)
+{
+    uint32_t *list = pick_list(random, table, family, 2, LIST_WORDS);
+
+    if (list == NULL)
+        return 0;
+    uint32_t at = gen_below(random, list_length(list) - 1), first = list[at], then = list[at + 1];
+    if (task_field(table, first - 1, T_PRIORITY) == task_field(table, then - 1, T_PRIORITY))
+        return 0;
+    list[at] = then;
+    list[at + 1] = first;
+    return 1;
+}
+
+/* Who may wait. */
+
+/* One waiter of kind which turns to the other side. */
+static int two_sides(gen_random *random, uint32_t *table, const damage *family)
+{
+    uint32_t hub = pick_hub(random, table, family->which, 2);
+
+    if (hub == NOBODY)
+        return 0;
+    const uint32_t *list = table + list_place(hub);
+    uint32_t *task = table + task_place(list[gen_below(random, list_length(list))] - 1);
+    task[T_SIDE] = task[T_SIDE] == PUT ? GET : PUT;
+    task[T_WORD] = 0;
+    return 1;
+}
+
+/* Getters at an Event or Semaphore above 0 or at a FIFO that holds a word. */
+static int getters_at_something(gen_random *random, uint32_t *table, const damage *family)
+{
+    uint32_t hub = pick_sided_hub(random, table, family->which, GET, 1);
+
+    if (hub == NOBODY)
+        return 0;
+    table[hub_place(hub) + H_COUNT] = from_to(random, 1, hub_field(table, hub, H_LIMIT));
+    for (uint32_t i = 0; family->which == FIFO && i < hub_field(table, hub, H_COUNT); i++)
+        table[store_place(hub) + i] = any_word(random);
+    return 1;
+}
+
+static int getters_at_free(gen_random *random, uint32_t *table, const damage *family)
+{
+    uint32_t hub = pick_hub(random, table, RESOURCE, 1);
+
+    (void)family;
+    if (hub == NOBODY)
+        return 0;
+    table[hub_place(hub) + H_COUNT] = 0;
+    return 1;
+}
+
+static int owner_waits(gen_random *random, uint32_t *table, const damage *family)
+{
+    uint32_t hub = pick_hub(random, table, RESOURCE, 1);
+
+    (void)family;
+    if (hub == NOBODY)
+        return 0;
+    const uint32_t *list = table + list_place(hub);
+    table[hub_place(hub) + H_COUNT] = list[gen_below(random, list_length(list))];
+    return 1;
+}
+
+/* Putters at an Event, Semaphore or FIFO below its limit. */
+static int putters_below_limit(gen_random *random, uint32_t *table, const damage *family)
+{
+    uint32_t hub = pick_sided_hub(random, table, family->which, PUT, 1);
+
+    if (hub == NOBODY)
+        return 0;
+    uint32_t count = gen_below(random, hub_field(table, hub, H_LIMIT));
+    table[hub_place(hub) + H_COUNT] = count;
+    if (family->which == FIFO)
+        memset(table + store_place(hub) + count, 0, (STORE_WORDS - count) * sizeof *table);
+    return 1;
+}
+
+static int putters_at_resource(gen_random *random, uint32_t *table, const damage *family)
+{
+    uint32_t hub = pick_hub(random, table, RESOURCE, 1);
+
+    (void)family;
+    if (hub == NOBODY)
+        return 0;
+    const uint32_t *list = table + list_place(hub);
+    for (uint32_t i = 0; i < list_length(list); i++)
+        table[task_place(list[i] - 1) + T_SIDE] = PUT;
+    return 1;
+}
+
+/* Stores. */
+
+static int word_in_store(gen_random *random, uint32_t *table, const damage *family)
+{
+    uint32_t hub = pick_hub(random, table, family->which, 0);
+
+    if (hub == NOBODY)
+        return 0;
+    uint32_t held = family->which == FIFO ? hub_field(table, hub, H_COUNT) : 0;
+    if (held == STORE_WORDS)
+        return 0;
+    uint32_t at = from_to(random, held, STORE_WORDS - 1);
+    table[store_place(hub) + at] = at_least(random, 1);
+    return 1;
+}
+
+static const damage damages[] = {
+    {"contents: edition", SECOND_CONTENTS, spoil_contents, EDITION_AT, 0, 0},
+    {"contents: tasks above 16", SECOND_CONTENTS, spoil_contents, TASKS_IN_USE_AT, 0, TASKS + 1},
+    {"contents: hubs above 16", SECOND_CONTENTS, spoil_contents, HUBS_IN_USE_AT, 0, HUBS + 1},
+    {"contents: start of tasks", SECOND_CONTENTS, spoil_contents, STARTS_AT, 0, 0},
+    {"contents: start of hubs", SECOND_CONTENTS, spoil_contents, STARTS_AT + 1, 0, 0},
+    {"contents: start of ready list", SECOND_CONTENTS, spoil_contents, STARTS_AT + 2, 0, 0},
+    {"contents: start of waiting lists", SECOND_CONTENTS, spoil_contents, STARTS_AT + 3, 0, 0},
+    {"contents: start of stores", SECOND_CONTENTS, spoil_contents, STARTS_AT + 4, 0, 0},
+
+    {"unused: one task less", SECOND_UNUSED, one_task_less, 0, 0, 0},
+    {"unused: one hub less", SECOND_UNUSED, one_hub_less, 0, 0, 0},
+    {"unused: task record", SECOND_UNUSED, spoil_unused, TASKS_AT, TASK_WORDS, TASKS_IN_USE_AT},
+    {"unused: hub record", SECOND_UNUSED, spoil_unused, HUBS_AT, HUB_WORDS, HUBS_IN_USE_AT},
+    {"unused: waiting list", SECOND_UNUSED, spoil_unused, WAITING_AT, LIST_WORDS, HUBS_IN_USE_AT},
+    {"unused: store", SECOND_UNUSED, spoil_unused, STORES_AT, STORE_WORDS, HUBS_IN_USE_AT},
+
+    {"task: one more than there are", SECOND_TASK_RANGE, one_more, TASKS_IN_USE_AT, 0, 0},
+    {"task: state 0", SECOND_TASK_RANGE, clear_task_field, INACTIVE, T_STATE, 0},
+    {"task: state above 4", SECOND_TASK_RANGE, spoil_task, INACTIVE, T_STATE, SLEEPING + 1},
+    {"task: suspended, ready", SECOND_TASK_RANGE, spoil_task, READY, T_SUSPENDED, 2},
+    {"task: suspended, waiting", SECOND_TASK_RANGE, spoil_task, WAITING, T_SUSPENDED, 2},
+    {"task: suspended, sleeping", SECOND_TASK_RANGE, spoil_task, SLEEPING, T_SUSPENDED, 2},
+    {"task: priority, inactive", SECOND_TASK_RANGE, spoil_task, INACTIVE, T_PRIORITY,
+     PRIORITY_MAX + 1},
+    {"task: priority, ready", SECOND_TASK_RANGE, spoil_task, READY, T_PRIORITY, PRIORITY_MAX + 1},
+    {"task: priority, waiting", SECOND_TASK_RANGE, spoil_task, WAITING, T_PRIORITY,
+     PRIORITY_MAX + 1},
+    {"task: priority, sleeping", SECOND_TASK_RANGE, spoil_task, SLEEPING, T_PRIORITY,
+     PRIORITY_MAX + 1},
+
+    {"inactive: suspended", SECOND_INACTIVE, suspend_inactive, 0, 0, 0},
+    {"inactive: hub", SECOND_INACTIVE, spoil_task, INACTIVE, T_HUB, 1},
+    {"inactive: ticks", SECOND_INACTIVE, spoil_task, INACTIVE, T_TICKS, 1},
+    {"inactive: side", SECOND_INACTIVE, spoil_task, INACTIVE, T_SIDE, 1},
+    {"inactive: word", SECOND_INACTIVE, spoil_task, INACTIVE, T_WORD, 1},
+    {"inactive: answer", SECOND_INACTIVE, spoil_task, INACTIVE, T_ANSWER, 1},
+
+    {"ready: hub", SECOND_READY, spoil_task, READY, T_HUB, 1},
+    {"ready: ticks", SECOND_READY, spoil_task, READY, T_TICKS, 1},
+    {"ready: side", SECOND_READY, spoil_task, READY, T_SIDE, 1},
+    {"ready: answer above 3", SECOND_READY, spoil_task, READY, T_ANSWER, TO + 1},
+    {"ready: word with answer 0", SECOND_READY, word_without_ok, NO_ANSWER, 0, 0},
+    {"ready: word with answer 2", SECOND_READY, word_without_ok, FAIL, 0, 0},
+    {"ready: word with answer 3", SECOND_READY, word_without_ok, TO, 0, 0},
+
+    {"waiting: no hub", SECOND_WAITING, waits_nowhere, 0, 0, 0},
+    {"waiting: hub not in use", SECOND_WAITING, waits_nowhere, 1, 0, 0},
+    {"waiting: ticks", SECOND_WAITING, spoil_task, WAITING, T_TICKS, TICKS_MAX + 1},
+    {"waiting: side 0", SECOND_WAITING, clear_task_field, WAITING, T_SIDE, 0},
+    {"waiting: side above 2", SECOND_WAITING, spoil_task, WAITING, T_SIDE, GET + 1},
+    {"waiting: answer", SECOND_WAITING, spoil_task, WAITING, T_ANSWER, 1},
+    {"waiting: word, Event put", SECOND_WAITING, waits_with_word, EVENT, PUT, 0},
+    {"waiting: word, Event get", SECOND_WAITING, waits_with_word, EVENT, GET, 0},
+    {"waiting: word, Semaphore put", SECOND_WAITING, waits_with_word, SEMAPHORE, PUT, 0},
+    {"waiting: word, Semaphore get", SECOND_WAITING, waits_with_word, SEMAPHORE, GET, 0},
+    {"waiting: word, Port get", SECOND_WAITING, waits_with_word, PORT, GET, 0},
+    {"waiting: word, FIFO get", SECOND_WAITING, waits_with_word, FIFO, GET, 0},
+    {"waiting: word, Resource get", SECOND_WAITING, waits_with_word, RESOURCE, GET, 0},
+
+    {"sleeping: hub", SECOND_SLEEPING, spoil_task, SLEEPING, T_HUB, 1},
+    {"sleeping: ticks 0", SECOND_SLEEPING, clear_task_field, SLEEPING, T_TICKS, 0},
+    {"sleeping: ticks", SECOND_SLEEPING, spoil_task, SLEEPING, T_TICKS, TICKS_MAX + 1},
+    {"sleeping: side", SECOND_SLEEPING, spoil_task, SLEEPING, T_SIDE, 1},
+    {"sleeping: word", SECOND_SLEEPING, spoil_task, SLEEPING, T_WORD, 1},
+    {"sleeping: answer", SECOND_SLEEPING, spoil_task, SLEEPING, T_ANSWER, 1},
+
+    {"hub: one more than there are", SECOND_KIND, one_more, HUBS_IN_USE_AT, 0, 0},
+    {"hub: kind 0", SECOND_KIND, clear_hub_field, PORT, H_KIND, 0},
+    {"hub: kind above 5", SECOND_KIND, spoil_hub, PORT, H_KIND, RESOURCE + 1},
+    {"Event: limit 0", SECOND_KIND, clear_hub_field, EVENT, H_LIMIT, 0},
+    {"Event: limit above 1", SECOND_KIND, spoil_hub, EVENT, H_LIMIT, 2},
+    {"Event: start", SECOND_KIND, spoil_hub, EVENT, H_START, 1},
+    {"Event: count", SECOND_COUNT, above_limit, EVENT, H_COUNT, 0},
+    {"Semaphore: limit 0", SECOND_KIND, clear_hub_field, SEMAPHORE, H_LIMIT, 0},
+    {"Semaphore: limit above 65535", SECOND_KIND, spoil_hub, SEMAPHORE, H_LIMIT,
+     SEMAPHORE_MAX + 1},
+    {"Semaphore: start", SECOND_KIND, above_limit, SEMAPHORE, H_START, 0},
+    {"Semaphore: count", SECOND_COUNT, above_limit, SEMAPHORE, H_COUNT, 0},
+    {"Port: limit", SECOND_KIND, spoil_hub, PORT, H_LIMIT, 1},
+    {"Port: start", SECOND_KIND, spoil_hub, PORT, H_START, 1},
+    {"Port: count", SECOND_COUNT, above_limit, PORT, H_COUNT, 0},
+    {"FIFO: limit 0", SECOND_KIND, clear_hub_field, FIFO, H_LIMIT, 0},
+    {"FIFO: limit above 8", SECOND_KIND, spoil_hub, FIFO, H_LIMIT, FIFO_MAX + 1},
+    {"FIFO: start", SECOND_KIND, spoil_hub, FIFO, H_START, 1},
+    {"FIFO: count", SECOND_COUNT, above_limit, FIFO, H_COUNT, 0},
+    {"FIFO: a word above the limit", SECOND_COUNT, overfull_fifo, 0, 0, 0},
+    {"Resource: limit 0", SECOND_KIND, clear_hub_field, RESOURCE, H_LIMIT, 0},
+    {"Resource: limit above 1", SECOND_KIND, spoil_hub, RESOURCE, H_LIMIT, 2},
+    {"Resource: start", SECOND_KIND, spoil_hub, RESOURCE, H_START, 1},
+    {"Resource: owner not in use", SECOND_COUNT, owner_not_in_use, 0, 0, 0},
+
+    {"ready list: gap", SECOND_READY_LIST, gap_in_list, READY, 0, 0},
+    {"ready list: task twice", SECOND_READY_LIST, twice_in_list, READY, 0, 0},
+    {"ready list: twice for another", SECOND_READY_LIST, twice_for_another, READY, 0, 0},
+    {"ready list: missing", SECOND_READY_LIST, missing_in_list, READY, 0, 0},
+    {"ready list: inactive task", SECOND_READY_LIST, stranger_in_list, READY, INACTIVE, 0},
+    {"ready list: waiting task", SECOND_READY_LIST, stranger_in_list, READY, WAITING, 0},
+    {"ready list: sleeping task", SECOND_READY_LIST, stranger_in_list, READY, SLEEPING, 0},
+    {"ready list: no task behind", SECOND_READY_LIST, no_task_in_list, READY, 0, 0},
+    {"ready list: no task for another", SECOND_READY_LIST, no_task_for_another, READY, 0, 0},
+    {"ready list: order", SECOND_ORDER, wrong_order, READY, 0, 0},
+    {"waiting list: gap", SECOND_WAITING_LIST, gap_in_list, WAITING, 0, 0},
+    {"waiting list: task twice", SECOND_WAITING_LIST, twice_in_list, WAITING, 0, 0},
+    {"waiting list: twice for another", SECOND_WAITING_LIST, twice_for_another, WAITING, 0, 0},
+    {"waiting list: missing", SECOND_WAITING_LIST, missing_in_list, WAITING, 0, 0},
+    {"waiting list: inactive task", SECOND_WAITING_LIST, stranger_in_list, WAITING, INACTIVE, 0},
+    {"waiting list: ready task", SECOND_WAITING_LIST, stranger_in_list, WAITING, READY, 0},
+    {"waiting list: sleeping task", SECOND_WAITING_LIST, stranger_in_list, WAITING, SLEEPING, 0},
+    {"waiting list: another hub's", SECOND_WAITING_LIST, in_another_list, 0, 0, 0},
+    {"waiting list: no task behind", SECOND_WAITING_LIST, no_task_in_list, WAITING, 0, 0},
+    {"waiting list: no task for another", SECOND_WAITING_LIST, no_task_for_another, WAITING, 0, 0},
+    {"waiting list: order", SECOND_ORDER, wrong_order, WAITING, 0, 0},
+
+    {"two sides: Event", SECOND_ONE_SIDE, two_sides, EVENT, 0, 0},
+    {"two sides: Semaphore", SECOND_ONE_SIDE, two_sides, SEMAPHORE, 0, 0},
+    {"two sides: Port", SECOND_ONE_SIDE, two_sides, PORT, 0, 0},
+    {"two sides: FIFO", SECOND_ONE_SIDE, two_sides, FIFO, 0, 0},
+    {"two sides: Resource", SECOND_ONE_SIDE, two_sides, RESOURCE, 0, 0},
+    {"getters: Event at 1", SECOND_GETTERS, getters_at_something, EVENT, 0, 0},
+    {"getters: Semaphore above 0", SECOND_GETTERS, getters_at_something, SEMAPHORE, 0, 0},
+    {"getters: FIFO with words", SECOND_GETTERS, getters_at_something, FIFO, 0, 0},
+    {"getters: free Resource", SECOND_GETTERS, getters_at_free, 0, 0, 0},
+    {"getters: Resource's owner", SECOND_GETTERS, owner_waits, 0, 0, 0},
+    {"putters: Event at 0", SECOND_PUTTERS, putters_below_limit, EVENT, 0, 0},
+    {"putters: Semaphore below limit", SECOND_PUTTERS, putters_below_limit, SEMAPHORE, 0, 0},
+    {"putters: FIFO below limit", SECOND_PUTTERS, putters_below_limit, FIFO, 0, 0},
+    {"putters: Resource", SECOND_PUTTERS, putters_at_resource, 0, 0, 0},
+
+    {"store: Event", SECOND_STORE, word_in_store, EVENT, 0, 0},
+    {"store: Semaphore", SECOND_STORE, word_in_store, SEMAPHORE, 0, 0},
+    {"store: Port", SECOND_STORE, word_in_store, PORT, 0, 0},
+    {"store: FIFO behind its words", SECOND_STORE, word_in_store, FIFO, 0, 0},
+    {"store: Resource", SECOND_STORE, word_in_store, RESOURCE, 0, 0},
+};
+
+size_t gen_damages(void) { return sizeof damages / sizeof *damages; }
+const char *gen_damage_name(size_t family) { return damages[family].name; }
+int gen_damage_clause(size_t family) { return damages[family].clause; }
+
+void gen_damaged(gen_random *random, size_t family, uint32_t table[600])
+{
+    do
+        gen_table(random, table);
+    while (!damages[family].make(random, table, &damages[family]));
+}
+
+void gen_flip(gen_random *random, uint32_t table[600])
+{
+    for (uint32_t flips = from_to(random, 1, 3); flips > 0; flips--) {
+        uint32_t *word = table + gen_below(random, WORDS);
+        switch (gen_below(random, 4)) {
+        case 0:
+            *word = gen_below(random, 17);
+            break;
+        case 1:
+            *word += ONE_OF(random, 1, UINT32_MAX);
+            break;
+        case 2:
+            *word = table[gen_below(random, WORDS)];
+            break;
+        default:
+            *word = any_word(random);
+            break;
+        }
+    }
+}
+
+/* ---- Drill lines ------------------------------------------------------- */
+
+static size_t insert_byte(uint8_t *line, size_t length, size_t at, uint8_t byte)
+{
+    memmove(line + at + 1, line + at, length - at);
+    line[at] = byte;
+    return length + 1;
+}
+
+/* Where a number of the line starts, the first or a later one. */
+static size_t number_start(gen_random *random, const uint8_t *line, size_t length)
+{
+    size_t at = gen_below(random, (uint32_t)length);
+    while (at > 0 && line[at - 1] != ' ')
+        at--;
+    return at;
+}
+
+/* Each case makes a good line bad for one cause. */
+static size_t damage_line(gen_random *random, uint8_t *line, size_t length)
+{
+    size_t at = number_start(random, line, length);
+    size_t anywhere = gen_below(random, (uint32_t)length + 1);
+
+    switch (gen_below(random, 12)) {
+    case 0: /* leading zero, "00" among them */
+        return insert_byte(line, length, at, '0');
+    case 1: /* leading or double space */
+        return insert_byte(line, length, at, ' ');
+    case 2:
+        return insert_byte(line, length, length, ' ');
+    case 3: /* carriage return, tab, NUL, sign, letter, beyond ASCII, any but space or digit */
+        return insert_byte(line, length, anywhere,
+                           (uint8_t)ONE_OF(random, '\r', '\t', 0, '-', '+', 'x', '.', '/', ':', 11,
+                                           0x85, 0xFF));
+    case 4:
+        return insert_byte(line, length, length, '\r');
+    case 5: /* the space between is another byte */
+        if (at > 0)
+            line[at - 1] = (uint8_t)ONE_OF(random, '\t', ',', 0, 0xA0);
+        else
+            line[at] = '-';
+        return length;
+    case 6: /* six numbers */
+        while (line[--length] != ' ')
+            ;
+        return length;
+    case 7: /* eight */
+        line[length] = ' ';
+        return insert_byte(line, length + 1, length + 1, '7');
+    case 8: /* too large by one, or by a digit */
+        return (size_t)snprintf((char *)line, GEN_LINE_MAX, "0 0 %s 0 0 0 0",
+                                gen_chance(random, 50) ? "4294967296" : "10000000000");
+    case 9: /* 81 bytes and more */
+        length = from_to(random, 81, gen_chance(random, 80) ? 90 : GEN_LINE_MAX);
+        memset(line, (int)ONE_OF(random, '0', '1', ' ', 'x'), length);
+        return length;
+    case 10:
+        return 0;
+    default:
+        return (size_t)snprintf((char *)line, GEN_LINE_MAX, "%s",
+                                gen_chance(random, 50) ? "0 0 0 0 0 0 " : "x");
+    }
+}
+
+size_t gen_drill_line(gen_random *random, const gen_mood *mood, const uint32_t *table,
+                      uint8_t line[GEN_LINE_MAX], uint32_t call[7], int *good)
+{
+    size_t length = 0;
+
+    gen_call(random, mood, table, call);
+    for (int i = 0; i < CALL_NUMBERS; i++)
+        length += (size_t)snprintf((char *)line + length, GEN_LINE_MAX - length, "%s%lu",
+                                   i > 0 ? " " : "", (unsigned long)call[i]);
+    *good = !gen_chance(random, 10);
+    return *good ? length : damage_line(random, line, length);
+}

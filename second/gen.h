@@ -1,0 +1,63 @@
+/* The seeded generator: what the second program is tested with, and what it
+ * and the proved kernel are later compared on. It draws calls and tables only;
+ * it never runs a kernel, so any kernel may sit between its draws. The same
+ * seed gives the same draws on every machine.
+ *
+ *   a  runs from Blank: gen_mood, then gen_call on the table of the moment
+ *   b  well-formed tables that no run need reach: gen_table, then gen_call
+ *   c  damaged tables, a family for each way of not being well formed:
+ *      gen_damaged; and gen_flip, a few words changed at random, right or not
+ *   d  drill lines, damaged ones among them: gen_drill_line
+ */
+#ifndef GEN_H
+#define GEN_H
+
+#include <stddef.h>
+#include <stdint.h>
+
+typedef struct {
+    uint64_t state;
+} gen_random;
+
+void gen_seed(gen_random *random, uint64_t seed);
+uint32_t gen_word(gen_random *random);                     /* all 32-bit values alike */
+uint32_t gen_below(gen_random *random, uint32_t bound);    /* 0 to bound - 1 */
+int gen_chance(gen_random *random, uint32_t percent);
+
+/* What a run tends to do. The sizes stay; gen_turn draws the leanings anew, so
+ * that a long run fills its hubs, empties them and fills them again. */
+typedef struct {
+    uint32_t tasks, hubs;    /* how many the run adds first */
+    uint32_t priorities;     /* how many different ones; 1 makes all equals */
+    uint32_t kind;           /* favourite kind of hub, 0 none */
+    uint32_t favourite;      /* percent of requests that go to hub 0 */
+    uint32_t puts;           /* percent of requests that put */
+    uint32_t longest;        /* ticks of WT and Sleep, 1 to this */
+    uint32_t waits;          /* percent of requests under W or WT */
+    uint32_t refused;        /* percent of calls meant to be refused */
+} gen_mood;
+
+void gen_draw_mood(gen_random *random, gen_mood *mood);
+void gen_turn(gen_random *random, gen_mood *mood);
+
+/* The next call on this table: Blank unless the table's edition is 1. */
+void gen_call(gen_random *random, const gen_mood *mood, const uint32_t *table, uint32_t call[7]);
+
+void gen_table(gen_random *random, uint32_t table[600]);
+
+/* Family 0 to gen_damages() - 1. The clause is what the family breaks: the
+ * value that second_well_formed gives for each of its tables. */
+size_t gen_damages(void);
+const char *gen_damage_name(size_t family);
+int gen_damage_clause(size_t family);
+void gen_damaged(gen_random *random, size_t family, uint32_t table[600]);
+void gen_flip(gen_random *random, uint32_t table[600]);
+
+enum { GEN_LINE_MAX = 6000 };
+
+/* A drill line without its newline; gives its length. *good says whether the
+ * line holds the call. */
+size_t gen_drill_line(gen_random *random, const gen_mood *mood, const uint32_t *table,
+                      uint8_t line[GEN_LINE_MAX], uint32_t call[7], int *good);
+
+#endif

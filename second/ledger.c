@@ -1,0 +1,236 @@
+/* Demand 3's bookkeeping; ledger.h says what it reads and what it doesn't. */
+#include "ledger.h"
+
+#include <string.h>
+
+#include "numbers.h"
+
+static uint32_t task_word(const uint32_t *table, uint32_t task, size_t field)
+{
+    return table[task_place(task) + field];
+}
+
+static int waits(const uint32_t *table, uint32_t task)
+{
+    return task < table[TASKS_IN_USE_AT] && task_word(table, task, T_STATE) == WAITING;
+}
+
+void ledger_begin(ledger *book)
+{
+    book->requests = 0;
+    memset(book->open, 0, sizeof book->open);
+    for (int hub = 0; hub < HUBS; hub++)
+        book->hub[hub].puts = book->hub[hub].gets = 0;
+}
+
+/* ---- Classes ----------------------------------------------------------- */
+
+/* The record still shows the request that the call made. */
+static int still_shown(const ledger_request *request, const uint32_t *after)
+{
+    uint32_t left = request->ticks == 0 ? 0 : request->ticks - request->age;
+    uint32_t kind = after[hub_place(request->hub) + H_KIND];
+    uint32_t kept = request->side == PUT && (kind == PORT || kind == FIFO) ? request->word : 0;
+
+    return task_word(after, request->task, T_HUB) == request->hub + 1 &&
+           task_word(after, request->task, T_SIDE) == request->side &&
+           task_word(after, request->task, T_TICKS) == left &&
+           task_word(after, request->task, T_WORD) == kept;
+}
+
+static const char *enter_request(ledger *book, const uint32_t *call, second_reply reply,
+                                 const uint32_t *after)
+{
+    ledger_request *request = &book->request[book->requests++];
+    uint32_t state = task_word(after, call[C_CALLER], T_STATE);
+    uint32_t answer = task_word(after, call[C_CALLER], T_ANSWER);
+
+    *request = (ledger_request){IS_WAITING,   call[C_CALLER], call[C_TARGET], call[C_SIDE],
+                                call[C_WORD], call[C_TICKS],  0};
+    if (reply.answer != answer)
+        return "the reply isn't the caller's answer";
+    if (state == WAITING && answer == NO_ANSWER) {
+        book->open[call[C_CALLER]] = request;
+        return still_shown(request, after) ? NULL : "a waiting request isn't as called";
+    }
+    if (state != READY || (answer != OK && answer != FAIL))
+        return "a request is neither waiting, met nor failed after its call";
+    request->class = answer == OK ? IS_MET : IS_FAILED;
+    return NULL;
+}
+
+/* The class of a request that waited before the call, from the record after. */
+static int class_after(const uint32_t *after, uint32_t task, ledger_class *class)
+{
+    uint32_t state = task_word(after, task, T_STATE), answer = task_word(after, task, T_ANSWER);
+
+    if (state == WAITING)
+        *class = IS_WAITING;
+    else if (state == READY && answer == OK)
+        *class = IS_MET;
+    else if (state == READY && answer == TO)
+        *class = IS_TIMED_OUT;
+    else if (state == INACTIVE)
+        *class = IS_WITHDRAWN;
+    else
+        return 0;
+    return 1;
+}
+
+/* Met means met: the first waiter, of the other side, at the caller's hub. */
+static int may_be_met(const ledger_request *request, const uint32_t *before, const uint32_t *call)
+{
+    return call[C_SERVICE] == HUB_REQUEST && call[C_TARGET] == request->hub &&
+           call[C_SIDE] != request->side && before[list_place(request->hub)] == request->task + 1;
+}
+
+static const char *follow_waiter(ledger *book, uint32_t task, const uint32_t *before,
+                                 const uint32_t *call, const uint32_t *after)
+{
+    ledger_request *request = book->open[task];
+
+    if (call[C_SERVICE] == TICK)
+        request->age++;
+    if (!class_after(after, task, &request->class))
+        return "a request left waiting into no class";
+    if (request->class == IS_WAITING) {
+        if (request->ticks != 0 && request->age >= request->ticks)
+            return "a request under WT outlived its ticks";
+        return still_shown(request, after) ? NULL : "a waiting request changed";
+    }
+    book->open[task] = NULL;
+    if (request->class == IS_MET && !may_be_met(request, before, call))
+        return "a request turned met that the call didn't meet";
+    if (request->class == IS_TIMED_OUT &&
+        (call[C_SERVICE] != TICK || request->ticks == 0 || request->age != request->ticks))
+        return "a request timed out before its time or outside Tick";
+    if (request->class == IS_WITHDRAWN && (call[C_SERVICE] != STOP || call[C_TARGET] != task))
+        return "a request was withdrawn outside its task's Stop";
+    return NULL;
+}
+
+/* ---- Words and counts -------------------------------------------------- */
+
+static void enter_meeting(ledger *book, const ledger_request *request, const uint32_t *after)
+{
+    ledger_hub *hub = &book->hub[request->hub];
+
+    if (request->side == PUT)
+        hub->put[hub->puts++] = request->word;
+    else
+        hub->got[hub->gets++] = task_word(after, request->task, T_WORD);
+}
+
+/* A put met in the same call as a get comes before it in order of meeting. */
+static const char *enter_meetings(ledger *book, const ledger_request *of_caller,
+                                  const ledger_request *of_waiter, const uint32_t *after)
+{
+    if (of_waiter != NULL && (of_caller == NULL || of_caller->class != IS_MET))
+        return "a waiter was met but not the caller";
+    for (uint32_t side = PUT; side <= GET; side++) {
+        if (of_caller != NULL && of_caller->class == IS_MET && of_caller->side == side)
+            enter_meeting(book, of_caller, after);
+        if (of_waiter != NULL && of_waiter->side == side)
+            enter_meeting(book, of_waiter, after);
+    }
+    return NULL;
+}
+
+static int words_equal(const uint32_t *a, const uint32_t *b, uint32_t count)
+{
+    return memcmp(a, b, count * sizeof *a) == 0;
+}
+
+/* From word `since` of what was got: earlier ones were compared before. */
+static const char *hub_adds_up(const ledger_hub *hub, const uint32_t *table, uint32_t number,
+                               uint32_t since)
+{
+    const uint32_t *record = table + hub_place(number);
+    uint32_t count = record[H_COUNT], from = since < hub->gets ? since : hub->gets;
+
+    switch (record[H_KIND]) {
+    case EVENT:
+        return hub->puts - hub->gets == count ? NULL : "Event: met puts - met gets isn't the count";
+    case SEMAPHORE:
+        return record[H_START] + hub->puts - hub->gets == count
+                   ? NULL
+                   : "Semaphore: start + met puts - met gets isn't the count";
+    case PORT:
+        return hub->puts == hub->gets &&
+                       words_equal(hub->put + from, hub->got + from, hub->gets - from)
+                   ? NULL
+                   : "Port: words of met puts aren't those of met gets";
+    case FIFO:
+        return hub->puts == hub->gets + count &&
+                       words_equal(hub->put + from, hub->got + from, hub->gets - from) &&
+                       words_equal(hub->put + hub->gets, table + store_place(number), count)
+                   ? NULL
+                   : "FIFO: words of met puts aren't those of met gets and those held";
+    default:
+        return hub->gets - hub->puts == (count != 0) ? NULL : "Resource: locks don't add up";
+    }
+}
+
+/* ---- The book ---------------------------------------------------------- */
+
+const char *ledger_enter(ledger *book, const uint32_t *before, const uint32_t call[7],
+                         second_reply reply, const uint32_t *after)
+{
+    ledger_request *of_caller = NULL, *of_waiter = NULL;
+    const char *wrong;
+
+    if (reply.refusal != ACCEPTED)
+        return words_equal(before, after, WORDS) ? NULL : "a refused call changed the table";
+    if (call[C_SERVICE] == BLANK) {
+        ledger_begin(book);
+        return NULL;
+    }
+
+    for (uint32_t task = 0; task < after[TASKS_IN_USE_AT]; task++) {
+        ledger_request *was = book->open[task];
+        if (was != NULL) {
+            if ((wrong = follow_waiter(book, task, before, call, after)) != NULL)
+                return wrong;
+            if (was->class == IS_MET)
+                of_waiter = was; /* at most one is first in the caller's hub's list */
+        } else if (call[C_SERVICE] == HUB_REQUEST && call[C_CALLER] == task) {
+            of_caller = &book->request[book->requests];
+            if ((wrong = enter_request(book, call, reply, after)) != NULL)
+                return wrong;
+        }
+        if (waits(after, task) != (book->open[task] != NULL))
+            return "tasks in state 3 aren't the waiting requests, one each";
+    }
+    if ((wrong = enter_meetings(book, of_caller, of_waiter, after)) != NULL)
+        return wrong;
+    for (uint32_t hub = 0; hub < after[HUBS_IN_USE_AT]; hub++)
+        if ((wrong = hub_adds_up(&book->hub[hub], after, hub,
+                                 book->hub[hub].gets > 0 ? book->hub[hub].gets - 1 : 0)) != NULL)
+            return wrong;
+    return NULL;
+}
+
+const char *ledger_end(const ledger *book, const uint32_t *table)
+{
+    uint32_t met[HUBS][GET + 1] = {{0}}, waiting = 0;
+    const char *wrong;
+
+    for (size_t i = 0; i < book->requests; i++) {
+        const ledger_request *request = &book->request[i];
+        met[request->hub][request->side] += request->class == IS_MET;
+        waiting += request->class == IS_WAITING;
+        if (request->class == IS_WAITING && book->open[request->task] != request)
+            return "a request waits without its task";
+    }
+    for (uint32_t task = 0; task < table[TASKS_IN_USE_AT]; task++)
+        waiting -= waits(table, task);
+    if (waiting != 0)
+        return "waiting requests aren't the tasks in state 3";
+    for (uint32_t hub = 0; hub < table[HUBS_IN_USE_AT]; hub++) {
+        if (met[hub][PUT] != book->hub[hub].puts || met[hub][GET] != book->hub[hub].gets)
+            return "met requests don't add up again";
+        if ((wrong = hub_adds_up(&book->hub[hub], table, hub, 0)) != NULL)
+            return wrong;
+    }
+    return NULL;
+}

@@ -1,0 +1,48 @@
+/* Demand 3, read from the calls and the tables around them only. The ledger
+ * enters every accepted hub request since the last accepted Blank, and after
+ * each call tells each request's class from the records before and after it.
+ * It asks no kernel for a total; what it counts, it counts itself. */
+#ifndef LEDGER_H
+#define LEDGER_H
+
+#include <stddef.h>
+#include <stdint.h>
+
+#include "second.h"
+
+enum { LEDGER_REQUESTS = 4096 };
+
+typedef enum { IS_WAITING, IS_MET, IS_FAILED, IS_TIMED_OUT, IS_WITHDRAWN } ledger_class;
+
+typedef struct {
+    ledger_class class;
+    uint32_t task, hub, side, word;
+    uint32_t ticks; /* of the call; 0 without limit */
+    uint32_t age;   /* accepted Ticks since */
+} ledger_request;
+
+/* The words of one hub's met requests, in order of meeting. */
+typedef struct {
+    uint32_t puts, gets;
+    uint32_t put[LEDGER_REQUESTS], got[LEDGER_REQUESTS];
+} ledger_hub;
+
+typedef struct {
+    size_t requests;
+    ledger_request request[LEDGER_REQUESTS];
+    ledger_request *open[16]; /* the task's waiting request, or none */
+    ledger_hub hub[16];
+} ledger;
+
+/* An accepted Blank begins a new run. */
+void ledger_begin(ledger *book);
+
+/* Enters one call; at most LEDGER_REQUESTS requests between two Blanks. Gives
+ * what is wrong, in words, or NULL. */
+const char *ledger_enter(ledger *book, const uint32_t *before, const uint32_t call[7],
+                         second_reply reply, const uint32_t *after);
+
+/* Adds everything up again from the requests alone. */
+const char *ledger_end(const ledger *book, const uint32_t *table);
+
+#endif

@@ -1,0 +1,2 @@
+# Slip 3: equal priorities are inserted in front.
+/^static void join/,/^}/s/ <= own)/ < own)/

@@ -1,0 +1,2 @@
+# Blank leaves the stores.
+/^static void blank/,/^}/s/WORDS \*/STORES_AT */

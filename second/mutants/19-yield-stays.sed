@@ -1,0 +1,2 @@
+# Yield keeps its place.
+/^static int yield/,/^}/s/^    leave.*/    return 1;/

@@ -1,0 +1,2 @@
+# Suspend takes the caller.
+/^static int suspend/,/^}/s/ || target == caller)/)/

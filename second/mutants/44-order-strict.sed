@@ -1,0 +1,2 @@
+# Well formed wants equal priorities never.
+s/T_PRIORITY\] < priority)/T_PRIORITY] <= priority)/

@@ -1,0 +1,2 @@
+# Sleep leaves the answer.
+/^static void sleep/,/^}/s/caller\[T_ANSWER\] = NO_ANSWER;/;/

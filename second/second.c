@@ -1,0 +1,761 @@
+/* The hub kernel of document 01, from the paper alone: well formed, lists,
+ * hubs, services, refusals, edges, in that order. The contract is second.h.
+ *
+ * Everything after refusal_of() relies on a well-formed table; that is why the
+ * walks below have no bounds of their own: a list that a task joins has at
+ * most 15 entries, and a task is where its record says. */
+#include "second.h"
+
+#include <string.h>
+
+#include "numbers.h"
+
+static const uint32_t blank_contents[TASKS_AT] = {
+    EDITION, 0, 0, TASKS_AT, HUBS_AT, READY_AT, WAITING_AT, STORES_AT
+};
+
+/* ---- Well formed ------------------------------------------------------- */
+
+/* What one pass over the task records tells the walk of the lists: sets of
+ * tasks, bit i for task i. */
+typedef struct {
+    uint32_t ready;
+    uint32_t putters;
+    uint32_t waiters[HUBS];
+} census;
+
+/* No early way out: the loop is short and the compiler makes it wide. */
+static int all_zero(const uint32_t *word, size_t words)
+{
+    uint32_t any = 0;
+    for (size_t i = 0; i < words; i++)
+        any |= word[i];
+    return any == 0;
+}
+
+static int contents_clause(const uint32_t *table)
+{
+    if (table[EDITION_AT] != EDITION || table[TASKS_IN_USE_AT] > TASKS ||
+        table[HUBS_IN_USE_AT] > HUBS)
+        return SECOND_CONTENTS;
+    for (size_t i = STARTS_AT; i < TASKS_AT; i++)
+        if (table[i] != blank_contents[i])
+            return SECOND_CONTENTS;
+    return SECOND_RIGHT;
+}
+
+static int unused_clause(const uint32_t *table)
+{
+    uint32_t tasks = table[TASKS_IN_USE_AT], hubs = table[HUBS_IN_USE_AT];
+    int zero = all_zero(table + task_place(tasks), (TASKS - tasks) * TASK_WORDS) &&
+               all_zero(table + hub_place(hubs), (HUBS - hubs) * HUB_WORDS) &&
+               all_zero(table + list_place(hubs), (HUBS - hubs) * LIST_WORDS) &&
+               all_zero(table + store_place(hubs), (HUBS - hubs) * STORE_WORDS);
+    return zero ? SECOND_RIGHT : SECOND_UNUSED;
+}
+
+static int carries_words(uint32_t kind) { return kind == PORT || kind == FIFO; }
+
+static int waiting_right(const uint32_t *table, const uint32_t *task)
+{
+    uint32_t hub = task[T_HUB] - 1; /* hub 0 becomes a number no hub has */
+    if (hub >= table[HUBS_IN_USE_AT] || task[T_TICKS] > TICKS_MAX || task[T_ANSWER] != NO_ANSWER)
+        return 0;
+    if (task[T_SIDE] == GET)
+        return task[T_WORD] == 0;
+    return task[T_SIDE] == PUT &&
+           (task[T_WORD] == 0 || carries_words(table[hub_place(hub) + H_KIND]));
+}
+
+/* Tests the record of a task in use and enters the task in the census. */
+static int task_clause(const uint32_t *table, uint32_t number, census *seen)
+{
+    const uint32_t *task = table + task_place(number);
+    uint32_t bit = UINT32_C(1) << number;
+
+    if (task[T_SUSPENDED] > 1 || task[T_PRIORITY] > PRIORITY_MAX)
+        return SECOND_TASK_RANGE;
+    switch (task[T_STATE]) {
+    case INACTIVE:
+        if ((task[T_SUSPENDED] | task[T_HUB] | task[T_TICKS] | task[T_SIDE] | task[T_WORD] |
+             task[T_ANSWER]) != 0)
+            return SECOND_INACTIVE;
+        return SECOND_RIGHT;
+    case READY:
+        if ((task[T_HUB] | task[T_TICKS] | task[T_SIDE]) != 0 || task[T_ANSWER] > TO ||
+            (task[T_WORD] != 0 && task[T_ANSWER] != OK))
+            return SECOND_READY;
+        seen->ready |= bit;
+        return SECOND_RIGHT;
+    case WAITING:
+        if (!waiting_right(table, task))
+            return SECOND_WAITING;
+        seen->waiters[task[T_HUB] - 1] |= bit;
+        seen->putters |= task[T_SIDE] == PUT ? bit : 0;
+        return SECOND_RIGHT;
+    case SLEEPING:
+        if ((task[T_HUB] | task[T_SIDE] | task[T_WORD] | task[T_ANSWER]) != 0 ||
+            task[T_TICKS] < 1 || task[T_TICKS] > TICKS_MAX)
+            return SECOND_SLEEPING;
+        return SECOND_RIGHT;
+    default:
+        return SECOND_TASK_RANGE;
+    }
+}
+
+/* The list has exactly these members, each once, by rising priority number,
+ * then zeros. Each entry strikes its task off the members still to come, so
+ * the walk is as long as the set and needs no count. */
+static int list_clause(const uint32_t *table, const uint32_t *list, uint32_t members, int wrong)
+{
+    uint32_t priority = 0;
+    size_t length = 0;
+
+    if (members == 0)
+        return all_zero(list, LIST_WORDS) ? SECOND_RIGHT : wrong;
+    while (members != 0) {
+        uint32_t task = list[length++] - 1;
+        if (task >= TASKS || (members >> task & 1) == 0)
+            return wrong;
+        members ^= UINT32_C(1) << task;
+        if (table[task_place(task) + T_PRIORITY] < priority)
+            return SECOND_ORDER;
+        priority = table[task_place(task) + T_PRIORITY];
+    }
+    while (length < LIST_WORDS)
+        if (list[length++] != 0)
+            return wrong;
+    return SECOND_RIGHT;
+}
+
+/* The kinds table, limit and start. */
+static int kind_allows(uint32_t kind, uint32_t limit, uint32_t start)
+{
+    switch (kind) {
+    case EVENT:
+    case RESOURCE:
+        return limit == 1 && start == 0;
+    case SEMAPHORE:
+        return limit >= 1 && limit <= SEMAPHORE_MAX && start <= limit;
+    case PORT:
+        return limit == 0 && start == 0;
+    case FIFO:
+        return limit >= 1 && limit <= FIFO_MAX && start == 0;
+    default:
+        return 0;
+    }
+}
+
+static int getters_may_wait(const uint32_t *hub, uint32_t waiters)
+{
+    if (hub[H_KIND] == PORT)
+        return 1;
+    if (hub[H_KIND] == RESOURCE)
+        return hub[H_COUNT] != 0 && (waiters >> (hub[H_COUNT] - 1) & 1) == 0;
+    return hub[H_COUNT] == 0;
+}
+
+static int putters_may_wait(const uint32_t *hub)
+{
+    return hub[H_KIND] != RESOURCE && hub[H_COUNT] == hub[H_LIMIT];
+}
+
+static int hub_clause(const uint32_t *table, uint32_t number, const census *seen)
+{
+    const uint32_t *hub = table + hub_place(number), *store = table + store_place(number);
+    uint32_t waiters = seen->waiters[number], putters = waiters & seen->putters;
+    uint32_t most = hub[H_KIND] == RESOURCE ? table[TASKS_IN_USE_AT] : hub[H_LIMIT];
+
+    if (!kind_allows(hub[H_KIND], hub[H_LIMIT], hub[H_START]))
+        return SECOND_KIND;
+    if (hub[H_COUNT] > most)
+        return SECOND_COUNT;
+
+    int clause = list_clause(table, table + list_place(number), waiters, SECOND_WAITING_LIST);
+    if (clause != SECOND_RIGHT)
+        return clause;
+    if (waiters != 0) {
+        if (putters != 0 && putters != waiters)
+            return SECOND_ONE_SIDE;
+        if (putters == 0 && !getters_may_wait(hub, waiters))
+            return SECOND_GETTERS;
+        if (putters != 0 && !putters_may_wait(hub))
+            return SECOND_PUTTERS;
+    }
+
+    size_t held = hub[H_KIND] == FIFO ? hub[H_COUNT] : 0;
+    return all_zero(store + held, STORE_WORDS - held) ? SECOND_RIGHT : SECOND_STORE;
+}
+
+int second_well_formed(const uint32_t *table, size_t words)
+{
+    census seen = {0, 0, {0}};
+    int clause;
+
+    if (words != WORDS)
+        return SECOND_LENGTH;
+    if ((clause = contents_clause(table)) != SECOND_RIGHT)
+        return clause;
+    if ((clause = unused_clause(table)) != SECOND_RIGHT)
+        return clause;
+    for (uint32_t task = 0; task < table[TASKS_IN_USE_AT]; task++)
+        if ((clause = task_clause(table, task, &seen)) != SECOND_RIGHT)
+            return clause;
+    for (uint32_t hub = 0; hub < table[HUBS_IN_USE_AT]; hub++)
+        if ((clause = hub_clause(table, hub, &seen)) != SECOND_RIGHT)
+            return clause;
+    return list_clause(table, table + READY_AT, seen.ready, SECOND_READY_LIST);
+}
+
+/* ---- Lists ------------------------------------------------------------- */
+
+/* The first ready task that isn't suspended, plus 1, or 0. */
+static uint32_t running(const uint32_t *table)
+{
+    for (size_t i = READY_AT; i < READY_AT + LIST_WORDS && table[i] != 0; i++)
+        if (table[task_place(table[i] - 1) + T_SUSPENDED] == 0)
+            return table[i];
+    return 0;
+}
+
+/* Behind all entries of its own or a more urgent priority. */
+static void join(uint32_t *table, size_t list, uint32_t task)
+{
+    uint32_t *entry = table + list, carried = task + 1;
+    uint32_t own = table[task_place(task) + T_PRIORITY];
+
+    while (*entry != 0 && table[task_place(*entry - 1) + T_PRIORITY] <= own)
+        entry++;
+    while (carried != 0) {
+        uint32_t pushed = *entry;
+        *entry++ = carried;
+        carried = pushed;
+    }
+}
+
+static void leave(uint32_t *table, size_t list, uint32_t task)
+{
+    uint32_t *entry = table + list, *last = entry + LIST_WORDS - 1;
+
+    while (*entry != task + 1)
+        entry++;
+    memmove(entry, entry + 1, (size_t)(last - entry) * sizeof *entry);
+    *last = 0;
+}
+
+/* From waiting or sleeping (or new): answer and word given, the rest cleared. */
+static void make_ready(uint32_t *table, uint32_t number, uint32_t answer, uint32_t word)
+{
+    uint32_t *task = table + task_place(number);
+
+    task[T_STATE] = READY;
+    task[T_HUB] = 0;
+    task[T_TICKS] = 0;
+    task[T_SIDE] = NO_SIDE;
+    task[T_WORD] = word;
+    task[T_ANSWER] = answer;
+    join(table, READY_AT, number);
+}
+
+/* Takes a task from the list its state says, if any; the record is left. */
+static void leave_any_list(uint32_t *table, uint32_t number)
+{
+    const uint32_t *task = table + task_place(number);
+
+    if (task[T_STATE] == READY)
+        leave(table, READY_AT, number);
+    else if (task[T_STATE] == WAITING)
+        leave(table, list_place(task[T_HUB] - 1), number);
+}
+
+/* ---- Hubs -------------------------------------------------------------- */
+
+typedef enum { NOT_NOW, MET, FAILED } outcome;
+
+/* The side of all the hub's waiters; a list holds one side only. */
+static uint32_t waiting_side(const uint32_t *table, uint32_t hub)
+{
+    uint32_t first = table[list_place(hub)];
+    return first == 0 ? NO_SIDE : table[task_place(first - 1) + T_SIDE];
+}
+
+/* Meets the hub's first waiter, which receives the word; gives its number. */
+static uint32_t meet_first(uint32_t *table, uint32_t hub, uint32_t received)
+{
+    uint32_t task = table[list_place(hub)] - 1;
+
+    leave(table, list_place(hub), task);
+    make_ready(table, task, OK, received);
+    return task;
+}
+
+/* An Event is a counter with limit 1, so one rule serves both kinds. */
+static outcome counter_put(uint32_t *table, uint32_t number)
+{
+    uint32_t *hub = table + hub_place(number);
+
+    if (waiting_side(table, number) == GET)
+        meet_first(table, number, 0);
+    else if (hub[H_COUNT] < hub[H_LIMIT])
+        hub[H_COUNT]++;
+    else
+        return NOT_NOW;
+    return MET;
+}
+
+static outcome counter_get(uint32_t *table, uint32_t number)
+{
+    uint32_t *hub = table + hub_place(number);
+
+    if (hub[H_COUNT] == 0)
+        return NOT_NOW;
+    if (waiting_side(table, number) == PUT)
+        meet_first(table, number, 0);
+    else
+        hub[H_COUNT]--;
+    return MET;
+}
+
+static outcome port_put(uint32_t *table, uint32_t number, uint32_t word)
+{
+    if (waiting_side(table, number) != GET)
+        return NOT_NOW;
+    meet_first(table, number, word);
+    return MET;
+}
+
+/* The word a putter at the head of the list brought, while it still waits. */
+static uint32_t first_word(const uint32_t *table, uint32_t hub)
+{
+    return table[task_place(table[list_place(hub)] - 1) + T_WORD];
+}
+
+static outcome port_get(uint32_t *table, uint32_t number, uint32_t *received)
+{
+    if (waiting_side(table, number) != PUT)
+        return NOT_NOW;
+    *received = first_word(table, number);
+    meet_first(table, number, 0);
+    return MET;
+}
+
+static outcome fifo_put(uint32_t *table, uint32_t number, uint32_t word)
+{
+    uint32_t *hub = table + hub_place(number);
+
+    if (waiting_side(table, number) == GET)
+        meet_first(table, number, word);
+    else if (hub[H_COUNT] < hub[H_LIMIT])
+        table[store_place(number) + hub[H_COUNT]++] = word;
+    else
+        return NOT_NOW;
+    return MET;
+}
+
+static outcome fifo_get(uint32_t *table, uint32_t number, uint32_t *received)
+{
+    uint32_t *hub = table + hub_place(number), *store = table + store_place(number);
+
+    if (hub[H_COUNT] == 0)
+        return NOT_NOW;
+    *received = store[0];
+    memmove(store, store + 1, (STORE_WORDS - 1) * sizeof *store);
+    store[STORE_WORDS - 1] = 0;
+    hub[H_COUNT]--;
+    if (waiting_side(table, number) == PUT) {
+        store[hub[H_COUNT]++] = first_word(table, number);
+        meet_first(table, number, 0);
+    }
+    return MET;
+}
+
+static outcome resource_put(uint32_t *table, uint32_t number, uint32_t caller)
+{
+    uint32_t *hub = table + hub_place(number);
+
+    if (hub[H_COUNT] != caller + 1)
+        return FAILED;
+    hub[H_COUNT] = waiting_side(table, number) == GET ? meet_first(table, number, 0) + 1 : 0;
+    return MET;
+}
+
+static outcome resource_get(uint32_t *table, uint32_t number, uint32_t caller)
+{
+    uint32_t *hub = table + hub_place(number);
+
+    if (hub[H_COUNT] == caller + 1)
+        return FAILED;
+    if (hub[H_COUNT] != 0)
+        return NOT_NOW;
+    hub[H_COUNT] = caller + 1;
+    return MET;
+}
+
+static outcome put(uint32_t *table, uint32_t hub, uint32_t caller, uint32_t word)
+{
+    switch (table[hub_place(hub) + H_KIND]) {
+    case PORT:
+        return port_put(table, hub, word);
+    case FIFO:
+        return fifo_put(table, hub, word);
+    case RESOURCE:
+        return resource_put(table, hub, caller);
+    default:
+        return counter_put(table, hub);
+    }
+}
+
+static outcome get(uint32_t *table, uint32_t hub, uint32_t caller, uint32_t *received)
+{
+    switch (table[hub_place(hub) + H_KIND]) {
+    case PORT:
+        return port_get(table, hub, received);
+    case FIFO:
+        return fifo_get(table, hub, received);
+    case RESOURCE:
+        return resource_get(table, hub, caller);
+    default:
+        return counter_get(table, hub);
+    }
+}
+
+/* ---- Services ---------------------------------------------------------- */
+
+static void blank(uint32_t *table)
+{
+    memset(table, 0, WORDS * sizeof *table);
+    memcpy(table, blank_contents, sizeof blank_contents);
+}
+
+static void wait_at_hub(uint32_t *table, const uint32_t *call)
+{
+    uint32_t *caller = table + task_place(call[C_CALLER]), hub = call[C_TARGET];
+    int keeps_word = call[C_SIDE] == PUT && carries_words(table[hub_place(hub) + H_KIND]);
+
+    leave(table, READY_AT, call[C_CALLER]);
+    caller[T_STATE] = WAITING;
+    caller[T_HUB] = hub + 1;
+    caller[T_TICKS] = call[C_TICKS]; /* 0 under W, so no limit */
+    caller[T_SIDE] = call[C_SIDE];
+    caller[T_WORD] = keeps_word ? call[C_WORD] : 0;
+    caller[T_ANSWER] = NO_ANSWER;
+    join(table, list_place(hub), call[C_CALLER]);
+}
+
+static void hub_request(uint32_t *table, const uint32_t *call)
+{
+    uint32_t *caller = table + task_place(call[C_CALLER]), received = 0;
+    outcome out = call[C_SIDE] == PUT
+                      ? put(table, call[C_TARGET], call[C_CALLER], call[C_WORD])
+                      : get(table, call[C_TARGET], call[C_CALLER], &received);
+
+    if (out == NOT_NOW && call[C_MODE] != NW) {
+        wait_at_hub(table, call);
+    } else {
+        caller[T_ANSWER] = out == MET ? OK : FAIL;
+        caller[T_WORD] = received;
+    }
+}
+
+static int start(uint32_t *table, uint32_t target)
+{
+    if (table[task_place(target) + T_STATE] != INACTIVE)
+        return 0;
+    make_ready(table, target, NO_ANSWER, 0);
+    return 1;
+}
+
+static int stop(uint32_t *table, uint32_t target, uint32_t caller)
+{
+    uint32_t *task = table + task_place(target), priority = task[T_PRIORITY];
+
+    if (task[T_STATE] == INACTIVE || target == caller)
+        return 0;
+    leave_any_list(table, target);
+    memset(task, 0, TASK_WORDS * sizeof *task);
+    task[T_STATE] = INACTIVE;
+    task[T_PRIORITY] = priority;
+    return 1;
+}
+
+static int suspend(uint32_t *table, uint32_t target, uint32_t caller)
+{
+    uint32_t *task = table + task_place(target);
+
+    if (task[T_STATE] == INACTIVE || task[T_SUSPENDED] != 0 || target == caller)
+        return 0;
+    task[T_SUSPENDED] = 1;
+    return 1;
+}
+
+static int resume(uint32_t *table, uint32_t target)
+{
+    uint32_t *task = table + task_place(target);
+
+    if (task[T_SUSPENDED] == 0)
+        return 0;
+    task[T_SUSPENDED] = 0;
+    return 1;
+}
+
+static int yield(uint32_t *table, uint32_t caller)
+{
+    leave(table, READY_AT, caller);
+    join(table, READY_AT, caller);
+    return 1;
+}
+
+/* Services 2 to 6: whether the condition holds is the caller's answer. */
+static void task_service(uint32_t *table, const uint32_t *call)
+{
+    uint32_t *caller = table + task_place(call[C_CALLER]), target = call[C_TARGET];
+    int holds = 0;
+
+    switch (call[C_SERVICE]) {
+    case START:
+        holds = start(table, target);
+        break;
+    case STOP:
+        holds = stop(table, target, call[C_CALLER]);
+        break;
+    case SUSPEND:
+        holds = suspend(table, target, call[C_CALLER]);
+        break;
+    case RESUME:
+        holds = resume(table, target);
+        break;
+    case YIELD:
+        holds = yield(table, call[C_CALLER]);
+        break;
+    }
+    caller[T_ANSWER] = holds ? OK : FAIL;
+    caller[T_WORD] = 0;
+}
+
+static void sleep(uint32_t *table, const uint32_t *call)
+{
+    uint32_t *caller = table + task_place(call[C_CALLER]);
+
+    leave(table, READY_AT, call[C_CALLER]);
+    caller[T_STATE] = SLEEPING;
+    caller[T_TICKS] = call[C_TICKS];
+    caller[T_WORD] = 0;
+    caller[T_ANSWER] = NO_ANSWER;
+}
+
+/* Only waiting and sleeping tasks have ticks above 0. */
+static void tick(uint32_t *table)
+{
+    for (uint32_t number = 0; number < table[TASKS_IN_USE_AT]; number++) {
+        uint32_t *task = table + task_place(number);
+        if (task[T_TICKS] == 0 || --task[T_TICKS] != 0)
+            continue;
+        leave_any_list(table, number);
+        make_ready(table, number, TO, 0);
+    }
+}
+
+static void add_task(uint32_t *table, const uint32_t *call)
+{
+    uint32_t number = table[TASKS_IN_USE_AT]++;
+    uint32_t *task = table + task_place(number);
+
+    task[T_STATE] = INACTIVE;
+    task[T_PRIORITY] = call[C_TARGET];
+    if (call[C_SIDE] == 1)
+        start(table, number);
+}
+
+static void add_hub(uint32_t *table, const uint32_t *call)
+{
+    uint32_t *hub = table + hub_place(table[HUBS_IN_USE_AT]++);
+
+    hub[H_KIND] = call[C_TARGET];
+    hub[H_COUNT] = call[C_WORD];
+    hub[H_LIMIT] = call[C_TICKS];
+    hub[H_START] = call[C_WORD];
+}
+
+/* ---- Refusals ---------------------------------------------------------- */
+
+static int has_caller(uint32_t service) { return service >= HUB_REQUEST && service <= SLEEP; }
+
+/* No task number is next minus 1 when next is 0, the largest number included. */
+static int caller_runs(const uint32_t *table, uint32_t caller)
+{
+    uint32_t next = running(table);
+    return next != 0 && caller == next - 1;
+}
+
+static int target_in_use(const uint32_t *table, const uint32_t *call)
+{
+    switch (call[C_SERVICE]) {
+    case HUB_REQUEST:
+        return call[C_TARGET] < table[HUBS_IN_USE_AT];
+    case START:
+    case STOP:
+    case SUSPEND:
+    case RESUME:
+        return call[C_TARGET] < table[TASKS_IN_USE_AT];
+    default:
+        return 1;
+    }
+}
+
+static int ticks_in_range(uint32_t ticks) { return ticks >= 1 && ticks <= TICKS_MAX; }
+
+static int request_right(const uint32_t *call)
+{
+    if (call[C_SIDE] != PUT && call[C_SIDE] != GET)
+        return 0;
+    if (call[C_MODE] == WT)
+        return ticks_in_range(call[C_TICKS]);
+    return (call[C_MODE] == W || call[C_MODE] == NW) && call[C_TICKS] == 0;
+}
+
+static int arguments_right(const uint32_t *call)
+{
+    switch (call[C_SERVICE]) {
+    case HUB_REQUEST:
+        return request_right(call);
+    case SLEEP:
+        return ticks_in_range(call[C_TICKS]);
+    case ADD_TASK:
+        return call[C_TARGET] <= PRIORITY_MAX && call[C_SIDE] <= 1;
+    case ADD_HUB:
+        return kind_allows(call[C_TARGET], call[C_TICKS], call[C_WORD]);
+    default:
+        return 1;
+    }
+}
+
+static int room_left(const uint32_t *table, uint32_t service)
+{
+    if (service == ADD_TASK)
+        return table[TASKS_IN_USE_AT] < TASKS;
+    if (service == ADD_HUB)
+        return table[HUBS_IN_USE_AT] < HUBS;
+    return 1;
+}
+
+static uint32_t refusal_of(const uint32_t *table, size_t words, const uint32_t *call)
+{
+    if (words != WORDS)
+        return BAD_LENGTH;
+    if (call[C_SERVICE] == BLANK)
+        return ACCEPTED;
+    if (second_well_formed(table, words) != SECOND_RIGHT)
+        return NOT_WELL_FORMED;
+    if (call[C_SERVICE] > ADD_HUB)
+        return NO_SUCH_SERVICE;
+    if (has_caller(call[C_SERVICE]) && !caller_runs(table, call[C_CALLER]))
+        return NOT_RUNNING;
+    if (!target_in_use(table, call))
+        return NOT_IN_USE;
+    if (!arguments_right(call))
+        return BAD_ARGUMENT;
+    if (!room_left(table, call[C_SERVICE]))
+        return TABLE_FULL;
+    return ACCEPTED;
+}
+
+static void serve(uint32_t *table, const uint32_t *call)
+{
+    switch (call[C_SERVICE]) {
+    case BLANK:
+        blank(table);
+        break;
+    case HUB_REQUEST:
+        hub_request(table, call);
+        break;
+    case SLEEP:
+        sleep(table, call);
+        break;
+    case TICK:
+        tick(table);
+        break;
+    case ADD_TASK:
+        add_task(table, call);
+        break;
+    case ADD_HUB:
+        add_hub(table, call);
+        break;
+    default:
+        task_service(table, call);
+        break;
+    }
+}
+
+/* ---- Edges ------------------------------------------------------------- */
+
+second_reply second_call(uint32_t *table, size_t words, const uint32_t call[7])
+{
+    second_reply reply = {refusal_of(table, words, call), 0, 0};
+
+    if (reply.refusal != ACCEPTED)
+        return reply;
+    serve(table, call);
+    if (has_caller(call[C_SERVICE]))
+        reply.answer = table[task_place(call[C_CALLER]) + T_ANSWER];
+    reply.next = running(table);
+    return reply;
+}
+
+second_summary_reply second_summary(const uint32_t *table, size_t words, uint32_t hub)
+{
+    second_summary_reply reply = {ACCEPTED, 0, 0};
+
+    if (words != WORDS)
+        reply.refusal = BAD_LENGTH;
+    else if (second_well_formed(table, words) != SECOND_RIGHT)
+        reply.refusal = NOT_WELL_FORMED;
+    else if (hub >= table[HUBS_IN_USE_AT])
+        reply.refusal = NOT_IN_USE;
+    if (reply.refusal != ACCEPTED)
+        return reply;
+
+    const uint32_t *list = table + list_place(hub);
+    for (; reply.count < LIST_WORDS && list[reply.count] != 0; reply.count++)
+        reply.mask |= UINT32_C(1) << (list[reply.count] - 1);
+    return reply;
+}
+
+static void words_from_bytes(uint32_t *table, const uint8_t *bytes)
+{
+    for (size_t i = 0; i < WORDS; i++, bytes += 4)
+        table[i] = (uint32_t)bytes[0] | (uint32_t)bytes[1] << 8 | (uint32_t)bytes[2] << 16 |
+                   (uint32_t)bytes[3] << 24;
+}
+
+static void bytes_from_words(uint8_t *bytes, const uint32_t *table)
+{
+    for (size_t i = 0; i < WORDS; i++, bytes += 4) {
+        bytes[0] = (uint8_t)table[i];
+        bytes[1] = (uint8_t)(table[i] >> 8);
+        bytes[2] = (uint8_t)(table[i] >> 16);
+        bytes[3] = (uint8_t)(table[i] >> 24);
+    }
+}
+
+second_reply second_call_bytes(uint8_t *bytes, size_t length, const uint32_t call[7])
+{
+    uint32_t table[WORDS];
+
+    if (length != BYTES)
+        return (second_reply){BAD_LENGTH, 0, 0};
+    words_from_bytes(table, bytes);
+    second_reply reply = second_call(table, WORDS, call);
+    if (reply.refusal == ACCEPTED)
+        bytes_from_words(bytes, table);
+    return reply;
+}
+
+second_summary_reply second_summary_bytes(const uint8_t *bytes, size_t length, uint32_t hub)
+{
+    uint32_t table[WORDS];
+
+    if (length != BYTES)
+        return (second_summary_reply){BAD_LENGTH, 0, 0};
+    words_from_bytes(table, bytes);
+    return second_summary(table, WORDS, hub);
+}

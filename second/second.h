@@ -1,0 +1,70 @@
+/* The second program: the hub kernel of document 01 again, in C11, written
+ * from the paper alone. It is what the proved kernel is compared with.
+ *
+ * Ownership: the caller owns the table and lends it for one call. No globals,
+ * no allocation, nothing kept between calls.
+ *
+ * A table is 600 words of 32 bits, or the same words as 2,400 little-endian
+ * bytes. A call is seven numbers: service, caller, target, side, mode, ticks,
+ * word. numbers.h has the places and the names of all values.
+ *
+ * Refusals, tested in this order; a refused call answers 0, next 0 (mask 0,
+ * count 0) and writes nothing:
+ *   1  length isn't 600 words (2,400 bytes)
+ *   2  table not well formed (never for Blank)
+ *   3  service above 10
+ *   4  services 1 to 7: caller isn't the running task
+ *   5  service 1 and the summary: hub not in use; 2 to 5: task not in use
+ *   6  an argument outside its range
+ *   7  service 9 or 10 with 16 already
+ */
+#ifndef SECOND_H
+#define SECOND_H
+
+#include <stddef.h>
+#include <stdint.h>
+
+typedef struct {
+    uint32_t refusal; /* 0 accepted, else 1 to 7 */
+    uint32_t answer;  /* 0 nothing yet, 1 OK, 2 FAIL */
+    uint32_t next;    /* the running task plus 1, or 0 */
+} second_reply;
+
+typedef struct {
+    uint32_t refusal; /* 0 accepted, else 1, 2 or 5 */
+    uint32_t mask;    /* bit i: task i waits at the hub */
+    uint32_t count;   /* the number of set bits */
+} second_summary_reply;
+
+/* What second_well_formed found wrong first. */
+typedef enum {
+    SECOND_RIGHT = 0,
+    SECOND_LENGTH,       /* not 600 words */
+    SECOND_CONTENTS,     /* edition, T, H or a start */
+    SECOND_UNUSED,       /* an unused record, waiting list or store isn't 0 */
+    SECOND_TASK_RANGE,   /* state, suspended or priority out of range */
+    SECOND_INACTIVE,     /* the record of a task in this state ... */
+    SECOND_READY,
+    SECOND_WAITING,
+    SECOND_SLEEPING,
+    SECOND_KIND,         /* kind, limit or start outside the kinds table */
+    SECOND_COUNT,        /* count outside the kinds table */
+    SECOND_READY_LIST,   /* not exactly the ready tasks, each once, then zeros */
+    SECOND_WAITING_LIST, /* not exactly the hub's waiters, each once, then zeros */
+    SECOND_ORDER,        /* a list's priority numbers fall */
+    SECOND_ONE_SIDE,     /* putters and getters in one list */
+    SECOND_GETTERS,      /* getters wait where none may */
+    SECOND_PUTTERS,      /* putters wait where none may */
+    SECOND_STORE         /* a store holds more than its FIFO's words */
+} second_clause;
+
+second_reply second_call(uint32_t *table, size_t words, const uint32_t call[7]);
+second_summary_reply second_summary(const uint32_t *table, size_t words, uint32_t hub);
+
+/* 0 when well formed, else the first broken clause (a second_clause). */
+int second_well_formed(const uint32_t *table, size_t words);
+
+second_reply second_call_bytes(uint8_t *bytes, size_t length, const uint32_t call[7]);
+second_summary_reply second_summary_bytes(const uint8_t *bytes, size_t length, uint32_t hub);
+
+#endif

@@ -1,0 +1,616 @@
+/* The second program's tests: constructed cases, runs from Blank with demand 3
+ * checked, built tables, damaged tables, coverage. `test SIZE` runs them all,
+ * one line each; the first failure ends the program.
+ *
+ * Each call is checked against expect.c word for word, and besides for what
+ * must hold whatever expect.c says: an accepted call leaves a well-formed
+ * table, a refused one leaves every word, no answer is 3. */
+#define _POSIX_C_SOURCE 200809L
+
+#include <inttypes.h>
+#include <stdio.h>
+#include <stdlib.h>
+#include <string.h>
+#include <time.h>
+#include <unistd.h>
+
+#include "cover.h"
+#include "expect.h"
+#include "gen.h"
+#include "ledger.h"
+#include "numbers.h"
+#include "second.h"
+
+typedef struct {
+    const char *name;
+    uint32_t runs, calls;         /* family a: runs, calls in each */
+    uint32_t tables, table_calls; /* family b */
+    uint32_t damages, flips;      /* family c: tables per family; tables with flips */
+    unsigned seconds;             /* a program that loops is ended after these */
+    int coverage;                 /* rows must have their hits */
+} scale;
+
+static const scale scales[] = {
+    {"quick", 60, 400, 1000, 8, 3, 3000, 60, 0},
+    {"gate", 1500, 500, 60000, 8, 110, 200000, 600, 1},
+    {"long", 20000, 1000, 1000000, 8, 1000, 5000000, 7200, 1},
+};
+
+/* Where the tests are, for the report of a failure, and what they counted. */
+typedef struct {
+    const char *part;
+    uint64_t seed; /* in a constructed case: the step */
+    uint64_t calls, requests;
+    uint64_t digest; /* of all calls, replies and tables: the same on every machine */
+    gen_random random;
+    cover seen;
+    ledger book;
+} bench;
+
+static void fail(const bench *at, const uint32_t *call, const char *what)
+{
+    printf("%s: FAILED, seed or step %" PRIu64 ", call %" PRIu64 ": %s\n", at->part, at->seed,
+           at->calls, what);
+    for (int i = 0; call != NULL && i < CALL_NUMBERS; i++)
+        printf("%s%" PRIu32 "%s", i == 0 ? "  the call: " : " ", call[i],
+               i == CALL_NUMBERS - 1 ? "\n" : "");
+    exit(1);
+}
+
+static void begin(bench *at, const char *part, uint64_t seed)
+{
+    at->part = part;
+    at->seed = seed;
+    gen_seed(&at->random, seed);
+}
+
+static int same_words(const uint32_t *a, const uint32_t *b)
+{
+    return memcmp(a, b, WORDS * sizeof *a) == 0;
+}
+
+static int same_reply(second_reply a, second_reply b)
+{
+    return a.refusal == b.refusal && a.answer == b.answer && a.next == b.next;
+}
+
+static void to_bytes(uint8_t *bytes, const uint32_t *table)
+{
+    for (size_t i = 0; i < BYTES; i++)
+        bytes[i] = (uint8_t)(table[i / 4] >> i % 4 * 8);
+}
+
+/* ---- One call ---------------------------------------------------------- */
+
+static void check_bytes(bench *at, const uint32_t *before, const uint32_t *call, second_reply reply,
+                        const uint32_t *after)
+{
+    uint8_t bytes[BYTES], bytes_after[BYTES];
+
+    to_bytes(bytes, before);
+    to_bytes(bytes_after, after);
+    if (!same_reply(second_call_bytes(bytes, BYTES, call), reply) ||
+        memcmp(bytes, bytes_after, BYTES) != 0)
+        fail(at, call, "the byte version differs");
+}
+
+/* The mask by the records, the count by the bits of the mask. */
+static void check_summary(bench *at, const uint32_t *table, uint32_t hub)
+{
+    second_summary_reply reply = second_summary(table, WORDS, hub);
+    uint32_t mask = 0, count = 0, refusal = 0;
+    uint8_t bytes[BYTES];
+
+    if (!expect_well_formed(table))
+        refusal = NOT_WELL_FORMED;
+    else if (hub >= table[HUBS_IN_USE_AT])
+        refusal = NOT_IN_USE;
+    for (uint32_t task = 0; refusal == 0 && task < table[TASKS_IN_USE_AT]; task++)
+        if (table[task_place(task) + T_STATE] == WAITING &&
+            table[task_place(task) + T_HUB] == hub + 1)
+            mask |= UINT32_C(1) << task;
+    for (uint32_t rest = mask; rest != 0; rest &= rest - 1)
+        count++;
+    if (reply.refusal != refusal || reply.mask != mask || reply.count != count)
+        fail(at, NULL, "the summary differs");
+
+    to_bytes(bytes, table);
+    second_summary_reply again = second_summary_bytes(bytes, BYTES, hub);
+    if (memcmp(&again, &reply, sizeof reply) != 0)
+        fail(at, NULL, "the byte version of the summary differs");
+    cover_summary(&at->seen, table, WORDS, reply);
+}
+
+static void digest(bench *at, const uint32_t *words, size_t count)
+{
+    for (size_t i = 0; i < count; i++)
+        at->digest = (at->digest ^ words[i]) * UINT64_C(0x100000001B3); /* as FNV-1a, by words */
+}
+
+static second_reply check_call(bench *at, uint32_t *table, const uint32_t *call)
+{
+    uint32_t before[WORDS], expected[WORDS];
+
+    memcpy(before, table, sizeof before);
+    memcpy(expected, table, sizeof expected);
+    at->calls++;
+    second_reply reply = second_call(table, WORDS, call);
+    second_reply expects = expect_call(expected, call);
+
+    if (reply.refusal != expects.refusal)
+        fail(at, call, "another refusal was expected");
+    if (reply.refusal != ACCEPTED && (reply.answer != 0 || reply.next != 0))
+        fail(at, call, "a refused call answered");
+    if (reply.refusal != ACCEPTED && !same_words(table, before))
+        fail(at, call, "a refused call changed the table");
+    if (reply.refusal == ACCEPTED && second_well_formed(table, WORDS) != SECOND_RIGHT)
+        fail(at, call, "an accepted call left a table that isn't well formed");
+    if (reply.refusal == ACCEPTED && !expect_well_formed(table))
+        fail(at, call, "an accepted call left a table that isn't well formed to expect.c");
+    if (reply.answer > FAIL)
+        fail(at, call, "the answer isn't nothing yet, OK or FAIL");
+    if (reply.refusal == ACCEPTED && reply.next != expect_next(table))
+        fail(at, call, "next isn't the running task");
+    if (!same_reply(reply, expects))
+        fail(at, call, "another reply was expected");
+    if (!same_words(table, expected))
+        fail(at, call, "another table was expected");
+    cover_call(&at->seen, before, call, reply, table);
+    digest(at, call, CALL_NUMBERS);
+    digest(at, (uint32_t[]){reply.refusal, reply.answer, reply.next}, 3);
+    digest(at, table, WORDS);
+    if (at->calls % 16 == 0) {
+        check_bytes(at, before, call, reply, table);
+        check_summary(at, table, gen_below(&at->random, gen_chance(&at->random, 90) ? 6 : 40));
+    }
+    return reply;
+}
+
+/* ---- Constructed cases ------------------------------------------------- */
+
+/* One call on the table of the step before, its reply, and up to four words of
+ * the table after it ({0, 0} ends them: the edition is never asked for). */
+typedef struct {
+    uint32_t call[7];
+    second_reply reply;
+    struct {
+        uint32_t at, value;
+    } words[5];
+} step;
+
+static void take_steps(bench *at, const char *name, const step *steps, size_t count)
+{
+    uint32_t table[WORDS] = {0};
+
+    at->part = name;
+    for (size_t i = 0; i < count; i++) {
+        at->seed = i + 1;
+        if (!same_reply(check_call(at, table, steps[i].call), steps[i].reply))
+            fail(at, steps[i].call, "the case expects another reply");
+        for (int j = 0; steps[i].words[j].at != 0; j++)
+            if (table[steps[i].words[j].at] != steps[i].words[j].value)
+                fail(at, steps[i].call, "the case expects another word");
+    }
+}
+
+#define TAKE_STEPS(at, name, steps) take_steps(at, name, steps, sizeof(steps) / sizeof *(steps))
+#define MAX UINT32_C(4294967295)
+
+/* Places: task n's record is at 8 + 8n, hub n's at 136 + 4n, the ready list at
+ * 200, hub n's list at 216 + 16n, its store at 472 + 8n. */
+
+static void case_marked(bench *at)
+{
+    static const step steps[] = {
+        {{0, 0, 0, 0, 0, 0, 0}, {0, 0, 0}, {{3, 8}, {5, 200}, {6, 216}, {7, 472}}},
+        {{9, 0, 5, 1, 0, 0, 0}, {0, 0, 1}, {{8, 2}, {10, 5}, {200, 1}}},
+        {{9, 0, 3, 1, 0, 0, 0}, {0, 0, 2}, {{200, 2}, {201, 1}}},
+        {{10, 0, 4, 0, 0, 1, 0}, {0, 0, 2}, {{136, 4}, {138, 1}}},
+        {{1, 1, 0, 2, 3, 2, 0}, {0, 0, 1}, {{16, 3}, {19, 1}, {20, 2}, {216, 2}}},
+        {{1, 0, 0, 1, 1, 0, 77}, {0, 1, 2}, {{22, 77}, {23, 1}, {137, 0}, {472, 0}}},
+        {{1, 0, 0, 1, 1, 0, 5}, {4, 0, 0}, {{0, 0}}},
+        {{1, 1, 0, 1, 2, 0, 9}, {0, 1, 2}, {{22, 0}, {137, 1}, {472, 9}}},
+        {{1, 1, 0, 1, 2, 0, 10}, {0, 2, 2}, {{22, 0}, {23, 2}, {137, 1}, {472, 9}}},
+        {{1, 1, 0, 1, 3, 1, 10}, {0, 0, 1}, {{16, 3}, {22, 10}, {216, 2}, {200, 1}}},
+        {{8, 0, 0, 0, 0, 0, 0}, {0, 0, 2}, {{16, 2}, {23, 3}, {22, 0}, {216, 0}}},
+    };
+    TAKE_STEPS(at, "marked lines", steps);
+}
+
+static void case_refusal_order(bench *at)
+{
+    static const step steps[] = {
+        {{11, 0, 0, 0, 0, 0, 0}, {2, 0, 0}, {{0, 0}}}, /* all zeros isn't well formed */
+        {{8, 0, 0, 0, 0, 0, 0}, {2, 0, 0}, {{0, 0}}},
+        {{0, MAX, MAX, MAX, MAX, MAX, MAX}, {0, 0, 0}, {{0, 0}}},
+        {{11, MAX, MAX, MAX, MAX, MAX, MAX}, {3, 0, 0}, {{0, 0}}},
+        {{MAX, 0, 0, 0, 0, 0, 0}, {3, 0, 0}, {{0, 0}}},
+        {{6, 0, 0, 0, 0, 0, 0}, {4, 0, 0}, {{0, 0}}}, /* nobody runs */
+        {{6, MAX, 0, 0, 0, 0, 0}, {4, 0, 0}, {{0, 0}}},
+        {{9, 0, 256, 1, 0, 0, 0}, {6, 0, 0}, {{0, 0}}},
+        {{9, 0, 255, 1, 0, 0, 0}, {0, 0, 1}, {{0, 0}}},
+        {{1, 1, 9, 9, 9, 9, 9}, {4, 0, 0}, {{0, 0}}}, /* 4 before 5 and 6 */
+        {{1, 0, 0, 9, 9, 9, 9}, {5, 0, 0}, {{0, 0}}}, /* 5 before 6 */
+        {{2, 0, 1, 9, 9, 9, 9}, {5, 0, 0}, {{0, 0}}},
+        {{7, 1, 0, 0, 0, 0, 0}, {4, 0, 0}, {{0, 0}}},
+        {{7, 0, 0, 0, 0, 0, 0}, {6, 0, 0}, {{0, 0}}},
+        {{10, 0, 5, 0, 0, 1, 0}, {0, 0, 1}, {{0, 0}}},
+        {{1, 0, 0, 1, 0, 0, 0}, {6, 0, 0}, {{0, 0}}}, /* 6 before the hub table's FAIL */
+        {{1, 0, 0, 1, 3, 0, 0}, {6, 0, 0}, {{0, 0}}},
+        {{1, 0, 0, 1, 2, 1, 0}, {6, 0, 0}, {{0, 0}}},
+        {{1, 0, 0, 1, 2, 0, 0}, {0, 2, 1}, {{0, 0}}},
+        {{1, 0, MAX, 1, 2, 0, 0}, {5, 0, 0}, {{0, 0}}},
+        {{1, 0, 1, 1, 2, 0, 0}, {5, 0, 0}, {{0, 0}}},
+    };
+    TAKE_STEPS(at, "order of refusals", steps);
+}
+
+/* The four slips at the end of document 01. */
+static void case_slips(bench *at)
+{
+    static const step steps[] = {
+        {{0, 0, 0, 0, 0, 0, 0}, {0, 0, 0}, {{0, 0}}},
+        {{9, 0, 7, 1, 0, 0, 0}, {0, 0, 1}, {{0, 0}}},
+        {{9, 0, 7, 1, 0, 0, 0}, {0, 0, 1}, {{200, 1}, {201, 2}}}, /* equals go behind */
+        {{9, 0, 7, 1, 0, 0, 0}, {0, 0, 1}, {{200, 1}, {201, 2}, {202, 3}}},
+        {{10, 0, 4, 0, 0, 2, 0}, {0, 0, 1}, {{0, 0}}},
+        {{1, 0, 0, 2, 3, 1, 0}, {0, 0, 2}, {{216, 1}}},
+        {{1, 1, 0, 2, 1, 0, 0}, {0, 0, 3}, {{216, 1}, {217, 2}}},
+        {{8, 0, 0, 0, 0, 0, 0}, {0, 0, 3}, {{15, 3}, {216, 2}, {217, 0}}}, /* TO, and gone */
+        {{1, 2, 0, 1, 1, 0, 55}, {0, 1, 3}, {{22, 55}, {23, 1}, {14, 0}, {137, 0}}},
+        {{1, 2, 0, 1, 1, 0, 56}, {0, 1, 3}, {{472, 56}, {473, 0}, {137, 1}}},
+        {{6, 2, 0, 0, 0, 0, 0}, {0, 1, 1}, {{200, 1}, {201, 2}, {202, 3}}},
+        {{1, 0, 0, 2, 2, 0, 0}, {0, 1, 1}, {{14, 56}, {137, 0}, {472, 0}}}, /* read once */
+        {{1, 0, 0, 2, 2, 0, 0}, {0, 2, 1}, {{14, 0}}},
+    };
+    TAKE_STEPS(at, "slips", steps);
+}
+
+static void case_resource(bench *at)
+{
+    static const step steps[] = {
+        {{0, 0, 0, 0, 0, 0, 0}, {0, 0, 0}, {{0, 0}}},
+        {{9, 0, 2, 1, 0, 0, 0}, {0, 0, 1}, {{0, 0}}},
+        {{9, 0, 2, 1, 0, 0, 0}, {0, 0, 1}, {{0, 0}}},
+        {{10, 0, 5, 0, 0, 1, 0}, {0, 0, 1}, {{0, 0}}},
+        {{1, 0, 0, 2, 1, 0, 0}, {0, 1, 1}, {{137, 1}}},
+        {{1, 0, 0, 2, 1, 0, 0}, {0, 2, 1}, {{137, 1}, {8, 2}}}, /* second lock by the owner */
+        {{1, 0, 0, 2, 3, 9, 0}, {0, 2, 1}, {{137, 1}, {8, 2}}},
+        {{6, 0, 0, 0, 0, 0, 0}, {0, 1, 2}, {{0, 0}}},
+        {{1, 1, 0, 1, 1, 0, 0}, {0, 2, 2}, {{137, 1}}}, /* unlock by another */
+        {{1, 1, 0, 2, 3, 9, 0}, {0, 0, 1}, {{216, 2}, {20, 9}}},
+        {{4, 0, 1, 0, 0, 0, 0}, {0, 1, 1}, {{17, 1}, {216, 2}}},
+        {{1, 0, 0, 1, 1, 0, 0}, {0, 1, 1}, {{137, 2}, {216, 0}, {20, 0}, {17, 1}}},
+        {{3, 0, 1, 0, 0, 0, 0}, {0, 1, 1}, {{137, 2}, {16, 1}, {17, 0}}}, /* stays owned */
+        {{1, 0, 0, 2, 2, 0, 0}, {0, 2, 1}, {{137, 2}}},
+        {{2, 0, 1, 0, 0, 0, 0}, {0, 1, 1}, {{137, 2}}},
+        {{6, 0, 0, 0, 0, 0, 0}, {0, 1, 2}, {{0, 0}}},
+        {{1, 1, 0, 1, 2, 0, 0}, {0, 1, 2}, {{137, 0}}}, /* a restarted owner still owns */
+    };
+    TAKE_STEPS(at, "Resource", steps);
+}
+
+static void case_ticks(bench *at)
+{
+    static const step steps[] = {
+        {{0, 0, 0, 0, 0, 0, 0}, {0, 0, 0}, {{0, 0}}},
+        {{9, 0, 1, 1, 0, 0, 0}, {0, 0, 1}, {{0, 0}}},
+        {{9, 0, 1, 1, 0, 0, 0}, {0, 0, 1}, {{0, 0}}},
+        {{9, 0, 1, 1, 0, 0, 0}, {0, 0, 1}, {{0, 0}}},
+        {{10, 0, 3, 0, 0, 0, 0}, {0, 0, 1}, {{0, 0}}},
+        {{1, 0, 0, 1, 3, 0, 8}, {6, 0, 0}, {{0, 0}}},
+        {{1, 0, 0, 1, 3, 1000001, 8}, {6, 0, 0}, {{0, 0}}},
+        {{1, 0, 0, 1, 3, 1000000, 8}, {0, 0, 2}, {{12, 1000000}, {14, 8}}},
+        {{7, 1, 0, 0, 0, 1, 0}, {0, 0, 3}, {{16, 4}, {20, 1}}},
+        {{4, 2, 1, 0, 0, 0, 0}, {0, 1, 3}, {{17, 1}}},
+        {{8, 0, 0, 0, 0, 0, 0}, {0, 0, 3}, {{12, 999999}, {16, 2}, {17, 1}, {23, 3}}},
+        {{5, 2, 1, 0, 0, 0, 0}, {0, 1, 3}, {{17, 0}, {200, 3}, {201, 2}}},
+        {{7, 2, 0, 0, 0, 1, 0}, {0, 0, 2}, {{0, 0}}},
+        {{7, 1, 0, 0, 0, 1, 0}, {0, 0, 0}, {{0, 0}}},
+        {{8, 0, 0, 0, 0, 0, 0}, {0, 0, 2}, {{200, 2}, {201, 3}}}, /* in number order */
+        {{7, 1, 0, 0, 0, 5, 0}, {0, 0, 3}, {{0, 0}}},
+        {{3, 2, 1, 0, 0, 0, 0}, {0, 1, 3}, {{16, 1}, {20, 0}, {18, 1}}}, /* Stop of a sleeper */
+        {{3, 2, 0, 0, 0, 0, 0}, {0, 1, 3}, {{8, 1}, {14, 0}, {216, 0}}}, /* and of a putter */
+        {{1, 2, 0, 2, 2, 0, 0}, {0, 2, 3}, {{0, 0}}},
+    };
+    TAKE_STEPS(at, "ticks", steps);
+}
+
+static void case_caller_as_target(bench *at)
+{
+    static const step steps[] = {
+        {{0, 0, 0, 0, 0, 0, 0}, {0, 0, 0}, {{0, 0}}},
+        {{9, 0, 0, 1, 0, 0, 0}, {0, 0, 1}, {{0, 0}}},
+        {{2, 0, 0, 0, 0, 0, 0}, {0, 2, 1}, {{15, 2}}},
+        {{3, 0, 0, 0, 0, 0, 0}, {0, 2, 1}, {{8, 2}}},
+        {{4, 0, 0, 0, 0, 0, 0}, {0, 2, 1}, {{9, 0}}},
+        {{5, 0, 0, 0, 0, 0, 0}, {0, 2, 1}, {{0, 0}}},
+        {{9, 0, 0, 2, 0, 0, 0}, {6, 0, 0}, {{0, 0}}},
+    };
+    TAKE_STEPS(at, "caller as target", steps);
+}
+
+/* The 16th and 17th task and hub. */
+static void case_full(bench *at)
+{
+    uint32_t table[WORDS] = {0}, task[7] = {ADD_TASK, 0, 255, 1, 0, 0, 0};
+    uint32_t hub[7] = {ADD_HUB, 0, PORT, 0, 0, 0, 0}, blank[7] = {0};
+
+    begin(at, "full table", 0);
+    check_call(at, table, blank);
+    for (int i = 1; i <= 17; i++)
+        if (check_call(at, table, task).refusal != (i == 17 ? 7u : 0u) ||
+            check_call(at, table, hub).refusal != (i == 17 ? 7u : 0u))
+            fail(at, task, "16 fit, the 17th is refused with 7");
+    task[C_TARGET] = 256;
+    hub[C_TARGET] = 6;
+    if (check_call(at, table, task).refusal != 6 || check_call(at, table, hub).refusal != 6)
+        fail(at, task, "6 before 7");
+}
+
+/* Any other length is refused for every service, Blank and the summary too. */
+static void case_lengths(bench *at)
+{
+    static const size_t lengths[] = {0, 1, WORDS - 1, WORDS + 1, BYTES};
+    static const size_t byte_lengths[] = {0, 1, WORDS, BYTES - 1, BYTES + 1};
+    uint32_t table[BYTES], copy[BYTES];
+    uint8_t bytes[BYTES + 1], bytes_copy[BYTES + 1];
+    const second_reply refused = {1, 0, 0};
+
+    begin(at, "lengths", 0);
+    for (int round = 0; round < COVER_LEAST; round++) {
+        for (size_t i = 0; i < BYTES; i++)
+            table[i] = gen_word(&at->random);
+        gen_table(&at->random, table);
+        memcpy(copy, table, sizeof copy);
+        to_bytes(bytes, table);
+        bytes[BYTES] = 0;
+        memcpy(bytes_copy, bytes, sizeof bytes);
+        for (uint32_t service = BLANK; service <= ADD_HUB + 1; service++) {
+            uint32_t call[7] = {service, 0, 0, 1, 2, 0, 0};
+            for (int i = 0; i < 5; i++) {
+                second_summary_reply words = second_summary(table, lengths[i], 0);
+                second_summary_reply octets = second_summary_bytes(bytes, byte_lengths[i], 0);
+                if (!same_reply(second_call(table, lengths[i], call), refused) ||
+                    !same_reply(second_call_bytes(bytes, byte_lengths[i], call), refused) ||
+                    words.refusal != 1 || words.mask != 0 || words.count != 0 ||
+                    octets.refusal != 1 || octets.mask != 0 || octets.count != 0)
+                    fail(at, call, "another length is refusal 1");
+                cover_call_length(&at->seen, lengths[i]);
+                cover_call_byte_length(&at->seen, byte_lengths[i]);
+                cover_summary(&at->seen, table, lengths[i], words);
+            }
+        }
+        if (memcmp(table, copy, sizeof copy) != 0 || memcmp(bytes, bytes_copy, sizeof bytes) != 0)
+            fail(at, NULL, "refusal 1 changed the table");
+    }
+}
+
+/* The bytes themselves, so that both directions can't be wrong alike. */
+static void case_bytes(bench *at)
+{
+    static const uint8_t contents[32] = {1,   0, 0, 0, 0,   0, 0, 0, 0,   0, 0, 0, 8,    0, 0, 0,
+                                         136, 0, 0, 0, 200, 0, 0, 0, 216, 0, 0, 0, 0xD8, 1, 0, 0};
+    static const uint8_t hub[16] = {2,    0,    0, 0, 0x34, 0x12, 0, 0,
+                                    0xFF, 0xFF, 0, 0, 0x34, 0x12, 0, 0};
+    static const uint32_t blank[7] = {0}, add[7] = {10, 0, 2, 0, 0, 65535, 0x1234};
+    uint8_t bytes[BYTES];
+
+    begin(at, "bytes", 0);
+    memset(bytes, 0xAA, sizeof bytes);
+    if (second_call_bytes(bytes, BYTES, blank).refusal != 0 || memcmp(bytes, contents, 32) != 0)
+        fail(at, blank, "the contents as bytes");
+    for (size_t i = 32; i < BYTES; i++)
+        if (bytes[i] != 0)
+            fail(at, blank, "the other bytes are 0");
+    if (second_call_bytes(bytes, BYTES, add).refusal != 0 || bytes[8] != 1 ||
+        memcmp(bytes + 544, hub, 16) != 0)
+        fail(at, add, "the hub record as bytes");
+}
+
+/* ---- Families ---------------------------------------------------------- */
+
+static void part_cases(bench *at)
+{
+    case_marked(at);
+    case_refusal_order(at);
+    case_slips(at);
+    case_resource(at);
+    case_ticks(at);
+    case_caller_as_target(at);
+    case_full(at);
+    case_lengths(at);
+    case_bytes(at);
+}
+
+/* With `alone`, demand 3 is all that is checked: mutants/run asks whether it
+ * catches by itself what breaks it. */
+static void one_run(bench *at, uint32_t calls, int alone)
+{
+    uint32_t table[WORDS] = {0}, before[WORDS], call[7];
+    const char *wrong;
+    gen_mood mood;
+
+    gen_draw_mood(&at->random, &mood);
+    ledger_begin(&at->book);
+    for (uint32_t i = 0; i < calls; i++) {
+        if (i % 64 == 63)
+            gen_turn(&at->random, &mood);
+        gen_call(&at->random, &mood, table, call);
+        memcpy(before, table, sizeof before);
+        if (call[C_SERVICE] == BLANK && i > 0 && (wrong = ledger_end(&at->book, table)) != NULL)
+            fail(at, call, wrong);
+        second_reply reply = alone ? second_call(table, WORDS, call) : check_call(at, table, call);
+        if ((wrong = ledger_enter(&at->book, before, call, reply, table)) != NULL)
+            fail(at, call, wrong);
+        at->requests += call[C_SERVICE] == HUB_REQUEST && reply.refusal == ACCEPTED;
+    }
+    if ((wrong = ledger_end(&at->book, table)) != NULL)
+        fail(at, NULL, wrong);
+}
+
+static void part_runs(bench *at, const scale *to, int alone)
+{
+    for (uint32_t run = 0; run < to->runs; run++) {
+        begin(at, alone ? "demand 3" : "runs", run);
+        one_run(at, to->calls, alone);
+    }
+}
+
+static void part_tables(bench *at, const scale *to)
+{
+    uint32_t table[WORDS], call[7];
+    gen_mood mood;
+
+    for (uint32_t i = 0; i < to->tables; i++) {
+        begin(at, "tables", i);
+        gen_table(&at->random, table);
+        if (second_well_formed(table, WORDS) != SECOND_RIGHT || !expect_well_formed(table))
+            fail(at, NULL, "a built table isn't well formed");
+        gen_draw_mood(&at->random, &mood);
+        mood.tasks = mood.hubs = 0; /* nothing to add first */
+        for (uint32_t j = 0; j < to->table_calls; j++) {
+            gen_call(&at->random, &mood, table, call);
+            check_call(at, table, call);
+        }
+    }
+}
+
+/* Refused with 2 whatever the call, but for Blank, which is accepted. */
+static void one_damaged(bench *at, size_t family)
+{
+    uint32_t table[WORDS], call[7];
+    int clause;
+
+    gen_damaged(&at->random, family, table);
+    clause = second_well_formed(table, WORDS);
+    if (expect_well_formed(table) || clause != gen_damage_clause(family))
+        fail(at, NULL, gen_damage_name(family));
+    check_summary(at, table, gen_below(&at->random, 17));
+    for (uint32_t service = HUB_REQUEST; service <= ADD_HUB + 2; service++) {
+        for (int i = 0; i < CALL_NUMBERS; i++)
+            call[i] = gen_below(&at->random, 4);
+        call[C_SERVICE] = service <= ADD_HUB + 1 ? service : UINT32_MAX;
+        if (check_call(at, table, call).refusal != NOT_WELL_FORMED)
+            fail(at, call, gen_damage_name(family));
+    }
+    call[C_SERVICE] = BLANK;
+    if (check_call(at, table, call).refusal != ACCEPTED)
+        fail(at, call, "Blank takes any table");
+    cover_damage(&at->seen, family);
+}
+
+static void part_damaged(bench *at, const scale *to)
+{
+    for (size_t family = 0; family < gen_damages(); family++) {
+        begin(at, "damaged", family);
+        for (uint32_t i = 0; i < to->damages; i++)
+            one_damaged(at, family);
+    }
+}
+
+/* A few words changed at random: right or not, both readings agree. */
+static void part_flips(bench *at, const scale *to)
+{
+    uint32_t table[WORDS], call[7];
+    gen_mood mood;
+
+    begin(at, "flips", 0);
+    for (uint32_t i = 0; i < to->flips; i++) {
+        gen_table(&at->random, table);
+        gen_draw_mood(&at->random, &mood);
+        gen_call(&at->random, &mood, table, call);
+        gen_flip(&at->random, table);
+        if ((second_well_formed(table, WORDS) == SECOND_RIGHT) != expect_well_formed(table))
+            fail(at, call, "the two readings of well formed differ");
+        check_call(at, table, call);
+    }
+}
+
+/* ---- The parts --------------------------------------------------------- */
+
+static double seconds(void)
+{
+    struct timespec now;
+    clock_gettime(CLOCK_MONOTONIC, &now);
+    return (double)now.tv_sec + (double)now.tv_nsec / 1e9;
+}
+
+/* One line: the part, what it did, how long it took. */
+static void report(bench *at, const char *part, const char *what, uint64_t calls_before,
+                   double since)
+{
+    printf("%-10s %10" PRIu64 " calls  %6.1f s  ok  %s\n", part, at->calls - calls_before,
+           seconds() - since, what);
+    fflush(stdout);
+}
+
+static void run_parts(bench *at, const scale *to)
+{
+    char what[128];
+    uint64_t calls = at->calls;
+    double since = seconds();
+
+    part_cases(at);
+    report(at, "cases", "marked lines, refusal order, lengths, bytes, corners", calls, since);
+
+    calls = at->calls, since = seconds();
+    part_runs(at, to, 0);
+    snprintf(what, sizeof what, "%" PRIu32 " runs from Blank, demand 3 over %" PRIu64 " requests",
+             to->runs, at->requests);
+    report(at, "runs", what, calls, since);
+
+    calls = at->calls, since = seconds();
+    part_tables(at, to);
+    snprintf(what, sizeof what, "%" PRIu32 " built tables", to->tables);
+    report(at, "tables", what, calls, since);
+
+    calls = at->calls, since = seconds();
+    part_damaged(at, to);
+    snprintf(what, sizeof what, "%zu families of %" PRIu32 " damaged tables", gen_damages(),
+             to->damages);
+    report(at, "damaged", what, calls, since);
+
+    calls = at->calls, since = seconds();
+    part_flips(at, to);
+    snprintf(what, sizeof what, "%" PRIu32 " tables with words changed", to->flips);
+    report(at, "flips", what, calls, since);
+}
+
+static void check_coverage(bench *at)
+{
+    char name[96];
+    size_t rows;
+    uint64_t fewest = cover_fewest(&at->seen, name, sizeof name, &rows);
+
+    printf("coverage   %zu rows, fewest hits %" PRIu64 " (%s)  %s\n", rows, fewest, name,
+           fewest >= COVER_LEAST ? "ok" : "FAILED");
+    if (fewest < COVER_LEAST)
+        exit(1);
+}
+
+int main(int count, char **words)
+{
+    static bench at; /* the ledger is too large for some stacks */
+    int table = count == 3 && strcmp(words[2], "coverage") == 0;
+    int alone = count == 3 && strcmp(words[2], "demand3") == 0;
+
+    for (size_t i = 0; i < sizeof scales / sizeof *scales && (count == 2 || table || alone); i++) {
+        if (strcmp(words[1], scales[i].name) != 0)
+            continue;
+        alarm(scales[i].seconds);
+        if (alone) {
+            part_runs(&at, &scales[i], alone);
+            return 0;
+        }
+        run_parts(&at, &scales[i]);
+        if (table)
+            cover_print(&at.seen);
+        if (scales[i].coverage)
+            check_coverage(&at);
+        printf("digest     %016" PRIx64 "\n", at.digest);
+        return 0;
+    }
+    fprintf(stderr, "usage: test quick|gate|long [coverage|demand3]\n");
+    return 2;
+}
