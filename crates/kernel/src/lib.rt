@@ -5,13 +5,14 @@ use rules::Answer;
 use rules::Call;
 use rules::Outcome;
 use rules::Reply;
+use rules::Summary;
 ghost use Prim.Native.Nat.{_<_, _≤_, ℕ};
 ghost use Rattle.kernel.specs.Promise.{Called};
 ghost use Rattle.moves.specs.Moves.{keyOf};
 ghost use Rattle.rules.proofs.Valid.{Valid};
 ghost use Rattle.rules.specs.Calls.{AddTask, addStarted, serve, served, serviceOf};
 ghost use Rattle.rules.specs.Refusals.{refusal, refusalOf};
-ghost use Rattle.rules.specs.Reply.{outcome};
+ghost use Rattle.rules.specs.Reply.{outcome, summaryOf};
 ghost use Rattle.rules.specs.Table.{State, one, read, words};
 ghost use lib.ListN.{getD, length};
 ghost use mathlib.Core.Path.{_≡_};
@@ -153,4 +154,11 @@ pub fn call(t: &mut [u32], c: Call) -> Reply
         answer: Answer::Accepted(outcome_of(&*t, c)),
         next: refusals::running(&*t),
     }
+}
+
+// "Hub summary: given a table and a hub, one word with bit i set when task i waits there, and the number of set bits as count."
+pub fn summary(t: &[u32], hub: u32) -> Summary
+    ensures { λ r. ⌜ r ≡ summaryOf (now (t .entry)) hub ⌝ }
+{
+    summaries::summarise(t, hub)
 }

@@ -2,8 +2,8 @@
 -- written; leaving every list is leaving the one list in which the task stands; what of a state a move keeps.
 -- Not here: where a state's parts stand (rules, Places), joining and leaving a list as such (lists, Laws). Assumes nothing.
 use Prim.Native.Nat.{_*_, _+_, _<_, _≤_, suc, zero, ℕ}
-use Rattle.lists.proofs.Laws.{boolCase, join-entries, leave-entries, length-entries, length-without-le, without-none}
-use Rattle.lists.specs.Lists.{entries, indexOf, insert, insertAt, occ, placeIn, removeAt, without}
+use Rattle.lists.proofs.Laws.{boolCase, join-entries, leave-entries, length-entries, place-entries, without-none}
+use Rattle.lists.specs.Lists.{entries, indexOf, insert, insertAt, occ, placeIn, placeOf, removeAt, without}
 use Rattle.moves.specs.Moves.{Sound, keyOf, taskOf}
 use Rattle.records.specs.Records.{taskAt, taskWords}
 use Rattle.records.specs.declared.TaskRecord.{TaskRecord}
@@ -33,6 +33,12 @@ list-put {whole = whole} {at = at} c f xs xs′ t ys a n ea en et ey ef =
     let new : ys ≡ entries 16 xs′ = ey ∙ rw (ea, en, et, part) ef in
     rw (ea, en, et, new) (cut-paste c xs xs′ 16 (length-entries 16 xs))
 
+-- the place that a lent list gives is the place among the numbers that it holds
+pub list-place : {whole : List ℕ → List ℕ} {at : ℕ} → Cut whole (entries 16) at → (ks xs t : List ℕ) (p a n : ℕ) → a ≡ at → n ≡ 16 → length xs ≤ 16 → t ≡ whole xs → placeIn ks p (midOf a n t) ≡ placeOf (keyOf ks) p xs
+list-place {whole = whole} {at = at} c ks xs t p a n ea en fits et =
+    let part : midOf at 16 (whole xs) ≡ entries 16 xs = cut-part c xs 16 (length-entries 16 xs) in
+    rw (ea, en, et, part) (place-entries ks p 16 xs fits)
+
 module _ (L : Layout) (s : State) (z : Sized L) (t ys : List ℕ) (ts n : ℕ) (size : ts ≡ L .taskSize) (many : n ≡ 16) (w : t ≡ words L s) where
   at-ready : 8 + 16 * ts + 64 ≡ readyAt L
   at-ready = rw size refl
@@ -41,6 +47,10 @@ module _ (L : Layout) (s : State) (z : Sized L) (t ys : List ℕ) (ts n : ℕ) (
   unfolding joinReady setReady
   join-ready ks i e =
       list-put (cut-ready L z s) (λ l. insertAt (placeIn ks (getD ks i 0) l) (suc i) l) (s .ready) _ t ys _ n at-ready many w e (join-entries ks i 16 (s .ready))
+
+  pub place-ready : (ks : List ℕ) (p : ℕ) → length (s .ready) ≤ 16 → placeIn ks p (midOf (8 + 16 * ts + 64) n t) ≡ placeOf (keyOf ks) p (s .ready)
+  unfolding setReady
+  place-ready ks p fits = list-place (cut-ready L z s) ks (s .ready) t p _ n at-ready many fits w
 
   pub leave-ready : (i : ℕ) → length (s .ready) ≤ 16 → occ i (s .ready) ≤ 1 → ys ≡ removeAt (indexOf (suc i) (midOf (8 + 16 * ts + 64) n t)) (midOf (8 + 16 * ts + 64) n t) → putMid (8 + 16 * ts + 64) n t ys ≡ words L (setReady (without i (s .ready)) s)
   unfolding setReady
@@ -59,6 +69,9 @@ module _ (L : Layout) (s : State) (z : Sized L) (t ys : List ℕ) (ts n : ℕ) (
     unfolding joinHub
     join-hub ks i e =
         list-put (cut-waiters L z s h low used (hub s h)) (λ l. insertAt (placeIn ks (getD ks i 0) l) (suc i) l) (hub s h .waiters) _ t ys _ n at-hub many same e (join-entries ks i 16 (hub s h .waiters))
+
+    pub place-hub : (ks : List ℕ) (p : ℕ) → length (hub s h .waiters) ≤ 16 → placeIn ks p (midOf (8 + 16 * ts + 80 + h * 16) n t) ≡ placeOf (keyOf ks) p (hub s h .waiters)
+    place-hub ks p fits = list-place (cut-waiters L z s h low used (hub s h)) ks (hub s h .waiters) t p _ n at-hub many fits same
 
     pub leave-hub : (i : ℕ) → length (hub s h .waiters) ≤ 16 → occ i (hub s h .waiters) ≤ 1 → ys ≡ removeAt (indexOf (suc i) (midOf (8 + 16 * ts + 80 + h * 16) n t)) (midOf (8 + 16 * ts + 80 + h * 16) n t) → putMid (8 + 16 * ts + 80 + h * 16) n t ys ≡ words L (setHub h (queued (without i (hub s h .waiters)) (hub s h)) s)
     leave-hub i room once e =

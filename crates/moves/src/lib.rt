@@ -5,8 +5,8 @@ use records::HubNo;
 use records::TaskNo;
 use records::TaskRecord;
 ghost use Prim.Native.Nat.{_*_, _+_, _<_, _≤_};
-ghost use Rattle.moves.specs.Moves.{Sound, keyOf, taskOf};
-ghost use Rattle.rules.specs.Lists.{answer, joinHub, joinReady, leave, queued, readied, wake};
+ghost use Rattle.moves.specs.Moves.{JoinsHub, JoinsReady, Sound, keyOf, taskOf};
+ghost use Rattle.rules.specs.Lists.{answer, leave, queued, readied, wake};
 ghost use Rattle.rules.specs.Table.{Layout, Sized, State, hub, one, setHub, setReady, setTask, task, words};
 ghost use Rattle.lists.specs.Lists.{occ, without};
 ghost use lib.ListN.{length};
@@ -20,7 +20,7 @@ pub fn join_ready(t: &mut [u32], ts: usize, keys: &[u32], i: TaskNo) -> usize
     requires { ⌜ ts ≤ 9 ⌝ }
     requires { ⌜ i .0 < 16 ⌝ }
     requires { ⌜ 8 + 16 * ts + 80 ≤ length (now t) ⌝ }
-    ensures { λ _. ⌜ ((L : Layout) (s : State) → Sized L → ts ≡ L .taskSize → now (t .entry) ≡ words L s → now (t .exit) ≡ words L (joinReady (keyOf (now (keys .entry))) (i .0) s)) ⌝ }
+    ensures { λ r. ⌜ JoinsReady ts (now (keys .entry)) (i .0) (now (t .entry)) r (now (t .exit)) ⌝ }
 {
     let n = i.0;
     let a = 8 + 16 * ts + 64;
@@ -33,7 +33,7 @@ pub fn join_hub(t: &mut [u32], ts: usize, keys: &[u32], h: HubNo, i: TaskNo) -> 
     requires { ⌜ h .0 < 16 ⌝ }
     requires { ⌜ i .0 < 16 ⌝ }
     requires { ⌜ 8 + 16 * ts + 336 ≤ length (now t) ⌝ }
-    ensures { λ _. ⌜ ((L : Layout) (s : State) → Sized L → ts ≡ L .taskSize → h .0 < length (s .hubs) → now (t .entry) ≡ words L s → now (t .exit) ≡ words L (joinHub (keyOf (now (keys .entry))) (h .0) (i .0) s)) ⌝ }
+    ensures { λ r. ⌜ JoinsHub ts (now (keys .entry)) (h .0) (i .0) (now (t .entry)) r (now (t .exit)) ⌝ }
 {
     let n = i.0;
     let k = h.0;

@@ -1,22 +1,20 @@
 -- A hub by its words: its record, its list and its store, one after the other; and the hubs below h, with the marks so far.
 -- Not here: the walk of a list (Turns.antt). Assumes nothing.
-use Prim.Native.Nat.{_*_, _+_, _-_, _<_, _≤_, pred, suc, zero, zero-le, ℕ}
+use Prim.Native.Nat.{_*_, _+_, _-_, _<_, _≤_, suc, zero, zero-le, ℕ}
 use Rattle.lists.proofs.Laws.{length-numbers}
 use Rattle.lists.specs.Lists.{allZero, numbers, occ}
 use Rattle.rules.proofs.Reading.{read-hub, read-tasks}
 use Rattle.rules.proofs.Tests.{t-kind}
 use Rattle.rules.proofs.Valid.{Range}
-use Rattle.rules.specs.Table.{Fifo, Hub, hub, hubAt, kindOf, one, read, storePart, task, waitPart}
+use Rattle.rules.specs.Table.{Fifo, Hub, hub, hubAt, kindOf, one, read, waitPart}
 use Rattle.rules.specs.WellFormed.{forAll, kindRight, storeRight}
 use Rattle.wellformed.proofs.Parts.{so-many}
 use Rattle.wellformed.proofs.Turns.{entry-side, forAll-fail, forAll-none, forAll-step, numbers-end, occ-le}
-use Rattle.wellformed.specs.Walks.{Marked, Marks, Used, hubRight, may, metAt, ownerOf, queueRight, walks}
-use borrow.Author.Tests.{eq-eqb, le-leb, leb-true, lt-leb, ne-eqb}
-use lib.Dec.{eqb, leb}
+use Rattle.wellformed.specs.Walks.{Marked, Marks, Used, hubRight, kindTest, may, metAt, ownerOf, queueRight, queueTest, storeTest, waitsOf, walks}
+use borrow.Author.Tests.{eq-eqb, le-leb, lt-leb, ne-eqb}
 use lib.ListN.{drop, getD, length, length-take, take}
-use lib.Seq.{length-take-le}
-use mathlib.Core.Bool.{Bool, _&&_, and-false, false, false≢true, true}
-use mathlib.Core.List.{List, []}
+use mathlib.Core.Bool.{Bool, _&&_, false, false≢true, true}
+use mathlib.Core.List.{List}
 use mathlib.Core.Path.{_∙_, _≡_, ap, refl, sym}
 use native.Mathlib.Nat.{add-zero}
 use native.Mathlib.Numerals.{add-one}
@@ -26,55 +24,55 @@ use native.Mathlib.Omega.{arith}
 
 module _ {test : Bool} {met : ℕ → ℕ} {m : List ℕ} where
   -- a test that failed
-  pub marked-no : test ≡ false → Marked false test met m m
+  marked-no : test ≡ false → Marked false test met m m
   marked-no e = record { right = sym e; long = refl; marks = λ f. absurd (false≢true f) }
 
   -- a test that met nobody
-  pub marked-none : (r : Bool) → r ≡ test → ((j : ℕ) → met j ≡ 0) → Marked r test met m m
+  marked-none : (r : Bool) → r ≡ test → ((j : ℕ) → met j ≡ 0) → Marked r test met m m
   marked-none r e z = record { right = e; long = refl; marks = λ f j. sym (add-zero (getD m j 0)) ∙ rw (z j) }
 
   -- the same test, said otherwise
-  pub marked-as : {other : Bool} {with : ℕ → ℕ} {r : Bool} {n : List ℕ} → other ≡ test → ((j : ℕ) → with j ≡ met j) → Marked r other with m n → Marked r test met m n
+  marked-as : {other : Bool} {with : ℕ → ℕ} {r : Bool} {n : List ℕ} → other ≡ test → ((j : ℕ) → with j ≡ met j) → Marked r other with m n → Marked r test met m n
   marked-as e q w = record { right = w .right ∙ e; long = w .long; marks = λ f j. rw (q j) at (w .marks f j) }
 
 -- ---- the words of a hub's record
 
 module _ (t : List ℕ) (h : ℕ) (u : h < getD t 2 0) where
-  pub kind-word : hub (read one t) h .kind ≡ getD t (136 + h * 4) 0
+  kind-word : hub (read one t) h .kind ≡ getD t (136 + h * 4) 0
   unfolding hubAt
   kind-word = ap (λ (x : Hub). x .kind) (read-hub one t h u) ∙ rw add-zero
 
-  pub count-word : hub (read one t) h .count ≡ getD t (136 + h * 4 + 1) 0
+  count-word : hub (read one t) h .count ≡ getD t (136 + h * 4 + 1) 0
   unfolding hubAt
   count-word = ap (λ (x : Hub). x .count) (read-hub one t h u)
 
-  pub limit-word : hub (read one t) h .limit ≡ getD t (136 + h * 4 + 2) 0
+  limit-word : hub (read one t) h .limit ≡ getD t (136 + h * 4 + 2) 0
   unfolding hubAt
   limit-word = ap (λ (x : Hub). x .limit) (read-hub one t h u)
-
-  pub start-word : hub (read one t) h .start ≡ getD t (136 + h * 4 + 3) 0
-  unfolding hubAt
-  start-word = ap (λ (x : Hub). x .start) (read-hub one t h u)
 
   pub wait-words : hub (read one t) h .waiters ≡ numbers (waitPart one t h)
   unfolding hubAt
   wait-words = ap (λ (x : Hub). x .waiters) (read-hub one t h u)
 
+  -- a row of n words, as the code lends it
+  abbrev lent : ℕ → ℕ → List ℕ
+  lent a n = take (a + h * n + n - (a + h * n)) (drop (a + h * n) t)
+
   -- ---- its list, by the first word
 
-  module _ (l m : List ℕ) where
-    abbrev queue : Bool
-    queue = queueRight (read one t) h (hub (read one t) h) l
+  abbrev queue : List ℕ → Bool
+  queue l = queueRight (read one t) h (hub (read one t) h) l
 
+  module _ (l m : List ℕ) where
     abbrev first : ℕ
     first = getD l 0 0
 
-    pub queue-none : 0 < length l → first ≡ 0 → (r : Bool) → r ≡ allZero l → Marked r queue (λ j. occ j (numbers l)) m m
+    pub queue-none : 0 < length l → first ≡ 0 → (r : Bool) → r ≡ allZero l → Marked r (queue l) (λ j. occ j (numbers l)) m m
     unfolding occ queueRight
     queue-none n e r q = marked-none r (q ∙ rw (eq-eqb first 0 e)) (λ j. rw (numbers-end l 0 n e))
 
     module _ (some : first ≡ 0 → ⊥) where
-      pub queue-far : getD t 1 0 < first → Marked false queue (λ j. occ j (numbers l)) m m
+      pub queue-far : getD t 1 0 < first → Marked false (queue l) (λ j. occ j (numbers l)) m m
       unfolding queueRight
       queue-far f = marked-no (rw (ne-eqb first 0 some, read-tasks one t, lt-leb first (getD t 1 0) f))
 
@@ -82,7 +80,7 @@ module _ (t : List ℕ) (h : ℕ) (u : h < getD t 2 0) where
         abbrev mayDo : Bool
         mayDo = may (getD t (first * 8 + 5) 0) (getD t (136 + h * 4) 0) (getD t (136 + h * 4 + 1) 0) (getD t (136 + h * 4 + 2) 0)
 
-        queue-is : queue ≡ (mayDo && walks (read one t) (suc h) (getD t (first * 8 + 5) 0) (ownerOf (getD t (136 + h * 4) 0) (getD t (136 + h * 4 + 1) 0)) 0 l)
+        queue-is : queue l ≡ (mayDo && walks (read one t) (suc h) (getD t (first * 8 + 5) 0) (ownerOf (getD t (136 + h * 4) 0) (getD t (136 + h * 4 + 1) 0)) 0 l)
         unfolding queueRight
         queue-is =
             rw (
@@ -95,45 +93,52 @@ module _ (t : List ℕ) (h : ℕ) (u : h < getD t 2 0) where
               limit-word,
             )
 
-        pub queue-barred : mayDo ≡ false → Marked false queue (λ j. occ j (numbers l)) m m
+        pub queue-barred : mayDo ≡ false → Marked false (queue l) (λ j. occ j (numbers l)) m m
         queue-barred e = marked-no (queue-is ∙ rw e)
 
-        pub queue-walked : mayDo ≡ true → (owner : ℕ) → owner ≡ ownerOf (getD t (136 + h * 4) 0) (getD t (136 + h * 4 + 1) 0) → {r : Bool} {n : List ℕ} → Marked r (walks (read one t) (h + 1) (getD t (first * 8 + 5) 0) owner 0 l) (λ j. occ j (numbers l)) m n → Marked r queue (λ j. occ j (numbers l)) m n
+        pub queue-walked : mayDo ≡ true → (owner : ℕ) → owner ≡ ownerOf (getD t (136 + h * 4) 0) (getD t (136 + h * 4 + 1) 0) → {r : Bool} {n : List ℕ} → Marked r (walks (read one t) (h + 1) (getD t (first * 8 + 5) 0) owner 0 l) (λ j. occ j (numbers l)) m n → Marked r (queue l) (λ j. occ j (numbers l)) m n
         queue-walked e owner q w = marked-as (rw (add-one, q) (sym (queue-is ∙ rw e))) (λ j. refl) w
 
-  -- ---- the whole hub
+  -- the list as the code lends it is the hub's
+  pub queue-as : {m n : List ℕ} {r : Bool} → Marked r (queue (lent 216 16)) (λ j. occ j (numbers (lent 216 16))) m n → Marked r (queueTest t h) (waitsOf t h) m n
+  unfolding queueTest
+  queue-as w = marked-as (rw (so-many (216 + h * 16) 16 t)) (λ j. rw (so-many (216 + h * 16) 16 t, wait-words)) w
 
-  abbrev kindTest : Bool
-  kindTest = kindRight (kindOf (getD t (136 + h * 4) 0)) (getD t 1 0) (hub (read one t) h)
+  -- ---- its record, by kind
 
-  abbrev storeTest : Bool
-  storeTest =
-      storeRight one (kindOf (getD t (136 + h * 4) 0)) (getD t (136 + h * 4 + 1) 0)
-      (take (472 + h * 8 + 8 - (472 + h * 8)) (drop (472 + h * 8) t))
+  kind-at : hubAt one t h .kind ≡ getD t (136 + h * 4) 0
+  unfolding hubAt
+  kind-at = rw add-zero
 
-  hub-is : hubRight t h ≡ (kindTest && (storeTest && queueRight (read one t) h (hub (read one t) h) (waitPart one t h)))
-  unfolding hubRight
-  hub-is = rw (so-many (472 + h * 8) 8 t, kind-word, count-word)
+  pub kind-arm : (n : ℕ) → getD t (136 + h * 4) 0 ≡ n → kindTest t h ≡ kindRight (kindOf n) (getD t 1 0) (hubAt one t h)
+  unfolding kindTest
+  kind-arm n q = rw (read-hub one t h u, kind-at ∙ q)
 
-  module _ (m : List ℕ) where
-    abbrev waiting : ℕ → ℕ
-    waiting j = occ j (hub (read one t) h .waiters)
+  -- ---- its store
 
-    pub hub-kind-no : kindTest ≡ false → Marked false (hubRight t h) waiting m m
-    hub-kind-no e = marked-no (hub-is ∙ rw e)
-
-    pub hub-store-no : kindTest ≡ true → storeTest ≡ false → Marked false (hubRight t h) waiting m m
-    hub-store-no a e = marked-no (hub-is ∙ rw (a, e))
-
-    pub hub-queue : kindTest ≡ true → storeTest ≡ true → {r : Bool} {n : List ℕ} → Marked r (queueRight (read one t) h (hub (read one t) h) (take (216 + h * 16 + 16 - (216 + h * 16)) (drop (216 + h * 16) t))) (λ j. occ j (numbers (take (216 + h * 16 + 16 - (216 + h * 16)) (drop (216 + h * 16) t)))) m n → Marked r (hubRight t h) waiting m n
-    hub-queue a b w =
-        marked-as (rw (so-many (216 + h * 16) 16 t) (sym (hub-is ∙ rw (a, b)))) (λ j. rw (so-many (216 + h * 16) 16 t, wait-words)) w
-
-  -- a FIFO's words have room in its store
-  pub fifo-fits : kindTest ≡ true → getD t (136 + h * 4) 0 ≡ 4 → getD t (136 + h * 4 + 1) 0 ≤ 8
-  unfolding Range kindOf
+  pub fifo-fits : kindTest t h ≡ true → getD t (136 + h * 4) 0 ≡ 4 → getD t (136 + h * 4 + 1) 0 ≤ 8
+  unfolding Range hubAt kindOf
   fifo-fits a e =
-      let q = t-kind Fifo (getD t 1 0) (hub (read one t) h) .yes (rw e at a) in omega (arith, q .0, q .2, count-word)
+      let q = t-kind Fifo (getD t 1 0) (hubAt one t h) .yes (sym (kind-arm 4 e) ∙ a) in omega (arith, q .0, q .2)
+
+  pub store-as : storeTest t h ≡ storeRight one (kindOf (getD t (136 + h * 4) 0)) (getD t (136 + h * 4 + 1) 0) (lent 472 8)
+  unfolding storeTest
+  store-as = rw (so-many (472 + h * 8) 8 t, kind-word, count-word)
+
+-- ---- the three together
+
+module _ (t : List ℕ) (h : ℕ) (m : List ℕ) where
+  pub hub-kind-no : kindTest t h ≡ false → Marked false (hubRight t h) (waitsOf t h) m m
+  unfolding hubRight
+  hub-kind-no e = marked-no (rw e)
+
+  pub hub-store-no : kindTest t h ≡ true → storeTest t h ≡ false → Marked false (hubRight t h) (waitsOf t h) m m
+  unfolding hubRight
+  hub-store-no a e = marked-no (rw (a, e))
+
+  pub hub-queue : kindTest t h ≡ true → storeTest t h ≡ true → {r : Bool} {n : List ℕ} → Marked r (queueTest t h) (waitsOf t h) m n → Marked r (hubRight t h) (waitsOf t h) m n
+  unfolding hubRight
+  hub-queue a b w = marked-as (rw (a, b)) (λ j. refl) w
 
 -- ---- the hubs below h, with the marks so far
 

@@ -2,20 +2,19 @@
 -- which list it may stand in, and its state whether it must.
 -- Not here: that a walk refuses a task whose hub word names another list (Queues.antt). Assumes nothing.
 use Prim.Native.Nat.{_+_, _<_, _≤_, pred, suc, suc-le-suc, zero, zero-le, ℕ}
-use Rattle.lists.proofs.Laws.{boolCase}
 use Rattle.lists.specs.Lists.{bit, occ}
 use Rattle.rules.proofs.Cases.{sameOr}
 use Rattle.rules.proofs.Shapes.{shape-at}
-use Rattle.rules.proofs.Tests.{t-all, t-each, t-eq, t-lt}
+use Rattle.rules.proofs.Tests.{t-all, t-each, t-eq, t-is, t-lt}
 use Rattle.rules.proofs.Valid.{Listed, Records, Shape, TaskOk}
 use Rattle.rules.specs.Table.{State, Task, hub, stageOf, task}
 use Rattle.rules.specs.WellFormed.{exactly, isReady, listsExact, waitsFor}
 use Rattle.wellformed.specs.Walks.{listed, metAt}
-use borrow.Author.Tests.{eq-eqb, eqb-false, eqb-true, ne-eqb}
-use lib.Dec.{eqb, ltb}
+use borrow.Author.Tests.{eq-eqb, ne-eqb}
+use lib.Dec.{eqb}
 use lib.ListN.{length}
-use mathlib.Core.Bool.{_&&_, and-false, false, or-false, true}
-use mathlib.Core.Path.{_∙_, _≡_, ap, refl, sym}
+use mathlib.Core.Bool.{and-false, false, or-false, true}
+use mathlib.Core.Path.{_∙_, _≡_, refl, sym}
 use native.Mathlib.Omega.{arith}
 
 -- ---- how often a task stands in the hubs' lists, where it may stand in none, or in one
@@ -45,7 +44,7 @@ module _ (s : State) (x : Task) (ok : TaskOk s x) where
   unfolding Shape stageOf
   ready-shape e = let q = shape-at s x 2 ok e in (q .0, q .2)
 
-  pub waiting-shape : x .state ≡ 3 → (1 ≤ x .hub) × (x .hub ≤ length (s .hubs))
+  waiting-shape : x .state ≡ 3 → (1 ≤ x .hub) × (x .hub ≤ length (s .hubs))
   unfolding Shape stageOf
   waiting-shape e = let q = shape-at s x 3 ok e in (q .0, q .1)
 
@@ -95,7 +94,7 @@ module _ (s : State) (r : Records s) where
           t-all _ _ (λ i. t-eq (occ i (s .ready)) (bit (isReady s i))) (length (s .tasks)) .conv (λ i u. ready-exact i (m i u)),
           t-each _ _ (λ i. t-lt i (length (s .tasks))) (s .ready) .conv (λ i o. p .ready i o .0),
         )
-        (t-all (λ h. exactly (length (s .tasks)) (waitsFor s h) (hub s h .waiters) ≡ true) _ (λ h. Rattle.rules.proofs.Tests.t-is _) (length (s .hubs)) .conv
+        (t-all (λ h. exactly (length (s .tasks)) (waitsFor s h) (hub s h .waiters) ≡ true) _ (λ h. t-is _) (length (s .hubs)) .conv
         (λ h k. rw (
           t-all _ _ (λ i. t-eq (occ i (hub s h .waiters)) (bit (waitsFor s h i))) (length (s .tasks)) .conv (λ i u. waiters-exact h k i (m i u)),
           t-each _ _ (λ i. t-lt i (length (s .tasks))) (hub s h .waiters) .conv (λ i o. p .waiters h k i o .0),

@@ -1,7 +1,7 @@
 -- A number that names nothing, in each of the paper's tables of names. Assumes nothing.
 use Prim.Native.Nat.{suc, zero, ℕ}
 use Rattle.lists.specs.Lists.{allZero}
-use Rattle.rules.specs.Table.{NoKind, NoSide, NoStage, kindOf, one, sideOf, stageOf}
+use Rattle.rules.specs.Table.{NoKind, NoStage, kindOf, one, stageOf}
 use Rattle.rules.specs.WellFormed.{bearsWord, storeRight}
 use borrow.Author.Tests.{ne-eqb}
 use lib.Dec.{eqb}
@@ -20,13 +20,6 @@ no-kind (suc (suc (suc zero))) a b c d e = absurd (c refl)
 no-kind (suc (suc (suc (suc zero)))) a b c d e = absurd (d refl)
 no-kind (suc (suc (suc (suc (suc zero))))) a b c d e = absurd (e refl)
 no-kind (suc (suc (suc (suc (suc (suc n)))))) a b c d e = refl
-
-pub no-side : (n : ℕ) → (n ≡ 1 → ⊥) → (n ≡ 2 → ⊥) → sideOf n ≡ NoSide
-unfolding sideOf
-no-side zero a b = refl
-no-side (suc zero) a b = absurd (a refl)
-no-side (suc (suc zero)) a b = absurd (b refl)
-no-side (suc (suc (suc n))) a b = refl
 
 pub no-stage : (n : ℕ) → (n ≡ 1 → ⊥) → (n ≡ 2 → ⊥) → (n ≡ 3 → ⊥) → (n ≡ 4 → ⊥) → stageOf n ≡ NoStage
 unfolding stageOf

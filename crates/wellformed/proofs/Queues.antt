@@ -10,12 +10,12 @@ use Rattle.rules.proofs.Valid.{Below, Range, Sorted}
 use Rattle.rules.specs.Table.{Hub, State, kindOf, sideOf, task}
 use Rattle.rules.specs.WellFormed.{mayWait, urgency}
 use Rattle.wellformed.specs.Walks.{may, meets, ownerOf, queueRight, walks}
-use borrow.Author.Tests.{eq-eqb, eqb-false, eqb-true, le-leb, leb-true, ne-eqb}
+use borrow.Author.Tests.{eq-eqb, eqb-false, eqb-true, le-leb, ne-eqb}
 use lib.Dec.{eqb, eqb·suc-zero, leb}
 use lib.ListN.{getD, length}
-use mathlib.Core.Bool.{Bool, _&&_, and-true, false, not, or-false, true}
+use mathlib.Core.Bool.{_&&_, and-true, false, not, or-false, true}
 use mathlib.Core.List.{List, [], _∷_}
-use mathlib.Core.Path.{_∙_, _≡_, ap, refl, subst, sym}
+use mathlib.Core.Path.{_∙_, _≡_, refl, subst, sym}
 use native.Mathlib.Omega.{arith}
 
 below-le : (key : ℕ → ℕ) (n m : ℕ) (l : List ℕ) → n ≤ m → Below key m l → Below key n l

@@ -1,17 +1,19 @@
--- A turn of each loop of this crate, and its end: what is left of a list's walk, of the marks, and of a test of every number.
--- Not here: laws of `packed`, `allZero` and `numbers` alone (crate lists). Assumes nothing.
+-- A turn of each loop of this crate, and its end. In order: a list's walk by the word at its place; an entry by its task's
+-- words; a task's record by its words; the marks; a walk of 16 words (`Walking`); a test of every number.
+-- Not here: laws of `packed`, `allZero` and `numbers` alone (crate lists); the hubs (Hubs.antt). Assumes nothing.
 use Prim.Native.Nat.{_*_, _+_, _-_, _<_, _≤_, pred, suc, zero, zero-le, ℕ}
 use Rattle.lists.proofs.Laws.{boolCase, length-numbers}
 use Rattle.lists.specs.Lists.{allZero, bit, numbers, occ}
+use Rattle.rules.proofs.Cases.{and-l}
 use Rattle.rules.proofs.Reading.{read-hub, read-task, read-tasks}
 use Rattle.rules.specs.Table.{Hub, State, Task, hub, hubAt, one, read, stageOf, task, taskAt}
 use Rattle.rules.specs.WellFormed.{fieldsRight, forAll, stageRight}
-use Rattle.wellformed.proofs.Parts.{to-end}
-use Rattle.wellformed.specs.Walks.{Marked, Marks, listed, meets, taskRight, walks}
-use borrow.Author.Tests.{eq-eqb, eqb-false, eqb-true, le-leb, lt-leb, ne-eqb}
+use Rattle.wellformed.proofs.Parts.{so-many, to-end}
+use Rattle.wellformed.specs.Walks.{Marked, Marks, listed, meets, recordOf, recordRight, taskRight, walks}
+use borrow.Author.Tests.{eq-eqb, eqb-false, eqb-true, le-leb, leb-true, lt-leb, ne-eqb}
 use lib.Dec.{eqb, leb}
 use lib.ListN.{drop, drop-of-length-le, getD, length, length-set, set, take}
-use lib.Seq.{drop-cons, getD-set-other, getD-set-same}
+use lib.Seq.{drop-cons, getD-drop, getD-set-other, getD-set-same, getD-take}
 use mathlib.Core.Bool.{Bool, _&&_, and-false, false, false≢true, not, true}
 use mathlib.Core.List.{List, [], _∷_}
 use mathlib.Core.Path.{_∙_, _≡_, ap, refl, sym}
@@ -23,11 +25,11 @@ use native.Mathlib.Omega.{arith}
 
 module _ (l : List ℕ) (k : ℕ) (h : k < length l) where
   module _ (s : State) (a d owner p : ℕ) where
-    pub walks-end : getD l k 0 ≡ 0 → walks s a d owner p (drop k l) ≡ allZero (drop k l)
+    walks-end : getD l k 0 ≡ 0 → walks s a d owner p (drop k l) ≡ allZero (drop k l)
     unfolding allZero walks
     walks-end e = rw (drop-cons l k 0 h, eq-eqb (getD l k 0) 0 e)
 
-    pub walks-turn : (getD l k 0 ≡ 0 → ⊥) → walks s a d owner p (drop k l) ≡ (meets s a d owner p (getD l k 0) && walks s a d owner (task s (pred (getD l k 0)) .priority) (drop (suc k) l))
+    walks-turn : (getD l k 0 ≡ 0 → ⊥) → walks s a d owner p (drop k l) ≡ (meets s a d owner p (getD l k 0) && walks s a d owner (task s (pred (getD l k 0)) .priority) (drop (suc k) l))
     unfolding walks
     walks-turn n = rw (drop-cons l k 0 h, ne-eqb (getD l k 0) 0 n)
 
@@ -35,21 +37,26 @@ module _ (l : List ℕ) (k : ℕ) (h : k < length l) where
   unfolding numbers
   numbers-end e = rw (drop-cons l k 0 h, eq-eqb (getD l k 0) 0 e)
 
-  pub numbers-turn : (getD l k 0 ≡ 0 → ⊥) → numbers (drop k l) ≡ pred (getD l k 0) ∷ numbers (drop (suc k) l)
+  numbers-turn : (getD l k 0 ≡ 0 → ⊥) → numbers (drop k l) ≡ pred (getD l k 0) ∷ numbers (drop (suc k) l)
   unfolding numbers
   numbers-turn n = rw (drop-cons l k 0 h, ne-eqb (getD l k 0) 0 n)
 
 -- ---- an entry, by its task's words
 
+-- what the code tests of an entry that is a task in use
+abbrev fits : List ℕ → ℕ → ℕ → ℕ → ℕ → ℕ → Bool
+fits t a d owner p e =
+    eqb (getD t (e * 8 + 3) 0) a && (eqb (getD t (e * 8 + 5) 0) d && (leb p (getD t (e * 8 + 2) 0) && not (eqb e owner)))
+
 module _ (t : List ℕ) (e : ℕ) (n : e ≡ 0 → ⊥) (u : e ≤ getD t 1 0) where
   known : task (read one t) (pred e) ≡ taskAt one t (pred e)
   known = read-task one t (pred e) (omega arith)
 
-  pub entry-priority : task (read one t) (pred e) .priority ≡ getD t (e * 8 + 2) 0
+  entry-priority : task (read one t) (pred e) .priority ≡ getD t (e * 8 + 2) 0
   unfolding taskAt
   entry-priority = let q : 8 + pred e * 8 + 2 ≡ e * 8 + 2 = omega arith in ap (λ (x : Task). x .priority) known ∙ ap (λ (k : ℕ). getD t k 0) q
 
-  pub entry-hub : task (read one t) (pred e) .hub ≡ getD t (e * 8 + 3) 0
+  entry-hub : task (read one t) (pred e) .hub ≡ getD t (e * 8 + 3) 0
   unfolding taskAt
   entry-hub = let q : 8 + pred e * 8 + 3 ≡ e * 8 + 3 = omega arith in ap (λ (x : Task). x .hub) known ∙ ap (λ (k : ℕ). getD t k 0) q
 
@@ -57,7 +64,7 @@ module _ (t : List ℕ) (e : ℕ) (n : e ≡ 0 → ⊥) (u : e ≤ getD t 1 0) w
   unfolding taskAt
   entry-side = let q : 8 + pred e * 8 + 5 ≡ e * 8 + 5 = omega arith in ap (λ (x : Task). x .side) known ∙ ap (λ (k : ℕ). getD t k 0) q
 
-  pub meets-words : (a d owner p : ℕ) → meets (read one t) a d owner p e ≡ (eqb (getD t (e * 8 + 3) 0) a && (eqb (getD t (e * 8 + 5) 0) d && (leb p (getD t (e * 8 + 2) 0) && not (eqb e owner))))
+  pub meets-words : (a d owner p : ℕ) → meets (read one t) a d owner p e ≡ fits t a d owner p e
   unfolding meets
   meets-words a d owner p = rw (read-tasks one t, le-leb e (getD t 1 0) u, entry-hub, entry-side, entry-priority)
 
@@ -73,22 +80,38 @@ hub-kind t n z u =
     let q : 136 + pred n * 4 + 0 ≡ 132 + n * 4 = omega arith in
     ap (λ (x : Hub). x .kind) (read-hub one t (pred n) (omega arith)) ∙ ap (λ (k : ℕ). getD t k 0) q
 
-module _ (t : List ℕ) (i mark : ℕ) (u : i < getD t 1 0) where
-  state-word : taskAt one t i .state ≡ getD t (8 + i * 8) 0
-  unfolding taskAt
-  state-word = rw add-zero
+-- the words of task i, as the code lends them, hold its record
+pub record-task : (t : List ℕ) (i mark : ℕ) → i < getD t 1 0 → recordRight (read one t) (recordOf (take (8 + i * 8 + 8 - (8 + i * 8)) (drop (8 + i * 8) t))) mark ≡ taskRight (read one t) i mark
+unfolding taskAt taskRight
+record-task t i mark u = rw (read-task one t i u, so-many (8 + i * 8) 8 t) (ap (λ (x : Task). recordRight (read one t) x mark) same)
+  where
+    word : (k : ℕ) → k < 8 → getD (take 8 (drop (8 + i * 8) t)) k 0 ≡ getD t (8 + i * 8 + k) 0
+    word k h = getD-take 8 (drop (8 + i * 8) t) k 0 h ∙ getD-drop (8 + i * 8) t k 0
 
-  pub task-range : fieldsRight (taskAt one t i) ≡ false → taskRight (read one t) i mark ≡ false
-  unfolding taskRight
-  task-range e = rw (read-task one t i u, e)
+    same : recordOf (take 8 (drop (8 + i * 8) t)) ≡ taskAt one t i
+    same = λ j. record {
+      state = word 0 (omega arith) j;
+      suspended = word 1 (omega arith) j;
+      priority = word 2 (omega arith) j;
+      hub = word 3 (omega arith) j;
+      ticks = word 4 (omega arith) j;
+      side = word 5 (omega arith) j;
+      word = word 6 (omega arith) j;
+      answer = word 7 (omega arith) j;
+    }
 
-  pub task-stage : fieldsRight (taskAt one t i) ≡ true → (n : ℕ) → getD t (8 + i * 8) 0 ≡ n → taskRight (read one t) i mark ≡ (stageRight (stageOf n) (read one t) (taskAt one t i) && eqb mark (listed n))
-  unfolding taskRight
-  task-stage e n q = rw (read-task one t i u, e, state-word ∙ q)
+module _ (s : State) (x : Task) (mark : ℕ) where
+  pub record-range : fieldsRight x ≡ false → recordRight s x mark ≡ false
+  unfolding recordRight
+  record-range e = rw e
+
+  pub record-stage : fieldsRight x ≡ true → (n : ℕ) → x .state ≡ n → recordRight s x mark ≡ (stageRight (stageOf n) s x && eqb mark (listed n))
+  unfolding recordRight
+  record-stage e n q = rw (e, q)
 
 -- ---- the marks
 
-pub mark-step : (m : List ℕ) (i j : ℕ) → i < length m → getD (set m i (getD m i 0 + 1)) j 0 ≡ getD m j 0 + bit (eqb i j)
+mark-step : (m : List ℕ) (i j : ℕ) → i < length m → getD (set m i (getD m i 0 + 1)) j 0 ≡ getD m j 0 + bit (eqb i j)
 mark-step m i j h =
     boolCase (eqb i j)
     (λ b. rw (b, ← eqb-true i j b) (getD-set-same m i (getD m i 0 + 1) 0 h))
@@ -99,7 +122,13 @@ unfolding occ
 occ-le j [] = zero-le
 occ-le j (x ∷ xs) = boolCase (eqb x j) (λ b. rw b (omega (arith, occ-le j xs))) (λ b. rw b (omega (arith, occ-le j xs)))
 
--- ---- a walk of a list of 16 words at place k, where the last priority was p and the marks m
+-- ---- a walk of a list of 16 words
+
+-- what it gives back
+abbrev Walked : List ℕ → List ℕ → ℕ → ℕ → ℕ → List ℕ → Bool → List ℕ → Type 0
+Walked t l a d owner m₀ r m = Marked r (walks (read one t) a d owner 0 l) (λ j. occ j (numbers l)) m₀ m
+
+-- at place k, where the last priority was p and the marks are m
 
 pub record Walking (t l : List ℕ) (a d owner : ℕ) (m₀ m : List ℕ) (p k : ℕ) : Type 0 where
   pub inside : k ≤ 16
@@ -115,14 +144,14 @@ module _ (t l : List ℕ) (a d owner : ℕ) (m₀ : List ℕ) where
     pub walking-low : {b : ℕ} → Marks b m₀ → (j : ℕ) → getD m j 0 ≤ b + 16
     walking-low ok j = omega (arith, w .met j, ok .low j, occ-le j (numbers l), length-numbers l)
 
-    refused : walks (read one t) a d owner p (drop k l) ≡ false → Marked false (walks (read one t) a d owner 0 l) (λ j. occ j (numbers l)) m₀ m
+    refused : walks (read one t) a d owner p (drop k l) ≡ false → Walked t l a d owner m₀ false m
     refused e = record { right = sym (w .rest ∙ e); long = w .long; marks = λ f. absurd (false≢true f) }
 
-    accepted : (r : Bool) → r ≡ walks (read one t) a d owner p (drop k l) → numbers (drop k l) ≡ [] → Marked r (walks (read one t) a d owner 0 l) (λ j. occ j (numbers l)) m₀ m
+    accepted : (r : Bool) → r ≡ walks (read one t) a d owner p (drop k l) → numbers (drop k l) ≡ [] → Walked t l a d owner m₀ r m
     unfolding occ
     accepted r e z = record { right = e ∙ sym (w .rest); long = w .long; marks = λ f j. sym (add-zero (getD m j 0)) ∙ rw z at (w .met j) }
 
-    pub walking-full : 16 ≤ k → Marked true (walks (read one t) a d owner 0 l) (λ j. occ j (numbers l)) m₀ m
+    pub walking-full : 16 ≤ k → Walked t l a d owner m₀ true m
     unfolding numbers walks
     walking-full h =
         let z : drop k l ≡ [] = drop-of-length-le l {i = k} (omega arith) in accepted true (rw z) (rw z)
@@ -131,34 +160,32 @@ module _ (t l : List ℕ) (a d owner : ℕ) (m₀ : List ℕ) where
       inner : k < length l
       inner = omega arith
 
-      pub walking-end : getD l k 0 ≡ 0 → (r : Bool) → r ≡ allZero (take (length l - k) (drop k l)) → Marked r (walks (read one t) a d owner 0 l) (λ j. occ j (numbers l)) m₀ m
+      pub walking-end : getD l k 0 ≡ 0 → (r : Bool) → r ≡ allZero (take (length l - k) (drop k l)) → Walked t l a d owner m₀ r m
       walking-end e r q =
           accepted r (q ∙ ap allZero (to-end k l) ∙ sym (walks-end l k inner (read one t) a d owner p e)) (numbers-end l k inner e)
 
       module _ (some : getD l k 0 ≡ 0 → ⊥) where
-        pub walking-far : getD t 1 0 < getD l k 0 → Marked false (walks (read one t) a d owner 0 l) (λ j. occ j (numbers l)) m₀ m
-        walking-far f =
-            refused (walks-turn l k inner (read one t) a d owner p some ∙ rw (meets-far t a d owner p (getD l k 0) f))
+        turned : walks (read one t) a d owner p (drop k l) ≡ (meets (read one t) a d owner p (getD l k 0) && walks (read one t) a d owner (task (read one t) (pred (getD l k 0)) .priority) (drop (suc k) l))
+        turned = walks-turn l k inner (read one t) a d owner p some
 
-        module _ (u : getD l k 0 ≤ getD t 1 0) where
-          turned : walks (read one t) a d owner p (drop k l) ≡ ((eqb (getD t (getD l k 0 * 8 + 3) 0) a && (eqb (getD t (getD l k 0 * 8 + 5) 0) d && (leb p (getD t (getD l k 0 * 8 + 2) 0) && not (eqb (getD l k 0) owner)))) && walks (read one t) a d owner (getD t (getD l k 0 * 8 + 2) 0) (drop (suc k) l))
-          turned =
-              walks-turn l k inner (read one t) a d owner p some
-              ∙ rw (meets-words t (getD l k 0) some u a d owner p, entry-priority t (getD l k 0) some u)
+        pub walking-miss : meets (read one t) a d owner p (getD l k 0) ≡ false → Walked t l a d owner m₀ false m
+        walking-miss e = refused (turned ∙ rw e)
 
-          pub walking-miss : (eqb (getD t (getD l k 0 * 8 + 3) 0) a && (eqb (getD t (getD l k 0 * 8 + 5) 0) d && (leb p (getD t (getD l k 0 * 8 + 2) 0) && not (eqb (getD l k 0) owner)))) ≡ false → Marked false (walks (read one t) a d owner 0 l) (λ j. occ j (numbers l)) m₀ m
-          walking-miss e = refused (turned ∙ rw e)
+        module _ (e : meets (read one t) a d owner p (getD l k 0) ≡ true) where
+          pub walking-used : getD l k 0 ≤ getD t 1 0
+          unfolding meets
+          walking-used = rw (read-tasks one t) at (leb-true (getD l k 0) _ (and-l _ _ e))
 
-          pub walking-hit : length m₀ ≡ 16 → getD t 1 0 ≤ 16 → (eqb (getD t (getD l k 0 * 8 + 3) 0) a && (eqb (getD t (getD l k 0 * 8 + 5) 0) d && (leb p (getD t (getD l k 0 * 8 + 2) 0) && not (eqb (getD l k 0) owner)))) ≡ true → Walking t l a d owner m₀ (set m (getD l k 0 - 1) (getD m (getD l k 0 - 1) 0 + 1)) (getD t (getD l k 0 * 8 + 2) 0) (k + 1)
+          pub walking-hit : length m₀ ≡ 16 → getD t 1 0 ≤ 16 → Walking t l a d owner m₀ (set m (getD l k 0 - 1) (getD m (getD l k 0 - 1) 0 + 1)) (getD t (getD l k 0 * 8 + 2) 0) (k + 1)
           unfolding occ
-          walking-hit all few e = record {
+          walking-hit all few = record {
             inside = omega arith;
             long = length-set m (getD l k 0 - 1) (getD m (getD l k 0 - 1) 0 + 1) ∙ w .long;
-            rest = rw add-one (w .rest ∙ turned ∙ rw e);
+            rest = rw add-one (w .rest ∙ turned ∙ rw (e, entry-priority t (getD l k 0) some walking-used));
             met = λ j.
                 let q : getD l k 0 - 1 ≡ pred (getD l k 0) = omega arith in
                 let x = rw (numbers-turn l k inner some) at (w .met j) in
-                rw (q, mark-step m (pred (getD l k 0)) j (omega (arith, w .long)), add-one k) (omega (arith, x));
+                rw (q, mark-step m (pred (getD l k 0)) j (omega (arith, w .long, walking-used)), add-one k) (omega (arith, x));
           }
 
 -- ---- a test of every number below n, from 0 up

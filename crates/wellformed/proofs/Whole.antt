@@ -7,20 +7,20 @@ use Rattle.rules.proofs.Cases.{and-l, and-r}
 use Rattle.rules.proofs.Reading.{Written, read-fits, read-hub, read-hubs, read-tasks, written-says}
 use Rattle.rules.proofs.Standing.{listed-ready, listed-waiting, listed-waits}
 use Rattle.rules.proofs.Tests.{t-all, t-each, t-is, t-kind, t-may, t-oneSide, t-records, t-sorted, t-task, tested}
-use Rattle.rules.proofs.Valid.{Records, Valid}
+use Rattle.rules.proofs.Valid.{Valid}
 use Rattle.rules.specs.Table.{Hub, State, Task, hub, hubAt, hubWordAt, inactive, kindOf, one, part, read, sideOf, stageOf, storePart, task, waitPart}
 use Rattle.rules.specs.WellFormed.{contentsRight, fieldsRight, forAll, hubsRight, inOrder, kindRight, listsExact, listsPacked, mayWait, stageRight, storeRight, storesRight, tasksRight, unusedZero, urgency, valid, waitersRight, wellFormed, written}
 use Rattle.wellformed.proofs.Hubs.{wait-words}
 use Rattle.wellformed.proofs.Marks.{Placed, exact-marks, marks-exact, ready-shape}
 use Rattle.wellformed.proofs.Queues.{Entry, Line, Queue, first-in, first-none, low-zero, may-wait, queue-holds, queue-says, walks-holds, walks-says}
 use Rattle.wellformed.proofs.Turns.{occ-le}
-use Rattle.wellformed.specs.Walks.{Marked, Marks, Used, hubRight, listed, may, metAt, ownerOf, queueRight, taskRight, walks}
+use Rattle.wellformed.specs.Walks.{Marked, Marks, Used, hubRight, kindTest, listed, may, metAt, ownerOf, queueTest, recordRight, storeTest, taskRight, walks}
 use borrow.Author.Tests.{eq-eqb, eqb-false, eqb-true, leb-true, ltb-false, ltb-true, ne-eqb, not-true}
 use lib.Dec.{eqb, leb, ltb}
 use lib.ListN.{List·getD-eq-default, getD, length, replicate}
 use mathlib.Core.Bool.{Bool, _&&_, false, false≢true, not, true}
 use mathlib.Core.List.{List}
-use mathlib.Core.Path.{_∙_, _≡_, ap, refl, subst, sym}
+use mathlib.Core.Path.{_∙_, _≡_, ap, refl, sym}
 use native.Mathlib.Omega.{arith}
 
 -- how often task i is met in all lists
@@ -66,19 +66,16 @@ module _ (t : List ℕ) (p : Passed t) where
     right = each-at (getD t 2 0) (hubRight t) (p .hubs) h u
 
     kind-passed : kindRight (kindOf (hub s h .kind)) (length (s .tasks)) (hub s h) ≡ true
-    unfolding hubRight
-    kind-passed = rw (read-tasks one t) (and-l _ _ right)
+    unfolding hubRight kindTest
+    kind-passed = rw (read-tasks one t) (and-l (kindTest t h) _ right)
 
     store-passed : storeRight one (kindOf (hubWordAt one t h 0)) (hubWordAt one t h 1) (storePart one t h) ≡ true
-    unfolding hubAt hubRight
-    store-passed =
-        let e : storeRight one (kindOf (hub s h .kind)) (hub s h .count) (storePart one t h) ≡ true = and-l _ _ (and-r (kindRight (kindOf (hub s h .kind)) (getD t 1 0) (hub s h)) _ right) in
-        rw (read-hub one t h u) at e
+    unfolding hubAt hubRight storeTest
+    store-passed = rw (read-hub one t h u) at (and-l (storeTest t h) _ (and-r (kindTest t h) _ right))
 
     line : Line s h (hub s h) (waitPart one t h)
-    unfolding hubRight
-    line =
-        queue-says s h (hub s h) (waitPart one t h) (and-r (storeRight one (kindOf (hub s h .kind)) (hub s h .count) (storePart one t h)) _ (and-r (kindRight (kindOf (hub s h .kind)) (getD t 1 0) (hub s h)) _ right))
+    unfolding hubRight queueTest
+    line = queue-says s h (hub s h) (waitPart one t h) (and-r (storeTest t h) _ (and-r (kindTest t h) _ right))
 
     waits : (i : ℕ) → 1 ≤ occ i (hub s h .waiters) → 1 ≤ occ i (numbers (waitPart one t h))
     waits i o = rw (wait-words t h u) at o
@@ -93,7 +90,7 @@ module _ (t : List ℕ) (p : Passed t) where
   task-passed i u = each-at (getD t 1 0) (λ i. taskRight s i (markOf t i)) (p .tasks) i u
 
   tasks-passed : tasksRight s ≡ true
-  unfolding taskRight tasksRight
+  unfolding recordRight taskRight tasksRight
   tasks-passed =
       each-so (length (s .tasks)) _
       (λ i u. let e = task-passed i (rw (read-tasks one t) at u) in
@@ -107,7 +104,7 @@ module _ (t : List ℕ) (p : Passed t) where
   }
 
   lists-passed : listsExact s ≡ true
-  unfolding taskRight
+  unfolding recordRight taskRight
   lists-passed =
       marks-exact s (t-records s .yes tasks-passed) placed
       (λ i u. rw (read-hubs one t) (eqb-true _ _ (and-r (stageRight (stageOf (task s i .state)) s (task s i)) _ (and-r (fieldsRight (task s i)) _ (task-passed i (rw (read-tasks one t) at u))))))
@@ -236,12 +233,12 @@ module _ (t : List ℕ) (e : wellFormed t ≡ true) where
     }
 
     hub-pass : hubRight t h ≡ true
-    unfolding hubRight
+    unfolding hubRight kindTest queueTest storeTest
     hub-pass =
         rw (rw (read-tasks one t) at kind-pass, store-pass) (queue-holds (read one t) h x (waitPart one t h) line-pass)
 
   task-pass : (i : ℕ) → taskRight (read one t) i (markOf t i) ≡ true
-  unfolding taskRight
+  unfolding recordRight taskRight
   task-pass i =
       let q = t-task (read one t) (task (read one t) i) .conv (state .records .each i) in
       let m : markOf t i ≡ listed (task (read one t) i .state) = rw (read-hubs one t) at (exact-marks (read one t) (state .records) (state .listed) i) in

@@ -2,7 +2,7 @@
 -- mark. In the code's order. Not here: that together they are `wellFormed` (proofs/).
 use Prim.Native.Nat.{_+_, _≤_, pred, suc, zero, ℕ}
 use Rattle.lists.specs.Lists.{allZero, bit, occ}
-use Rattle.rules.specs.Table.{Hub, State, hub, kindOf, one, read, stageOf, storePart, task, waitPart}
+use Rattle.rules.specs.Table.{Hub, State, Task, hub, kindOf, one, read, stageOf, storePart, task, taskFrom1, waitPart}
 use Rattle.rules.specs.WellFormed.{fieldsRight, kindRight, stageRight, storeRight}
 use lib.Dec.{eqb, leb}
 use lib.ListN.{getD, length}
@@ -62,11 +62,22 @@ queueRight s h x l =
     && (may (task s (pred (getD l 0 0)) .side) (x .kind) (x .count) (x .limit)
     && walks s (suc h) (task s (pred (getD l 0 0)) .side) (ownerOf (x .kind) (x .count)) 0 l))
 
+-- a hub of the table: its record, its store, its list, and all three
+unfoldable pub kindTest : List ℕ → ℕ → Bool
+kindTest t h = kindRight (kindOf (hub (read one t) h .kind)) (getD t 1 0) (hub (read one t) h)
+
+unfoldable pub storeTest : List ℕ → ℕ → Bool
+storeTest t h = storeRight one (kindOf (hub (read one t) h .kind)) (hub (read one t) h .count) (storePart one t h)
+
+unfoldable pub queueTest : List ℕ → ℕ → Bool
+queueTest t h = queueRight (read one t) h (hub (read one t) h) (waitPart one t h)
+
 unfoldable pub hubRight : List ℕ → ℕ → Bool
-hubRight t h =
-    kindRight (kindOf (hub (read one t) h .kind)) (getD t 1 0) (hub (read one t) h)
-    && (storeRight one (kindOf (hub (read one t) h .kind)) (hub (read one t) h .count) (storePart one t h)
-    && queueRight (read one t) h (hub (read one t) h) (waitPart one t h))
+hubRight t h = kindTest t h && (storeTest t h && queueTest t h)
+
+-- how often task j stands in the list of hub h
+abbrev pub waitsOf : List ℕ → ℕ → ℕ → ℕ
+waitsOf t h j = occ j (hub (read one t) h .waiters)
 
 -- how often task j stands in the lists of the hubs below n
 unfoldable pub metAt : State → ℕ → ℕ → ℕ
@@ -79,7 +90,13 @@ metAt s (suc n) j = metAt s n j + occ j (hub s n .waiters)
 abbrev pub listed : ℕ → ℕ
 listed n = bit (eqb n 2 || eqb n 3)
 
+-- a task's record and its mark
+unfoldable pub recordRight : State → Task → ℕ → Bool
+recordRight s x mark = fieldsRight x && (stageRight (stageOf (x .state)) s x && eqb mark (listed (x .state)))
+
 unfoldable pub taskRight : State → ℕ → ℕ → Bool
-taskRight s i mark =
-    fieldsRight (task s i)
-    && (stageRight (stageOf (task s i .state)) s (task s i) && eqb mark (listed (task s i .state)))
+taskRight s i mark = recordRight s (task s i) mark
+
+-- the record that 8 words hold
+abbrev pub recordOf : List ℕ → Task
+recordOf l = taskFrom1 (λ k. getD l k 0)

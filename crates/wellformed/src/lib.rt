@@ -1,13 +1,53 @@
 // Whether a table of words is well formed: refusals 1 and 2. One pass: contents, what is unused, the ready list, each hub
 // with its store and its list, and the task records last. A walk of a list marks the tasks that it meets, and the records
 // say which of them must have been met once.
-ghost use Prim.Native.Nat.{_<_, _≤_, ℕ};
+ghost use Prim.Native.Nat.{_<_, _≤_};
 ghost use Rattle.lists.specs.Lists.{numbers, occ};
-ghost use Rattle.rules.specs.Table.{Hub, Task, Waiting, hub, kindOf, one, read};
-ghost use Rattle.rules.specs.WellFormed.{contentsRight, forAll, kindRight, stageRight, storeRight, unusedZero, wellFormed};
-ghost use Rattle.wellformed.specs.Walks.{Marked, Marks, Used, hubRight, may, metAt, ownerOf, queueRight, taskRight, walks};
+ghost use Rattle.rules.specs.Table.{Task, Waiting, one, read};
+ghost use Rattle.rules.specs.WellFormed.{contentsRight, forAll, stageRight, unusedZero, wellFormed, zeroFrom};
+ghost use Rattle.wellformed.specs.Walks.{Marked, Marks, Used, hubRight, kindTest, may, meets, metAt, ownerOf, queueTest, recordOf, recordRight, storeTest, taskRight, waitsOf, walks};
+ghost use lib.Dec.{eqb, leb};
 ghost use lib.ListN.{getD, length};
+ghost use mathlib.Core.Bool.{_&&_, _||_, true};
 ghost use mathlib.Core.Path.{_≡_};
+
+// Where each body starts, and how many words there are in all.
+const TASKS_AT: usize = 8;
+
+const HUBS_AT: usize = 136;
+
+const READY_AT: usize = 200;
+
+const WAITS_AT: usize = 216;
+
+const STORES_AT: usize = 472;
+
+const WORDS: usize = 600;
+
+// Kinds of hubs.
+const EVENT: u32 = 1;
+
+const SEMAPHORE: u32 = 2;
+
+const PORT: u32 = 3;
+
+const FIFO: u32 = 4;
+
+const RESOURCE: u32 = 5;
+
+// States of a task.
+const INACTIVE: u32 = 1;
+
+const READY: u32 = 2;
+
+const WAITING: u32 = 3;
+
+const SLEEPING: u32 = 4;
+
+// Sides.
+const PUT: u32 = 1;
+
+const GET: u32 = 2;
 
 // "contents: edition 1, tasks T, hubs H, then where each body starts"
 fn contents_right(t: &[u32]) -> bool
@@ -21,6 +61,14 @@ fn contents_right(t: &[u32]) -> bool
                     & ((t[4] == 136) & ((t[5] == 200) & ((t[6] == 216) & (t[7] == 472)))))))
 }
 
+// Words a to b - 1 are 0.
+fn zero_from(t: &[u32], a: usize, b: usize) -> bool
+    requires { ⌜ (a ≤ b) × (b ≤ length (now t)) ⌝ }
+    ensures { λ r. ⌜ r ≡ zeroFrom a b (now (t .entry)) ⌝ }
+{
+    lists::zeros(&t[a..b])
+}
+
 // "Everything unused is 0"
 fn unused_zero(t: &[u32]) -> bool
     requires { ⌜ Used (now t) ⌝ }
@@ -28,13 +76,26 @@ fn unused_zero(t: &[u32]) -> bool
 {
     let n = t[1] as usize;
     let m = t[2] as usize;
-    lists::zeros(&t[8 + n * 8..136])
-        & (lists::zeros(&t[136 + m * 4..200])
-            & (lists::zeros(&t[216 + m * 16..472]) & lists::zeros(&t[472 + m * 8..600])))
+    zero_from(t, TASKS_AT + n * 8, HUBS_AT)
+        & (zero_from(t, HUBS_AT + m * 4, READY_AT)
+            & (zero_from(t, WAITS_AT + m * 16, STORES_AT) & zero_from(t, STORES_AT + m * 8, WORDS)))
 }
 
-// A list in one walk: entries of tasks at this hub and on this side, by rising priority number, the owner not among them,
-// then zeros. A task whose record names another hub, or none, is refused here; one in the wrong state by its record.
+// Entry e of a list: a task in use, at this hub and on this side, not more urgent than the entry before it, and not the
+// owner. A task whose record names another hub, or none, is refused here; one in the wrong state by its record.
+fn entry_right(t: &[u32], e: u32, hub: u32, side: u32, owner: u32, last: u32) -> bool
+    requires { ⌜ Used (now t) ⌝ }
+    requires { ⌜ 0 < e ⌝ }
+    ensures { λ r. ⌜ r ≡ meets (read one (now (t .entry))) hub side owner last e ⌝ }
+{
+    if e > t[1] {
+        return false;
+    }
+    let b = (e as usize) * 8;
+    (t[b + 3] == hub) & ((t[b + 5] == side) & ((last <= t[b + 2]) & (e != owner)))
+}
+
+// A list in one walk: entries by rising priority number, then zeros, each entry's task marked.
 fn walk(t: &[u32], list: &[u32], hub: u32, side: u32, owner: u32, marks: &mut [u32; 16]) -> bool
     requires { ⌜ Used (now t) ⌝ }
     requires { ⌜ length (now list) ≡ 16 ⌝ }
@@ -49,44 +110,50 @@ fn walk(t: &[u32], list: &[u32], hub: u32, side: u32, owner: u32, marks: &mut [u
         if e == 0 {
             return lists::zeros(&list[k..]);
         }
-        if e > t[1] {
+        if !entry_right(t, e, hub, side, owner, last) {
             return false;
         }
         let i = e as usize;
-        let p = t[i * 8 + 2];
-        if !((t[i * 8 + 3] == hub) & ((t[i * 8 + 5] == side) & ((last <= p) & (e != owner)))) {
-            return false;
-        }
         marks[i - 1] = marks[i - 1] + 1;
-        last = p;
+        last = t[i * 8 + 2];
         k += 1;
     }
     true
 }
 
-// The kinds table: count, limit and start of a hub.
-fn kind_right(kind: u32, count: u32, limit: u32, start: u32, tasks: u32) -> bool
-    ensures { λ r. ⌜ ((h : Hub) → h .count ≡ count → h .limit ≡ limit → h .start ≡ start
-        → r ≡ kindRight (kindOf kind) tasks h) ⌝ }
+// The kinds table: count, limit and start of hub h.
+fn kind_right(t: &[u32], h: usize) -> bool
+    requires { ⌜ Used (now t) ⌝ }
+    requires { ⌜ h < getD (now t) 2 0 ⌝ }
+    ensures { λ r. ⌜ r ≡ kindTest (now (t .entry)) h ⌝ }
 {
-    match kind {
-        1 => (count <= 1) & ((limit == 1) & (start == 0)),
-        2 => (count <= limit) & (((1 <= limit) & (limit <= 65535)) & (start <= limit)),
-        3 => (count == 0) & ((limit == 0) & (start == 0)),
-        4 => (count <= limit) & (((1 <= limit) & (limit <= 8)) & (start == 0)),
-        5 => (count <= tasks) & ((limit == 1) & (start == 0)),
+    let b = HUBS_AT + h * 4;
+    let count = t[b + 1];
+    let limit = t[b + 2];
+    let start = t[b + 3];
+    match t[b] {
+        EVENT => (count <= 1) & ((limit == 1) & (start == 0)),
+        SEMAPHORE => (count <= limit) & (((1 <= limit) & (limit <= 65535)) & (start <= limit)),
+        PORT => (count == 0) & ((limit == 0) & (start == 0)),
+        FIFO => (count <= limit) & (((1 <= limit) & (limit <= 8)) & (start == 0)),
+        RESOURCE => (count <= t[1]) & ((limit == 1) & (start == 0)),
         _ => false,
     }
 }
 
 // "A FIFO's store holds its words, oldest first, then zeros. Other stores are 0."
-fn store_right(kind: u32, count: u32, store: &[u32]) -> bool
-    requires { ⌜ length (now store) ≡ 8 ⌝ }
-    requires { ⌜ (kind ≡ 4 → count ≤ 8) ⌝ }
-    ensures { λ r. ⌜ r ≡ storeRight one (kindOf kind) count (now (store .entry)) ⌝ }
+fn store_right(t: &[u32], h: usize) -> bool
+    requires { ⌜ Used (now t) ⌝ }
+    requires { ⌜ h < getD (now t) 2 0 ⌝ }
+    requires { ⌜ kindTest (now t) h ≡ true ⌝ }
+    ensures { λ r. ⌜ r ≡ storeTest (now (t .entry)) h ⌝ }
 {
-    if kind == 4 {
-        lists::zeros(&store[count as usize..])
+    let at = STORES_AT + h * 8;
+    let store = &t[at..at + 8];
+    let b = HUBS_AT + h * 4;
+    if t[b] == FIFO {
+        let n = t[b + 1] as usize;
+        lists::zeros(&store[n..])
     } else {
         lists::zeros(store)
     }
@@ -96,26 +163,27 @@ fn store_right(kind: u32, count: u32, store: &[u32]) -> bool
 fn may_wait(side: u32, kind: u32, count: u32, limit: u32) -> bool
     ensures { λ r. ⌜ r ≡ may side kind count limit ⌝ }
 {
-    ((side == 1) & ((kind != 5) & (count == limit)))
-        | ((side == 2) & (((kind == 5) & (count != 0)) | ((kind != 5) & (count == 0))))
+    ((side == PUT) & ((kind != RESOURCE) & (count == limit)))
+        | ((side == GET)
+            & (((kind == RESOURCE) & (count != 0)) | ((kind != RESOURCE) & (count == 0))))
 }
 
 // The entry that may not stand in a hub's list.
 fn owner_of(kind: u32, count: u32) -> u32
     ensures { λ r. ⌜ r ≡ ownerOf kind count ⌝ }
 {
-    if kind == 5 { count } else { 0 }
+    if kind == RESOURCE { count } else { 0 }
 }
 
 // Hub h's list: the first entry's side may wait, and no entry is on the other.
-fn queue_right(t: &[u32], list: &[u32], h: usize, marks: &mut [u32; 16]) -> bool
+fn queue_right(t: &[u32], h: usize, marks: &mut [u32; 16]) -> bool
     requires { ⌜ Used (now t) ⌝ }
     requires { ⌜ h < getD (now t) 2 0 ⌝ }
-    requires { ⌜ length (now list) ≡ 16 ⌝ }
     requires { ⌜ Marks 256 (now marks) ⌝ }
-    ensures { λ r. ⌜ Marked r (queueRight (read one (now (t .entry))) h (hub (read one (now (t .entry))) h) (now (list .entry)))
-        (λ j. occ j (numbers (now (list .entry)))) (now (marks .entry)) (now (marks .exit)) ⌝ }
+    ensures { λ r. ⌜ Marked r (queueTest (now (t .entry)) h) (waitsOf (now (t .entry)) h) (now (marks .entry)) (now (marks .exit)) ⌝ }
 {
+    let at = WAITS_AT + h * 16;
+    let list = &t[at..at + 16];
     let e = list[0];
     if e == 0 {
         return lists::zeros(list);
@@ -124,9 +192,10 @@ fn queue_right(t: &[u32], list: &[u32], h: usize, marks: &mut [u32; 16]) -> bool
         return false;
     }
     let side = t[(e as usize) * 8 + 5];
-    let kind = t[136 + h * 4];
-    let count = t[136 + h * 4 + 1];
-    if !may_wait(side, kind, count, t[136 + h * 4 + 2]) {
+    let b = HUBS_AT + h * 4;
+    let kind = t[b];
+    let count = t[b + 1];
+    if !may_wait(side, kind, count, t[b + 2]) {
         return false;
     }
     walk(t, list, (h + 1) as u32, side, owner_of(kind, count), marks)
@@ -137,20 +206,18 @@ fn hub_right(t: &[u32], h: usize, marks: &mut [u32; 16]) -> bool
     requires { ⌜ Used (now t) ⌝ }
     requires { ⌜ h < getD (now t) 2 0 ⌝ }
     requires { ⌜ Marks 256 (now marks) ⌝ }
-    ensures { λ r. ⌜ Marked r (hubRight (now (t .entry)) h)
-        (λ j. occ j (hub (read one (now (t .entry))) h .waiters)) (now (marks .entry)) (now (marks .exit)) ⌝ }
+    ensures { λ r. ⌜ Marked r (hubRight (now (t .entry)) h) (waitsOf (now (t .entry)) h) (now (marks .entry)) (now (marks .exit)) ⌝ }
 {
-    let kind = t[136 + h * 4];
-    let count = t[136 + h * 4 + 1];
-    if !kind_right(kind, count, t[136 + h * 4 + 2], t[136 + h * 4 + 3], t[1]) {
+    if !kind_right(t, h) {
         return false;
     }
-    if !store_right(kind, count, &t[472 + h * 8..472 + h * 8 + 8]) {
+    if !store_right(t, h) {
         return false;
     }
-    queue_right(t, &t[216 + h * 16..216 + h * 16 + 16], h, marks)
+    queue_right(t, h, marks)
 }
 
+// All hubs in use.
 fn hubs_right(t: &[u32], marks: &mut [u32; 16]) -> bool
     requires { ⌜ Used (now t) ⌝ }
     requires { ⌜ Marks 16 (now marks) ⌝ }
@@ -168,6 +235,28 @@ fn hubs_right(t: &[u32], marks: &mut [u32; 16]) -> bool
     true
 }
 
+// "Inactive: all but state and priority 0."
+fn inactive_right(suspended: u32, hub: u32, ticks: u32, side: u32, word: u32, answer: u32) -> bool
+    ensures { λ r. ⌜ r ≡ (eqb suspended 0
+        && (eqb hub 0 && (eqb ticks 0 && (eqb side 0 && (eqb word 0 && eqb answer 0))))) ⌝ }
+{
+    (suspended == 0) & ((hub == 0) & ((ticks == 0) & ((side == 0) & ((word == 0) & (answer == 0)))))
+}
+
+// "Ready: hub, ticks and side 0; word 0 unless the answer is 1."
+fn ready_right(hub: u32, ticks: u32, side: u32, word: u32, answer: u32) -> bool
+    ensures { λ r. ⌜ r ≡ (eqb hub 0 && (eqb ticks 0 && (eqb side 0 && (eqb answer 1 || eqb word 0)))) ⌝ }
+{
+    (hub == 0) & ((ticks == 0) & ((side == 0) & ((answer == 1) | (word == 0))))
+}
+
+// "Sleeping: hub, side, word and answer 0, ticks at least 1."
+fn sleeping_right(hub: u32, ticks: u32, side: u32, word: u32, answer: u32) -> bool
+    ensures { λ r. ⌜ r ≡ (eqb hub 0 && (eqb side 0 && (eqb word 0 && (eqb answer 0 && leb 1 ticks)))) ⌝ }
+{
+    (hub == 0) & ((side == 0) & ((word == 0) & ((answer == 0) & (1 <= ticks))))
+}
+
 // "Waiting: hub in use, side 1 or 2, answer 0, word 0 unless it puts to a Port or FIFO."
 fn waiting_right(t: &[u32], hub: u32, side: u32, word: u32, answer: u32) -> bool
     requires { ⌜ Used (now t) ⌝ }
@@ -180,46 +269,37 @@ fn waiting_right(t: &[u32], hub: u32, side: u32, word: u32, answer: u32) -> bool
     if hub > t[2] {
         return false;
     }
+    // a hub's number plus 1 stands in the record, so its words are 4 before those of that number
     let kind = t[132 + (hub as usize) * 4];
     ((1 <= side) & (side <= 2))
-        & ((answer == 0) & (((side == 1) & ((kind == 3) | (kind == 4))) | (word == 0)))
+        & ((answer == 0) & (((side == PUT) & ((kind == PORT) | (kind == FIFO))) | (word == 0)))
 }
 
-// Task i's record, by its state, and its mark: once if it is ready or waits, else not at all.
-fn task_right(t: &[u32], i: usize, mark: u32) -> bool
+// A task's record, by its state, and its mark: once if it is ready or waits, else not at all.
+fn task_right(t: &[u32], x: &[u32], mark: u32) -> bool
     requires { ⌜ Used (now t) ⌝ }
-    requires { ⌜ i < getD (now t) 1 0 ⌝ }
-    ensures { λ r. ⌜ r ≡ taskRight (read one (now (t .entry))) i mark ⌝ }
+    requires { ⌜ length (now x) ≡ 8 ⌝ }
+    ensures { λ r. ⌜ r ≡ recordRight (read one (now (t .entry))) (recordOf (now (x .entry))) mark ⌝ }
 {
-    let b = 8 + i * 8;
-    let suspended = t[b + 1];
-    let hub = t[b + 3];
-    let ticks = t[b + 4];
-    let side = t[b + 5];
-    let word = t[b + 6];
-    let answer = t[b + 7];
-    if !((suspended <= 1) & ((t[b + 2] <= 255) & ((ticks <= 1000000) & (answer <= 3)))) {
+    let suspended = x[1];
+    let hub = x[3];
+    let ticks = x[4];
+    let side = x[5];
+    let word = x[6];
+    let answer = x[7];
+    if !((suspended <= 1) & ((x[2] <= 255) & ((ticks <= 1000000) & (answer <= 3)))) {
         return false;
     }
-    match t[b] {
-        1 => {
-            ((suspended == 0)
-                & ((hub == 0) & ((ticks == 0) & ((side == 0) & ((word == 0) & (answer == 0))))))
-                & (mark == 0)
-        }
-        2 => {
-            ((hub == 0) & ((ticks == 0) & ((side == 0) & ((answer == 1) | (word == 0)))))
-                & (mark == 1)
-        }
-        3 => waiting_right(t, hub, side, word, answer) & (mark == 1),
-        4 => {
-            ((hub == 0) & ((side == 0) & ((word == 0) & ((answer == 0) & (1 <= ticks)))))
-                & (mark == 0)
-        }
+    match x[0] {
+        INACTIVE => inactive_right(suspended, hub, ticks, side, word, answer) & (mark == 0),
+        READY => ready_right(hub, ticks, side, word, answer) & (mark == 1),
+        WAITING => waiting_right(t, hub, side, word, answer) & (mark == 1),
+        SLEEPING => sleeping_right(hub, ticks, side, word, answer) & (mark == 0),
         _ => false,
     }
 }
 
+// All tasks in use, each with its mark.
 fn tasks_right(t: &[u32], marks: &[u32; 16]) -> bool
     requires { ⌜ Used (now t) ⌝ }
     ensures { λ r. ⌜ r ≡ forAll (getD (now (t .entry)) 1 0) (λ i. taskRight (read one (now (t .entry))) i (getD (now (marks .entry)) i 0)) ⌝ }
@@ -227,7 +307,8 @@ fn tasks_right(t: &[u32], marks: &[u32; 16]) -> bool
     let n = t[1] as usize;
     let mut i = 0;
     while i < n {
-        if !task_right(t, i, marks[i]) {
+        let b = TASKS_AT + i * 8;
+        if !task_right(t, &t[b..b + 8], marks[i]) {
             return false;
         }
         i += 1;
@@ -239,7 +320,7 @@ fn tasks_right(t: &[u32], marks: &[u32; 16]) -> bool
 pub fn well_formed(t: &[u32]) -> bool
     ensures { λ r. ⌜ r ≡ wellFormed (now (t .entry)) ⌝ }
 {
-    if t.len() != 600 {
+    if t.len() != WORDS {
         return false;
     }
     if !contents_right(t) {
@@ -249,7 +330,7 @@ pub fn well_formed(t: &[u32]) -> bool
         return false;
     }
     let mut marks = [0u32; 16];
-    if !walk(t, &t[200..216], 0, 0, 0, &mut marks) {
+    if !walk(t, &t[READY_AT..WAITS_AT], 0, 0, 0, &mut marks) {
         return false;
     }
     if !hubs_right(t, &mut marks) {

@@ -49,7 +49,7 @@ returns c = λ s room e.
     let added = c .before .before .before .before .before .before .before .before .before .before .before .before .before .add-task .ensures s room e in
     let key = key-is (c .before .before .before .before .before .before .before .before .before .keys .result) (urgency s′) (c .before .before .before .before .before .before .before .before .before .keys .ensures s′ fits added) in
     let made = c .before .before .before .before .before .before .before .make-ready .ensures s′ fits used added in
-    c .before .before .join-ready .ensures one _ one-sized refl made
+    c .before .before .join-ready .ensures .table one _ one-sized refl made
     ∙ rw (key, many) refl
 
 pub add-started-spec : {M : Type 1} → statement M

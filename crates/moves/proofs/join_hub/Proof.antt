@@ -1,6 +1,6 @@
-use Prim.Native.Nat.{_*_, _+_, _-_, ℕ}
+use Prim.Native.Nat.{_*_, _+_, _-_, _<_, ℕ}
 use Rattle.moves.proofs.Laws as Laws
-use mathlib.Core.Path.{_≡_}
+use mathlib.Core.Path.{_∙_, _≡_}
 use native.Mathlib.Omega.{arith}
 use borrow.Author.Needs.{needs}
 use Rattle.moves.proofs.join_hub.Statement.{statement}
@@ -43,11 +43,16 @@ same-length : tie.Need-same-length
 same-length c = search needs
 
 returns : tie.Need-returns
-returns c = λ L s z size used e.
+returns c =
     let a = c .before .before .before .before .before .before .args in
     let n : ℕ = 8 + 16 * a .ts + 80 + a .h .0 * 16 + 16 - (8 + 16 * a .ts + 80 + a .h .0 * 16) in
     let many : n ≡ 16 = omega arith in
-    Laws.join-hub L s z (a .t .now) _ (a .ts) n size many e (a .h .0) (omega arith) used (a .keys .now) (a .i .0) (c .before .before .join .ensures .list)
+    let low : a .h .0 < 16 = omega arith in
+    let joined = c .before .before .join .ensures in
+    record {
+      table = λ L s z size used e. Laws.join-hub L s z (a .t .now) _ (a .ts) n size many e (a .h .0) low used (a .keys .now) (a .i .0) (joined .list);
+      place = λ L s z size used fits e. joined .place ∙ Laws.place-hub L s z (a .t .now) (a .t .now) (a .ts) n size many e (a .h .0) low used (a .keys .now) _ fits;
+    }
 
 pub join-hub-spec : {M : Type 1} → statement M
 join-hub-spec =

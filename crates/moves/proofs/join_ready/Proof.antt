@@ -1,6 +1,6 @@
 use Prim.Native.Nat.{_*_, _+_, _-_, ℕ}
 use Rattle.moves.proofs.Laws as Laws
-use mathlib.Core.Path.{_≡_}
+use mathlib.Core.Path.{_∙_, _≡_}
 use native.Mathlib.Omega.{arith}
 use borrow.Author.Needs.{needs}
 use Rattle.moves.proofs.join_ready.Statement.{statement}
@@ -37,11 +37,15 @@ same-length : tie.Need-same-length
 same-length c = search needs
 
 returns : tie.Need-returns
-returns c = λ L s z size e.
+returns c =
     let a = c .before .before .before .before .before .before .args in
     let n : ℕ = 8 + 16 * a .ts + 64 + 16 - (8 + 16 * a .ts + 64) in
     let many : n ≡ 16 = omega arith in
-    Laws.join-ready L s z (a .t .now) _ (a .ts) n size many e (a .keys .now) (a .i .0) (c .before .before .join .ensures .list)
+    let joined = c .before .before .join .ensures in
+    record {
+      table = λ L s z size e. Laws.join-ready L s z (a .t .now) _ (a .ts) n size many e (a .keys .now) (a .i .0) (joined .list);
+      place = λ L s z size fits e. joined .place ∙ Laws.place-ready L s z (a .t .now) (a .t .now) (a .ts) n size many e (a .keys .now) _ fits;
+    }
 
 pub join-ready-spec : {M : Type 1} → statement M
 join-ready-spec =

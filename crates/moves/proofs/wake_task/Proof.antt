@@ -24,7 +24,7 @@ returns c = λ s sound used e.
     let i = c .before .before .before .before .before .before .before .before .before .before .before .before .before .before .args .i .0 in
     let left = c .before .before .before .before .before .before .before .before .before .before .leave-list .ensures s sound used e in
     let made = c .before .before .before .before .before .before .make-ready .ensures (leave i s) (sound .tasks) used left in
-    c .before .before .join-ready .ensures one _ one-sized refl made
+    c .before .before .join-ready .ensures .table one _ one-sized refl made
 
 pub wake-task-spec : {M : Type 1} → statement M
 wake-task-spec =

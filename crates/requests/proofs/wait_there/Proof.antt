@@ -40,7 +40,7 @@ returns c = λ s sound caller used e.
     let word = c .before .before .before .before .before .before .before .before .before .before .before .before .kept-word .ensures (hub s (k .target)) k (r .kind) refl refl in
     let left = c .before .before .before .before .before .before .before .before .before .before .leave-list .ensures s sound caller e in
     let made = rw word at (c .before .before .before .before .before .before .make-waiting .ensures (leave (k .caller) s) (sound .tasks) caller left) in
-    c .before .before .join-hub .ensures one _ one-sized refl (rw (length-map (s .hubs) (unqueue (k .caller))) used) made
+    c .before .before .join-hub .ensures .table one _ one-sized refl (rw (length-map (s .hubs) (unqueue (k .caller))) used) made
 
 pub wait-there-spec : {M : Type 1} → statement M
 wait-there-spec =

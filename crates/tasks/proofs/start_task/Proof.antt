@@ -52,7 +52,7 @@ returns-2 c = λ s sound caller target e.
     let a = c .before .before .before .before .before .before .before .before .before .before .before .before .before .before .before .before .before .before .before .args in
     let key = keyOf (a .keys .now) in
     let made = c .before .before .before .before .before .before .before .before .before .before .make-ready .ensures s (sound .tasks) target e in
-    let joined = c .before .before .before .before .before .before .join-ready .ensures one _ one-sized refl made in
+    let joined = c .before .before .before .before .before .before .join-ready .ensures .table one _ one-sized refl made in
     let many = tasks-start key (a .c .target) s in
     c .before .before .give-answer2 .ensures (start key (a .c .target) s) (omega (arith, many, sound .tasks)) (omega (arith, many, caller)) joined
     ∙ ap (words one) (start-grants key s (a .c) (sym state ∙ c .before .before .before .before .before .before .before .before .before .before .before .before .if1 .left))

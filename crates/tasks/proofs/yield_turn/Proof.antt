@@ -28,7 +28,7 @@ returns c = λ s sound caller e.
     let i = c .before .before .before .before .before .before .before .before .before .before .before .before .before .before .before .args .c .caller in
     let left = c .before .before .before .before .before .before .before .before .before .before .leave-list .ensures s sound caller e in
     let said = c .before .before .before .before .before .before .give-answer .ensures (leave i s) (sound .tasks) caller left in
-    c .before .before .join-ready .ensures one _ one-sized refl said
+    c .before .before .join-ready .ensures .table one _ one-sized refl said
 
 pub yield-turn-spec : {M : Type 1} → statement M
 yield-turn-spec =

@@ -1,44 +1,34 @@
+-- `wellformed::contents_right` meets its contract: the test is written as the definition is. Assumes nothing.
 use Rattle.rules.specs.WellFormed.{contentsRight}
-use mathlib.Core.Path.{refl}
-use borrow.Author.Needs.{needs}
 use Rattle.wellformed.proofs.contents_right.Statement.{statement}
 use Rattle.wellformed.proofs.contents_right.Tie as tie
-use Rattle.wellformed.proofs.contents_right.Reads as reads
-use Rattle.wellformed.proofs.contents_right.Lts as lts
+use borrow.Author.Needs.{needs}
+use mathlib.Core.Path.{refl}
 
--- src/lib.rt:17:6
 shared-slice-read-result : tie.Need-shared-slice-read-result
 shared-slice-read-result c = search needs
 
--- src/lib.rt:18:13
 shared-slice-read-result-2 : tie.Need-shared-slice-read-result-2
 shared-slice-read-result-2 c = search needs
 
--- src/lib.rt:19:17
 shared-slice-read-result-3 : tie.Need-shared-slice-read-result-3
 shared-slice-read-result-3 c = search needs
 
--- src/lib.rt:20:21
 shared-slice-read-result-4 : tie.Need-shared-slice-read-result-4
 shared-slice-read-result-4 c = search needs
 
--- src/lib.rt:21:25
 shared-slice-read-result-5 : tie.Need-shared-slice-read-result-5
 shared-slice-read-result-5 c = search needs
 
--- src/lib.rt:21:42
 shared-slice-read-result-6 : tie.Need-shared-slice-read-result-6
 shared-slice-read-result-6 c = search needs
 
--- src/lib.rt:21:59
 shared-slice-read-result-7 : tie.Need-shared-slice-read-result-7
 shared-slice-read-result-7 c = search needs
 
--- src/lib.rt:21:75
 shared-slice-read-result-8 : tie.Need-shared-slice-read-result-8
 shared-slice-read-result-8 c = search needs
 
--- src/lib.rt:13:1
 returns : tie.Need-returns
 unfolding contentsRight
 returns c = refl

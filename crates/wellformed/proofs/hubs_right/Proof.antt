@@ -1,12 +1,11 @@
+-- `wellformed::hubs_right` meets its contract. The loop's invariant is `Passing`: the hubs so far are right, and their lists
+-- are marked. Assumes nothing.
 use Prim.Native.Nat.{_-_}
 use Rattle.wellformed.proofs.Hubs.{Passing, passing-begin, passing-end, passing-low, passing-no, passing-step}
-use borrow.Author.Needs.{needs}
-use borrow.Author.Tests.{not-false, not-true}
 use Rattle.wellformed.proofs.hubs_right.Statement.{statement}
 use Rattle.wellformed.proofs.hubs_right.Tie as tie
-use Rattle.wellformed.proofs.hubs_right.Reads as reads
-use Rattle.wellformed.proofs.hubs_right.Lts as lts
-use Rattle.wellformed.proofs.hub_right.Reads as hub-right-reads
+use borrow.Author.Needs.{needs}
+use borrow.Author.Tests.{not-false, not-true}
 
 abbrev Inv-loop : tie.InvT-loop
 Inv-loop t marks₀ m h₀ marks h = Passing t marks₀ marks h
@@ -14,46 +13,37 @@ Inv-loop t marks₀ m h₀ marks h = Passing t marks₀ marks h
 abbrev μ-loop : tie.MeasureT-loop
 μ-loop t marks₀ m h₀ marks h = m - h
 
--- src/lib.rt:167:13
 shared-slice-read-m : tie.Need-shared-slice-read-m Inv-loop μ-loop
 shared-slice-read-m c = search needs
 
--- src/lib.rt:167:13
 cast-m : tie.Need-cast-m Inv-loop μ-loop
 cast-m c = search needs
 
--- src/lib.rt:169:5
 loop-holds : tie.Need-loop-holds Inv-loop μ-loop
 loop-holds c = passing-begin _ _
 
--- src/lib.rt:170:13
 hub-right-requires : tie.Need-hub-right-requires Inv-loop μ-loop
 hub-right-requires c κs =
     let l = c .before .before .loop in
     let b = c .before .before .before .before .before in
     (b .pre .0, (c .before .loop-test .taken, passing-low _ _ (l .marks) (l .h) (l .inv) (b .pre .0) (b .pre .1) (c .before .loop-test .taken)))
 
--- src/lib.rt:171:13
 returns : tie.Need-returns Inv-loop μ-loop
 returns c =
     let l = c .before .before .before .before .loop in
     passing-no _ _ (l .marks) (l .h) (l .inv) (c .before .before .before .loop-test .taken) (c .before .hub-right .result) _ (c .before .hub-right .ensures) (not-true _ (c .if1 .taken))
 
--- src/lib.rt:173:9
 add-h : tie.Need-add-h Inv-loop μ-loop
 add-h c = search needs
 
--- src/lib.rt:169:5
 loop-less : tie.Need-loop-less Inv-loop μ-loop
 loop-less c = search needs
 
--- src/lib.rt:169:5
 loop-again : tie.Need-loop-again Inv-loop μ-loop
 loop-again c =
     let l = c .before .before .before .before .loop in
     passing-step _ _ (l .marks) (l .h) (l .inv) (c .before .before .before .loop-test .taken) (c .before .hub-right .result) _ (c .before .hub-right .ensures) (not-false _ (c .if1 .left))
 
--- src/lib.rt:161:1
 returns-2 : tie.Need-returns-2 Inv-loop μ-loop
 returns-2 c =
     let l = c .before .loop in

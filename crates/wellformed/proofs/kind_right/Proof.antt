@@ -1,41 +1,103 @@
-use Rattle.rules.specs.Table.{kindOf}
+-- `wellformed::kind_right` meets its contract: an arm for each kind of the kinds table. Assumes nothing.
+use Rattle.rules.specs.Table.{hubAt, kindOf}
 use Rattle.rules.specs.WellFormed.{kindRight}
+use Rattle.wellformed.proofs.Hubs.{kind-arm}
 use Rattle.wellformed.proofs.Numbers.{no-kind}
 use Rattle.wellformed.proofs.kind_right.Statement.{statement}
 use Rattle.wellformed.proofs.kind_right.Tie as tie
-use Rattle.wellformed.proofs.kind_right.Reads as reads
-use Rattle.wellformed.proofs.kind_right.Lts as lts
+use borrow.Author.Needs.{needs}
+use mathlib.Core.Path.{_∙_, refl, sym}
 
--- src/lib.rt:75:1
+mul-b : tie.Need-mul-b
+mul-b c = search needs
+
+add-b : tie.Need-add-b
+add-b c = search needs
+
+add-count : tie.Need-add-count
+add-count c = search needs
+
+mul-count : tie.Need-mul-count
+mul-count c = search needs
+
+shared-slice-read-count : tie.Need-shared-slice-read-count
+shared-slice-read-count c = search needs
+
+add-limit : tie.Need-add-limit
+add-limit c = search needs
+
+mul-limit : tie.Need-mul-limit
+mul-limit c = search needs
+
+shared-slice-read-limit : tie.Need-shared-slice-read-limit
+shared-slice-read-limit c = search needs
+
+add-start : tie.Need-add-start
+add-start c = search needs
+
+mul-start : tie.Need-mul-start
+mul-start c = search needs
+
+shared-slice-read-start : tie.Need-shared-slice-read-start
+shared-slice-read-start c = search needs
+
+mul-match : tie.Need-mul-match
+mul-match c = search needs
+
+shared-slice-read-match : tie.Need-shared-slice-read-match
+shared-slice-read-match c = search needs
+
+shared-slice-read-result : tie.Need-shared-slice-read-result
+shared-slice-read-result c = search needs
+
 returns : tie.Need-returns
-unfolding kindOf kindRight
-returns c h ec el es = simp (c .match .keys1, ec, el, es)
+unfolding hubAt kindOf kindRight
+returns c = let b = c .before .before .before .before .before in sym (kind-arm (b .args .t .now) (b .args .h) (b .pre .1) 1 (c .match .keys1))
 
--- src/lib.rt:75:1
 returns-2 : tie.Need-returns-2
-unfolding kindOf kindRight
-returns-2 c h ec el es = simp (c .match .keys2, ec, el, es)
+unfolding hubAt kindOf kindRight
+returns-2 c = let b = c .before .before .before .before .before in sym (kind-arm (b .args .t .now) (b .args .h) (b .pre .1) 2 (c .match .keys2))
 
--- src/lib.rt:75:1
 returns-3 : tie.Need-returns-3
-unfolding kindOf kindRight
-returns-3 c h ec el es = simp (c .match .keys3, ec, el, es)
+unfolding hubAt kindOf kindRight
+returns-3 c = let b = c .before .before .before .before .before in sym (kind-arm (b .args .t .now) (b .args .h) (b .pre .1) 3 (c .match .keys3))
 
--- src/lib.rt:75:1
 returns-4 : tie.Need-returns-4
-unfolding kindOf kindRight
-returns-4 c h ec el es = simp (c .match .keys4, ec, el, es)
+unfolding hubAt kindOf kindRight
+returns-4 c = let b = c .before .before .before .before .before in sym (kind-arm (b .args .t .now) (b .args .h) (b .pre .1) 4 (c .match .keys4))
 
--- src/lib.rt:75:1
 returns-5 : tie.Need-returns-5
-unfolding kindOf kindRight
-returns-5 c h ec el es = simp (c .match .keys5, ec, el, es)
+unfolding hubAt kindOf kindRight
+returns-5 c = let b = c .before .before .before .before .before .before in sym (kind-arm (b .args .t .now) (b .args .h) (b .pre .1) 5 (c .before .match .keys5))
 
--- src/lib.rt:75:1
 returns-6 : tie.Need-returns-6
 unfolding kindRight
-returns-6 c h ec el es =
-    let n = c .match .rest in rw (no-kind _ (n .0 .0 .0 .0 .1) (n .0 .0 .0 .1) (n .0 .0 .1) (n .0 .1) (n .1))
+returns-6 c =
+    let b = c .before .before .before .before .before in
+    let n = c .match .rest in
+    sym (kind-arm (b .args .t .now) (b .args .h) (b .pre .1) _ refl ∙ rw (no-kind _ (n .0 .0 .0 .0 .1) (n .0 .0 .0 .1) (n .0 .0 .1) (n .0 .1) (n .1)))
 
 pub kind-right-spec : {M : Type 1} → statement M
-kind-right-spec = tie.close (tie.spec returns returns-2 returns-3 returns-4 returns-5 returns-6)
+kind-right-spec =
+    tie.close
+    (tie.spec
+    mul-b
+    add-b
+    add-count
+    mul-count
+    shared-slice-read-count
+    add-limit
+    mul-limit
+    shared-slice-read-limit
+    add-start
+    mul-start
+    shared-slice-read-start
+    mul-match
+    shared-slice-read-match
+    shared-slice-read-result
+    returns
+    returns-2
+    returns-3
+    returns-4
+    returns-5
+    returns-6)

@@ -1,3 +1,4 @@
+-- `wellformed::owner_of` meets its contract. Assumes nothing.
 use Rattle.wellformed.proofs.owner_of.Statement.{statement}
 use Rattle.wellformed.proofs.owner_of.Tie as tie
 use borrow.Author.Tests.{eq-eqb, ne-eqb}

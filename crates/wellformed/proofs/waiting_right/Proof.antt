@@ -1,52 +1,44 @@
+-- `wellformed::waiting_right` meets its contract: the hub that a waiting task names is in use before its kind is read.
+-- Assumes nothing.
 use Prim.Native.Nat.{_*_, _+_}
 use Rattle.rules.proofs.Reading.{read-hubs}
 use Rattle.rules.specs.Table.{one}
 use Rattle.rules.specs.WellFormed.{stageRight}
 use Rattle.wellformed.proofs.Numbers.{bears-number}
 use Rattle.wellformed.proofs.Turns.{hub-kind}
+use Rattle.wellformed.proofs.waiting_right.Statement.{statement}
+use Rattle.wellformed.proofs.waiting_right.Tie as tie
+use borrow.Author.Needs.{needs}
 use borrow.Author.Tests.{le-leb, lt-leb}
 use lib.ListN.{getD}
 use mathlib.Core.Bool.{and-false}
 use native.Mathlib.Omega.{arith}
-use borrow.Author.Needs.{needs}
-use Rattle.wellformed.proofs.waiting_right.Statement.{statement}
-use Rattle.wellformed.proofs.waiting_right.Tie as tie
-use Rattle.wellformed.proofs.waiting_right.Reads as reads
-use Rattle.wellformed.proofs.waiting_right.Lts as lts
 
--- src/lib.rt:191:9
 returns : tie.Need-returns
 unfolding stageRight
 returns c x eh es ew ea = rw (eh, c .if1 .taken)
 
--- src/lib.rt:193:14
 shared-slice-read-if2 : tie.Need-shared-slice-read-if2
 shared-slice-read-if2 c = search needs
 
--- src/lib.rt:194:9
 returns-2 : tie.Need-returns-2
 unfolding stageRight
 returns-2 c x eh es ew ea =
     let a = c .before .before .before .args in
     rw (eh, read-hubs one (a .t .now), lt-leb (a .hub) (getD (a .t .now) 2 0) (c .if2 .taken), and-false)
 
--- src/lib.rt:196:24
 mul-kind : tie.Need-mul-kind
 mul-kind c = search needs
 
--- src/lib.rt:196:18
 add-kind : tie.Need-add-kind
 add-kind c = search needs
 
--- src/lib.rt:196:16
 mul-kind-2 : tie.Need-mul-kind-2
 mul-kind-2 c = search needs
 
--- src/lib.rt:196:16
 shared-slice-read-kind : tie.Need-shared-slice-read-kind
 shared-slice-read-kind c = search needs
 
--- src/lib.rt:185:1
 returns-3 : tie.Need-returns-3
 unfolding stageRight
 returns-3 c x eh es ew ea =

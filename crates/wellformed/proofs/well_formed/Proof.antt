@@ -1,42 +1,33 @@
+-- `wellformed::well_formed` meets its contract: a test that fails is one that a well-formed table passes, and a table that
+-- passes all of them is well formed. Assumes nothing.
 use Prim.Native.Nat.{zero-le}
 use Rattle.lists.proofs.Laws.{boolCase}
 use Rattle.rules.specs.Table.{one, part, read}
 use Rattle.rules.specs.WellFormed.{contentsRight, forAll, unusedZero, wellFormed}
 use Rattle.wellformed.proofs.Parts.{part-long}
 use Rattle.wellformed.proofs.Whole.{contents-used, no-marks, ready-marks, refused, well-passed, whole}
+use Rattle.wellformed.proofs.well_formed.Statement.{statement}
+use Rattle.wellformed.proofs.well_formed.Tie as tie
 use Rattle.wellformed.specs.Walks.{Used, hubRight, walks}
+use borrow.Author.Needs.{needs}
 use borrow.Author.Tests.{not-false, not-true}
 use lib.ListN.{getD}
 use mathlib.Core.Path.{_∙_, refl, sym}
 use native.Mathlib.Omega.{arith}
-use borrow.Author.Needs.{needs}
-use Rattle.wellformed.proofs.well_formed.Statement.{statement}
-use Rattle.wellformed.proofs.well_formed.Tie as tie
-use Rattle.wellformed.proofs.well_formed.Reads as reads
-use Rattle.wellformed.proofs.well_formed.Lts as lts
-use Rattle.wellformed.proofs.contents_right.Reads as contents-right-reads
-use Rattle.wellformed.proofs.hubs_right.Reads as hubs-right-reads
-use Rattle.wellformed.proofs.tasks_right.Reads as tasks-right-reads
-use Rattle.wellformed.proofs.unused_zero.Reads as unused-zero-reads
-use Rattle.wellformed.proofs.walk.Reads as walk-reads
 
--- src/lib.rt:250:9
 returns : tie.Need-returns
 returns c =
     let t = c .before .before .args .t .now in
     boolCase (wellFormed t) (λ w. absurd (c .if1 .taken (well-passed t w .used .long))) (λ w. sym w)
 
--- src/lib.rt:252:9
 contents-right-requires : tie.Need-contents-right-requires
 contents-right-requires c κs = search needs
 
--- src/lib.rt:253:9
 returns-2 : tie.Need-returns-2
 returns-2 c =
     let t = c .before .before .before .before .args .t .now in
     refused t (contentsRight one t) (λ w. well-passed t w .contents) (sym (c .before .contents-right .ensures) ∙ not-true _ (c .if2 .taken))
 
--- src/lib.rt:255:9
 used : (c : tie.Else2) → Used (c .before .before .before .before .args .t .now)
 used c =
     contents-used _ (c .before .before .if1 .left) (sym (c .before .contents-right .ensures) ∙ not-false _ (c .if2 .left))
@@ -44,55 +35,45 @@ used c =
 unused-zero-requires : tie.Need-unused-zero-requires
 unused-zero-requires c κs = used c
 
--- src/lib.rt:256:9
 returns-3 : tie.Need-returns-3
 returns-3 c =
     let t = c .before .before .before .before .before .before .args .t .now in
     refused t (unusedZero one t) (λ w. well-passed t w .unused) (sym (c .before .unused-zero .ensures) ∙ not-true _ (c .if3 .taken))
 
--- src/lib.rt:259:17
 sub-walk : tie.Need-sub-walk
 sub-walk c = search needs
 
--- src/lib.rt:259:17
 part-walk-start : tie.Need-part-walk-start
 part-walk-start c = search needs
 
--- src/lib.rt:259:17
 part-walk-end : tie.Need-part-walk-end
 part-walk-end c = search needs
 
--- src/lib.rt:259:9
 walk-requires : tie.Need-walk-requires
 walk-requires c κs =
     let t = c .before .before .before .before .before .before .before .before .args .t .now in
     let o = used (c .before .before .before .before) in
     (o, (part-long t 200 16 (omega (arith, o .long)), record { long = refl; low = λ j. rw (no-marks 16 j) zero-le }))
 
--- src/lib.rt:260:9
 returns-4 : tie.Need-returns-4
 returns-4 c =
     let t = c .before .before .before .before .before .before .before .before .before .before .args .t .now in
     refused t (walks (read one t) 0 0 0 0 (part 200 16 t)) (λ w. well-passed t w .ready) (sym (c .before .walk .ensures .right) ∙ not-true _ (c .if4 .taken))
 
--- src/lib.rt:262:9
 hubs-right-requires : tie.Need-hubs-right-requires
 hubs-right-requires c κs =
     let t = c .before .before .before .before .before .before .before .before .before .before .before .args .t .now in
     let o = used (c .before .before .before .before .before .before .before) in
     (o, ready-marks (part 200 16 t) (c .before .before .walk .ensures) (not-false _ (c .before .if4 .left)) (part-long t 200 16 (omega (arith, o .long))))
 
--- src/lib.rt:263:9
 returns-5 : tie.Need-returns-5
 returns-5 c =
     let t = c .before .before .before .before .before .before .before .before .before .before .before .before .before .args .t .now in
     refused t (forAll (getD t 2 0) (hubRight t)) (λ w. well-passed t w .hubs) (sym (c .before .hubs-right .ensures .right) ∙ not-true _ (c .if5 .taken))
 
--- src/lib.rt:265:5
 tasks-right-requires : tie.Need-tasks-right-requires
 tasks-right-requires c κs = used (c .before .before .before .before .before .before .before .before .before .before)
 
--- src/lib.rt:246:1
 returns-6 : tie.Need-returns-6
 returns-6 c =
     whole _ _ _ _ (used (c .before .before .before .before .before .before .before .before .before .before .before)) (sym (c .before .before .before .before .before .before .before .before .before .before .before .before .contents-right .ensures) ∙ not-false _ (c .before .before .before .before .before .before .before .before .before .before .before .if2 .left))

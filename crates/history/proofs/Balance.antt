@@ -1,0 +1,179 @@
+-- The balances: what a hub's kind promises of the words of its met puts and gets, in order of meeting, and one call's share
+-- in it; the hub table keeps each share, a clause for each row. About any list of waiters met.
+-- Not here: that the words met in a call are those that the verdict says (Asked.antt).
+use Prim.Native.Nat.{_+_, pred, ℕ}
+use Rattle.rules.proofs.Cases.{condCase}
+use Rattle.rules.proofs.Hubs.{core}
+use Rattle.rules.proofs.Verdicts.{hubAfter}
+use Rattle.rules.specs.Calls.{kept}
+use Rattle.rules.specs.HubTable.{Meeting, Verdict, fail, getEvent, getFifo, getPort, getSemaphore, met, notNow, onGet, onPut, onSide, putEvent, putFifo, putPort, putSemaphore}
+use Rattle.rules.specs.Lists.{firstWaiting, holding, queued}
+use Rattle.rules.specs.Table.{Event, Fifo, Get, Hub, Kind, NoKind, NoSide, Port, Put, Resource, Semaphore, Side, State, kindOf, sideOf, task}
+use Rattle.rules.specs.WellFormed.{bearsWord}
+use Rattle.rules.specs.declared.Call.{Call}
+use borrow.Author.Tests.{eqb-true, ltb-true}
+use lib.Dec.{eqb, ltb}
+use lib.ListN.{length, length-append}
+use mathlib.Core.Bool.{true}
+use mathlib.Core.List.{List, [], _++_, _∷_, append-assoc, append-nil, map}
+use mathlib.Core.Logic.{_⊎_, inl, inr}
+use mathlib.Core.Option.{Option, none, some}
+use mathlib.Core.Path.{_∙_, _≡_, ap, refl, subst, sym}
+use native.Mathlib.Omega.{arith}
+
+-- ---- by kind
+
+-- Event and Semaphore: start + puts = count + gets; FIFO: puts = gets, then the words held; Port: puts = gets
+unfoldable pub Balanced : Kind → Hub → List ℕ → List ℕ → Type 0
+Balanced NoKind h puts gets = Unit {0}
+Balanced Event h puts gets = h .start + length puts ≡ h .count + length gets
+Balanced Semaphore h puts gets = h .start + length puts ≡ h .count + length gets
+Balanced Port h puts gets = puts ≡ gets
+Balanced Fifo h puts gets = puts ≡ gets ++ h .held
+Balanced Resource h puts gets = Unit {0}
+
+-- one call's share: h before it, h′ after it
+abbrev Counts : Hub → Hub → List ℕ → List ℕ → Type 0
+Counts h h′ puts gets = (h′ .start ≡ h .start) × (h .count + length puts ≡ h′ .count + length gets)
+
+unfoldable pub Share : Kind → Hub → Hub → List ℕ → List ℕ → Type 0
+Share NoKind h h′ puts gets = Unit {0}
+Share Event h h′ puts gets = Counts h h′ puts gets
+Share Semaphore h h′ puts gets = Counts h h′ puts gets
+Share Port h h′ puts gets = puts ≡ gets
+Share Fifo h h′ puts gets = h .held ++ puts ≡ gets ++ h′ .held
+Share Resource h h′ puts gets = Unit {0}
+
+pub balance-step : (k : Kind) (h h′ : Hub) (ps gs puts gets : List ℕ) → Balanced k h ps gs → Share k h h′ puts gets → Balanced k h′ (ps ++ puts) (gs ++ gets)
+unfolding Balanced Share
+balance-step NoKind h h′ ps gs puts gets b l = tt
+balance-step Event h h′ ps gs puts gets b l = rw (length-append ps puts, length-append gs gets) (omega (arith, b, l .0, l .1))
+balance-step Semaphore h h′ ps gs puts gets b l = rw (length-append ps puts, length-append gs gets) (omega (arith, b, l .0, l .1))
+balance-step Port h h′ ps gs puts gets b l = rw (b, l)
+balance-step Fifo h h′ ps gs puts gets b l = rw (b, append-assoc gs (h .held) puts, l, append-assoc gs gets (h′ .held)) refl
+balance-step Resource h h′ ps gs puts gets b l = tt
+
+-- a hub is as it was apart from its waiting list, and nothing is met there
+counts-same : (h h′ : Hub) → core h′ ≡ core h → Counts h h′ [] []
+unfolding core queued
+counts-same h h′ e = (ap (λ (x : Hub). x .start) e, ap (λ (n : ℕ). n + 0) (sym (ap (λ (x : Hub). x .count) e)))
+
+pub share-same : (k : Kind) (h h′ : Hub) → core h′ ≡ core h → Share k h h′ [] []
+unfolding Share core queued
+share-same NoKind h h′ e = tt
+share-same Event h h′ e = counts-same h h′ e
+share-same Semaphore h h′ e = counts-same h h′ e
+share-same Port h h′ e = refl
+share-same Fifo h h′ e = append-nil (h .held) ∙ sym (ap (λ (x : Hub). x .held) e)
+share-same Resource h h′ e = tt
+
+-- the share is the same for two hubs that differ in their waiting lists alone
+counts-core : (h x x′ : Hub) (puts gets : List ℕ) → core x′ ≡ core x → Counts h x puts gets → Counts h x′ puts gets
+unfolding core queued
+counts-core h x x′ puts gets e l =
+    (ap (λ (y : Hub). y .start) e ∙ l .0, l .1 ∙ ap (λ (n : ℕ). n + length gets) (sym (ap (λ (y : Hub). y .count) e)))
+
+pub share-core : (k : Kind) (h x x′ : Hub) (puts gets : List ℕ) → core x′ ≡ core x → Share k h x puts gets → Share k h x′ puts gets
+unfolding Share core queued
+share-core NoKind h x x′ puts gets e l = tt
+share-core Event h x x′ puts gets e l = counts-core h x x′ puts gets e l
+share-core Semaphore h x x′ puts gets e l = counts-core h x x′ puts gets e l
+share-core Port h x x′ puts gets e l = l
+share-core Fifo h x x′ puts gets e l = l ∙ ap (λ (y : List ℕ). gets ++ y) (sym (ap (λ (y : Hub). y .held) e))
+share-core Resource h x x′ puts gets e l = tt
+
+-- ---- what a verdict meets: x is the word that the caller puts
+
+abbrev wordsPut : State → List Meeting → List ℕ
+wordsPut s ms = map (λ (m : Meeting). task s (m .waiter) .word) ms
+
+abbrev wordsGot : List Meeting → List ℕ
+wordsGot ms = map (λ (m : Meeting). m .word) ms
+
+unfoldable pub putsBy : Side → State → ℕ → Verdict → List ℕ
+putsBy NoSide s x v = []
+putsBy Put s x (met n ws y ms) = x ∷ []
+putsBy Put s x notNow = []
+putsBy Put s x fail = []
+putsBy Get s x (met n ws y ms) = wordsPut s ms
+putsBy Get s x notNow = []
+putsBy Get s x fail = []
+
+unfoldable pub getsBy : Side → Verdict → List ℕ
+getsBy NoSide v = []
+getsBy Put (met n ws y ms) = wordsGot ms
+getsBy Put notNow = []
+getsBy Put fail = []
+getsBy Get (met n ws y ms) = y ∷ []
+getsBy Get notNow = []
+getsBy Get fail = []
+
+-- ---- the hub table's law
+
+abbrev Law : Kind → Side → State → Hub → ℕ → Verdict → Type 0
+Law k d s h x v = Share k h (hubAfter h v) (putsBy d s x v) (getsBy d v)
+
+law-not : (k : Kind) (d : Side) (s : State) (h : Hub) (x : ℕ) → Law k d s h x notNow
+unfolding getsBy hubAfter putsBy
+law-not k NoSide s h x = share-same k h h refl
+law-not k Put s h x = share-same k h h refl
+law-not k Get s h x = share-same k h h refl
+
+-- x₀ is the word of the call, x the word kept: the same at a Port or FIFO
+law-put : (k : Kind) (s : State) (f : Option ℕ) (h : Hub) (i x₀ x : ℕ) → (bearsWord k ≡ true → x₀ ≡ x) → ((w : ℕ) → f ≡ some w → k ≡ Fifo → h .held ≡ [])
+    → Law k Put s h x (onPut k f h i x₀)
+unfolding Share bearsWord getsBy holding hubAfter onPut putEvent putFifo putPort putSemaphore putsBy
+law-put NoKind s f h i x₀ x q e = tt
+law-put Event s (some w) h i x₀ x q e = (refl, refl)
+law-put Event s none h i x₀ x q e =
+    condCase (Law Event Put s h x) (eqb (h .count) 0) _ _
+    (λ b. (refl, let z : h .count + 1 ≡ 1 + 0 = omega (arith, eqb-true (h .count) 0 b) in z))
+    (λ b. law-not Event Put s h x)
+law-put Semaphore s (some w) h i x₀ x q e = (refl, refl)
+law-put Semaphore s none h i x₀ x q e =
+    condCase (Law Semaphore Put s h x) (ltb (h .count) (h .limit)) _ _ (λ b. (refl, omega arith)) (λ b. law-not Semaphore Put s h x)
+law-put Port s (some w) h i x₀ x q e = rw (q refl)
+law-put Port s none h i x₀ x q e = law-not Port Put s h x
+law-put Fifo s (some w) h i x₀ x q e = rw (e w refl refl, q refl)
+law-put Fifo s none h i x₀ x q e =
+    rw (q refl) (condCase (Law Fifo Put s h x) (ltb (h .count) (h .limit)) _ _ (λ b. refl) (λ b. law-not Fifo Put s h x))
+law-put Resource s f h i x₀ x q e = tt
+
+law-get : (k : Kind) (s : State) (f : Option ℕ) (h : Hub) (i x : ℕ) → Law k Get s h x (onGet k s f h i)
+unfolding Share getEvent getFifo getPort getSemaphore getsBy holding hubAfter onGet putsBy
+law-get NoKind s f h i x = tt
+law-get Event s (some w) h i x = condCase (Law Event Get s h x) (eqb (h .count) 1) _ _ (λ b. (refl, refl)) (λ b. law-not Event Get s h x)
+law-get Event s none h i x =
+    condCase (Law Event Get s h x) (eqb (h .count) 1) _ _
+    (λ b. (refl, let z : h .count + 0 ≡ 0 + 1 = omega (arith, eqb-true (h .count) 1 b) in z))
+    (λ b. law-not Event Get s h x)
+law-get Semaphore s (some w) h i x = condCase (Law Semaphore Get s h x) (ltb 0 (h .count)) _ _ (λ b. (refl, refl)) (λ b. law-not Semaphore Get s h x)
+law-get Semaphore s none h i x =
+    condCase (Law Semaphore Get s h x) (ltb 0 (h .count)) _ _
+    (λ b. (refl, let z : h .count + 0 ≡ pred (h .count) + 1 = omega (arith, ltb-true 0 (h .count) b) in z))
+    (λ b. law-not Semaphore Get s h x)
+law-get Port s (some w) h i x = refl
+law-get Port s none h i x = law-not Port Get s h x
+law-get Fifo s f h i x = fifo (h .held) refl f
+  where
+    fifo : (l : List ℕ) → h .held ≡ l → (f : Option ℕ) → Law Fifo Get s h x (getFifo s l f h)
+    fifo [] e f = law-not Fifo Get s h x
+    fifo (y ∷ ys) e (some w) = rw e
+    fifo (y ∷ ys) e none = rw e (append-nil (y ∷ ys))
+law-get Resource s f h i x = tt
+
+kept-word : (h : Hub) (c : Call) → c .side ≡ 1 → bearsWord (kindOf (h .kind)) ≡ true → c .word ≡ kept h c
+unfolding kept
+kept-word h c e f = rw (e, f)
+
+-- by side, with the word kept
+pub law-side : (s : State) (h : Hub) (c : Call) → (c .side ≡ 1) ⊎ (c .side ≡ 2)
+    → ((w : ℕ) → firstWaiting s 2 (h .waiters) ≡ some w → kindOf (h .kind) ≡ Fifo → h .held ≡ [])
+    → Law (kindOf (h .kind)) (sideOf (c .side)) s h (kept h c) (onSide (sideOf (c .side)) s h c)
+unfolding onSide sideOf
+law-side s h c (inl e) f =
+    subst (λ (d : Side). Law (kindOf (h .kind)) d s h (kept h c) (onSide d s h c)) (ap sideOf (sym e))
+    (law-put (kindOf (h .kind)) s (firstWaiting s 2 (h .waiters)) h (c .caller) (c .word) (kept h c) (kept-word h c e) f)
+law-side s h c (inr e) f =
+    subst (λ (d : Side). Law (kindOf (h .kind)) d s h (kept h c) (onSide d s h c)) (ap sideOf (sym e))
+    (law-get (kindOf (h .kind)) s _ h (c .caller) (kept h c))

@@ -1,0 +1,15 @@
+pub mod Account
+pub mod Again
+pub mod Asked
+pub mod Balance
+pub mod Bound
+pub mod Classes
+pub mod Fates
+pub mod Following
+pub mod Made
+pub mod Meetings
+pub mod Opened
+pub mod Promise
+pub mod Reasons
+pub mod Run
+pub mod Those

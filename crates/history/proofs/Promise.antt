@@ -1,0 +1,144 @@
+-- Demand 3, for every run: `demand3`, and its consequences `each-met` and `one-each` (the statements: specs/Statements.antt).
+-- A Blank on any 600 words begins a run (`blank-begins`).
+use Prim.Native.Nat.{_+_, _<_, _≤_, suc, zero, ℕ}
+use Rattle.history.proofs.Again.{Entry}
+use Rattle.history.proofs.Balance.{Balanced}
+use Rattle.history.proofs.Bound.{bound}
+use Rattle.history.proofs.Following.{continues-history, own-place}
+use Rattle.history.proofs.Meetings.{met-in}
+use Rattle.history.proofs.Reasons.{class-own, one-met, turned-failed, turned-met, turned-timed, turned-withdrawn}
+use Rattle.history.proofs.Run.{Sound, accepted-service, refusal-shown, shown-next, sound-run}
+use Rattle.history.proofs.Those.{each-imp}
+use Rattle.history.specs.History.{Class, History, Request, asked, at, begun, failed, history, howMany, metCount, next, opened, partOf, reread, rowClass, shown, those, timedOut, turned, turnedBy, turnedTo, withdrawn, wordsOf}
+use Rattle.history.specs.Statements.{Begins, Demand3, Each, EachMet, MetBy, OneEach, Own, addedAs, requestAt}
+use Rattle.lists.proofs.Laws.{boolCase}
+use Rattle.rules.proofs.After.{well-formed-not-2}
+use Rattle.rules.proofs.Promise.{blank-accepted}
+use Rattle.rules.proofs.Valid.{Range}
+use Rattle.rules.specs.Calls.{HubRequest, Stop, Tick, serve, serviceOf}
+use Rattle.rules.specs.HubTable.{verdict}
+use Rattle.rules.specs.Refusals.{refusalFor, refusalOf}
+use Rattle.rules.specs.Reply.{tableAfter}
+use Rattle.rules.specs.Table.{Event, Fifo, Hub, Kind, NoKind, Port, Semaphore, State, hub, kindOf, noHub}
+use Rattle.rules.specs.WellFormed.{urgency}
+use Rattle.rules.specs.declared.Call.{Call}
+use borrow.Author.Tests.{ltb-false, ltb-true}
+use lib.Dec.{ltb}
+use lib.ListN.{List·getD-eq-default, length, length-map}
+use mathlib.Core.List.{List, []}
+use mathlib.Core.Logic.{_≢_, _⊎_, inl, inr}
+use mathlib.Core.Path.{_∙_, _≡_, ap, refl, subst, sym}
+use native.Mathlib.Omega.{arith}
+
+-- a Blank on any 600 words begins a run
+pub blank-begins : (w : List ℕ) (b : Call) → length w ≡ 600 → b .service ≡ 0 → Begins w b
+unfolding serviceOf
+blank-begins w b l z = record { blank = rw z; accepted = blank-accepted w b l z }
+
+module _ (x : History) (g : Sound x) where
+  abbrev s : State
+  s = shown (x .table)
+
+  -- ---- the balances
+
+  balanced : (h : ℕ) (k : Kind) → kindOf (hub s h .kind) ≡ k → Balanced k (hub s h) (wordsOf h 1 (x .met)) (wordsOf h 2 (x .met))
+  balanced h k e = subst (λ (k : Kind). Balanced k (hub s h) (wordsOf h 1 (x .met)) (wordsOf h 2 (x .met))) e (g .account .balanced h)
+
+  count : (h d : ℕ) → length (wordsOf h d (x .met)) ≡ metCount h d (x .requests)
+  unfolding metCount wordsOf
+  count h d = length-map (those (at h d) (x .met)) _ ∙ g .account .meetings (at h d)
+
+  -- a hub of some kind is in use
+  in-use : (h : ℕ) (k : Kind) → kindOf (hub s h .kind) ≡ k → k ≢ NoKind → h < length (s .hubs)
+  in-use h k e n =
+      boolCase (ltb h (length (s .hubs)))
+      (ltb-true h _)
+      (λ b. absurd (n (sym e ∙ (unfold kindOf noHub in ap (λ (y : Hub). kindOf (y .kind)) (List·getD-eq-default (s .hubs) noHub (ltb-false h _ b))))))
+
+  semaphore : (h : ℕ) → kindOf (hub s h .kind) ≡ Semaphore → addedAs x h .word + metCount h 1 (x .requests) ≡ hub s h .count + metCount h 2 (x .requests)
+  unfolding Balanced
+  semaphore h e =
+      let m = g .makes .each h (in-use h Semaphore e (λ q. let z : _≡_ {A = ℕ} 0 1 = cc in omega arith)) in
+      omega (arith, balanced h Semaphore e, count h 1, count h 2, m .start)
+
+  event : (h : ℕ) → kindOf (hub s h .kind) ≡ Event → metCount h 1 (x .requests) ≡ hub s h .count + metCount h 2 (x .requests)
+  unfolding Balanced Range
+  event h e =
+      let r : Range Event (length (s .tasks)) (hub s h) = rw e at (g .valid .ranges .range h (in-use h Event e (λ q. let z : _≡_ {A = ℕ} 0 1 = cc in omega arith))) in
+      omega (arith, balanced h Event e, count h 1, count h 2, r .2)
+
+  -- ---- the next call
+
+  abbrev after : Call → State
+  after c = serve (urgency s) (serviceOf (c .service)) s c
+
+  -- what holds of those that turn in an accepted call, by its service, holds in any call
+  turned-next : (k : Class) (Q : State → List Request → Type 0) (c : Call)
+      → (refusalFor (serviceOf (c .service)) s c ≡ 0 → Q (after c) (turned k (after c) (opened (partOf (serviceOf (c .service))) s c (x .requests))))
+      → ((s′ : State) → Q s′ []) → Q (shown (tableAfter (x .table) c)) (turnedTo k x c)
+  unfolding turnedTo
+  turned-next k Q c f z = by (refusalOf (x .table) c) refl
+    where
+      by : (n : ℕ) → refusalOf (x .table) c ≡ n → Q (shown (tableAfter (x .table) c)) (turnedBy n k (x .table) c (x .requests))
+      by zero e = unfold turnedBy in rw (shown-next x c e) (f (accepted-service x c e))
+      by (suc n) e = unfold turnedBy in z (shown (tableAfter (x .table) c))
+
+  -- each of them
+  each-next : (k : Class) (P : State → Request → Type 0) (c : Call)
+      → (refusalFor (serviceOf (c .service)) s c ≡ 0 → Each (P (after c)) (turned k (after c) (opened (partOf (serviceOf (c .service))) s c (x .requests))))
+      → Each (P (shown (tableAfter (x .table) c))) (turnedTo k x c)
+  each-next k P c f = turned-next k (λ s′ l. Each (P s′) l) c f (λ s′. unfold Each in tt)
+
+  own : (c : Call) → serviceOf (c .service) ≡ HubRequest → refusalOf (x .table) c ≡ 0
+      → requestAt (next x c) (length (x .requests)) .class ≡ rowClass (verdict s c) c
+  unfolding asked reread
+  own c sv e =
+      rw (own-place x c sv e, shown-next x c e, sv) (class-own (urgency s) s c (g .valid) (rw sv at (accepted-service x c e)))
+
+  sound-demand : Demand3 x
+  sound-demand = record {
+    read = each-imp (Entry s) _ (λ r e. e .known) (x .requests) (g .account .agree .entries);
+    waits = g .account .agree .one;
+    stands = each-imp (Entry s) _ (λ r e. e .stands) (x .requests) (g .account .agree .entries);
+    meetings = g .account .meetings;
+    settled = continues-history x;
+    hubs = g .makes .each;
+    semaphore = semaphore;
+    event = event;
+    fifo = λ h e. unfold Balanced in balanced h Fifo e;
+    port = λ h e. unfold Balanced in balanced h Port e;
+    own = own;
+    metMeansMet = λ c. each-next Class.met (λ s′. MetBy s s′ c) c (λ o. turned-met (urgency s) _ s (x .requests) c (g .account .agree) (g .valid) o refl);
+    fails = λ c. each-next failed (λ s′. Own c) c (λ o. turned-failed (urgency s) _ s (x .requests) c (g .account .agree) (g .valid) o refl);
+    timesOut = λ c. each-next timedOut (λ s′ r. serviceOf (c .service) ≡ Tick) c (λ o. turned-timed (urgency s) _ s (x .requests) c (g .account .agree) (g .valid) o refl);
+    isWithdrawn = λ c. each-next withdrawn (λ s′ r. (serviceOf (c .service) ≡ Stop) × (r .task ≡ c .target)) c
+        (λ o. turned-withdrawn (urgency s) _ s (x .requests) c (g .account .agree) (g .valid) o refl);
+    bound = λ c ds sv e m b l. bound x g c sv e m ds b l;
+    formed = g .formed;
+    neverTwo = λ c. well-formed-not-2 (x .table) c (g .formed);
+    blanks = λ c e. refusal-shown x g c ∙ (unfold refusalFor in rw e);
+    ticks = λ c e. refusal-shown x g c ∙ (unfold refusalFor in rw e);
+  }
+
+  sound-one : OneEach x
+  sound-one c h d e =
+      turned-next Class.met (λ s′ l. howMany (at h d) l ≤ 1) c
+      (λ o. one-met (urgency s) _ s (x .requests) c (g .account .agree) (g .valid) o h d)
+      (λ s′. unfold those in omega arith)
+
+-- ---- every run
+
+pub demand3 : (w : List ℕ) (b : Call) → Begins w b → (cs : List Call) → Demand3 (history (begun (tableAfter w b)) cs)
+demand3 w b g cs = sound-demand _ (sound-run w b g cs)
+
+pub each-met : (w : List ℕ) (b : Call) → Begins w b → (cs : List Call) → EachMet (begun (tableAfter w b)) cs
+each-met w b g cs =
+    each-imp _ _ (λ r f e. only (f e)) _
+    (met-in (λ x k. sound-demand x k .metMeansMet) cs (begun (tableAfter w b)) (unfold history in sound-run w b g []) (λ r. ⊥) (unfold Each begun in tt))
+  where
+    only : {A : Type 0} → ⊥ ⊎ A → A
+    only (inl z) = absurd z
+    only (inr a) = a
+
+pub one-each : (w : List ℕ) (b : Call) → Begins w b → (cs : List Call) → OneEach (history (begun (tableAfter w b)) cs)
+one-each w b g cs = sound-one _ (sound-run w b g cs)

@@ -1,0 +1,232 @@
+-- Why a request turned: met by the caller or as its partner, failed in its own call, timed out in a Tick, withdrawn in a Stop
+-- of its task. By service, of a state; and that a hub request meets at most one request of each side.
+use Prim.Native.Nat.{_+_, _≤_, ℕ}
+use Rattle.history.proofs.Again.{Agree, Entry, each-turned}
+use Rattle.history.proofs.Asked.{class-of-met, class-settle, metCaller, metIn, metWaiter, turned-settle, waiters-met}
+use Rattle.history.proofs.Classes.{class-met, class-stopped, class-timed, class-waiting}
+use Rattle.history.proofs.Fates.{Fate, fate-serve, meets, rests, stops, times}
+use Rattle.history.proofs.Opened.{opened-case}
+use Rattle.history.proofs.Those.{each-append, each-imp, each-none, howMany-cons}
+use Rattle.history.specs.History.{Class, Request, asked, at, classOf, failed, howMany, opened, partOf, reread, rowClass, those, timedOut, turned, unread, waiting, withdrawn}
+use Rattle.history.specs.Statements.{ByRow, Each, MetBy, Own, itself, partner}
+use Rattle.lists.specs.Lists.{bit}
+use Rattle.rules.proofs.Accepted.{Asked, request-tests}
+use Rattle.rules.proofs.Cases.{condCase, sameOr}
+use Rattle.rules.proofs.Hubs.{core, hub-target}
+use Rattle.rules.proofs.Settled.{Partners, met-caller, partners}
+use Rattle.rules.proofs.Valid.{Valid}
+use Rattle.rules.proofs.Verdicts.{Few, across, few, hubAfter, meets-first, meets-later, meets-never, meets-none, waitersMet}
+use Rattle.rules.specs.Calls.{AddHub, AddTask, Blank, HubRequest, Resume, Service, Sleep, Start, Stop, Suspend, Tick, Unknown, Yield, serve, serviceOf, settle}
+use Rattle.rules.specs.HubTable.{Meeting, Verdict, fail, met, notNow, verdict}
+use Rattle.rules.specs.Lists.{firstWaiting, holding, queued}
+use Rattle.rules.specs.Refusals.{refusalFor}
+use Rattle.rules.specs.Table.{Hub, State, Task, hub, sideOf, task}
+use Rattle.rules.specs.declared.Call.{Call}
+use borrow.Author.Tests.{ne-eqb}
+use lib.Dec.{eqb}
+use mathlib.Core.Bool.{Bool, _&&_, and-false, false, false≢true, true}
+use mathlib.Core.List.{List, [], _++_, _∷_}
+use mathlib.Core.Logic.{_≢_, _⊎_, inl, inr}
+use mathlib.Core.Option.{Option}
+use mathlib.Core.Path.{_∙_, _≡_, ap, refl, subst, sym}
+use native.Mathlib.Omega.{arith}
+
+-- ---- a request that was waiting before the call: by its class after it
+
+unfoldable Reason : Class → Service → Call → Request → Type 0
+Reason waiting w c r = Unit {0}
+Reason Class.met w c r = w ≡ HubRequest
+Reason failed w c r = ⊥
+Reason timedOut w c r = w ≡ Tick
+Reason withdrawn w c r = (w ≡ Stop) × (r .task ≡ c .target)
+Reason unread w c r = ⊥
+
+fate-reason : (w : Service) (c : Call) (r : Request) (t t′ : Task) → Fate w c (r .task) t t′ → Reason (classOf t′) w c r
+unfolding Reason
+fate-reason w c r t t′ (rests a l) = rw (class-waiting t′ a) tt
+fate-reason w c r t t′ (meets e m) = rw (class-met t′ (m .0) (m .1)) e
+fate-reason w c r t t′ (stops e q a) = rw (class-stopped t′ a) (e, q)
+fate-reason w c r t t′ (times e a b) = rw (class-timed t′ a b) e
+
+abbrev Turns : Class → State → (Request → Type 0) → Request → Type 0
+Turns k s′ P r = r .class ≡ waiting → classOf (task s′ (r .task)) ≡ k → P (reread s′ r)
+
+-- a call's own request is met, failed or waiting, and nothing else
+unfoldable OwnClass : Class → Type 0
+OwnClass waiting = Unit {0}
+OwnClass Class.met = Unit {0}
+OwnClass failed = Unit {0}
+OwnClass timedOut = ⊥
+OwnClass withdrawn = ⊥
+OwnClass unread = ⊥
+
+own-row : (v : Verdict) (c : Call) → OwnClass (rowClass v c)
+unfolding OwnClass rowClass
+own-row (met n ws x ms) c = tt
+own-row notNow c = condCase OwnClass (eqb (c .mode) 2) failed waiting (λ _. tt) (λ _. tt)
+own-row fail c = tt
+
+pub class-own : (key : ℕ → ℕ) (s : State) (c : Call) → Valid s → refusalFor HubRequest s c ≡ 0 → classOf (task (serve key HubRequest s c) (c .caller)) ≡ rowClass (verdict s c) c
+unfolding serve
+class-own key s c g ok =
+    let t = request-tests s (g .listed) c ok in
+    class-settle key s c (t .run) (verdict s c) (partners s (g .listed) c)
+
+module _ (key : ℕ → ℕ) (w : Service) (s : State) (rs : List Request) (c : Call) (a : Agree s rs) (g : Valid s) (ok : refusalFor w s c ≡ 0) where
+  -- P of each that turns into k: of the old ones by their reason, of the call's own by what may come of it
+  turned-by : (k : Class) (P : Request → Type 0) → ((r : Request) → Reason k w c r → P (reread (serve key w s c) r))
+      → (w ≡ HubRequest → OwnClass k → P (reread (serve key w s c) (asked s c)))
+      → Each P (turned k (serve key w s c) (opened (partOf w) s c rs))
+  turned-by k P f q = each-turned P k s′ (opened (partOf w) s c rs) (opened-case (Each (Turns k s′ P)) s c rs w (λ e. unfold Each in tt) request old)
+    where
+      s′ : State
+      s′ = serve key w s c
+
+      old : w ≢ Blank → Each (Turns k s′ P) rs
+      old n = each-imp (Entry s) _
+          (λ r y z u. f r (subst (λ (k : Class). Reason k w c r) u (fate-reason w c r _ _ (fate-serve key w n s c g ok (r .task) (y .stands z .state)))))
+          rs (a .entries)
+
+      own : w ≡ HubRequest → Turns k s′ P (asked s c)
+      own e z u = q e (subst OwnClass u (unfold asked in rw (e, class-own key s c g (rw e at ok)) (own-row (verdict s c) c)))
+
+      request : w ≡ HubRequest → Each (Turns k s′ P) (rs ++ asked s c ∷ [])
+      request e = each-append (Turns k s′ P) rs (asked s c ∷ []) (old (λ b. let z : _≡_ {A = ℕ} 0 1 = cc in omega arith)) (unfold Each in (own e, tt))
+
+  module _ (sv : serviceOf (c .service) ≡ w) where
+    pub turned-failed : Each (Own c) (turned failed (serve key w s c) (opened (partOf w) s c rs))
+    turned-failed =
+        turned-by failed (Own c)
+        (λ r e. absurd (unfold Reason in e))
+        (λ e o. unfold asked reread in record { service = sv ∙ e; task = refl; hub = refl; side = refl })
+
+    pub turned-timed : Each (λ r. serviceOf (c .service) ≡ Tick) (turned timedOut (serve key w s c) (opened (partOf w) s c rs))
+    turned-timed = turned-by timedOut _ (λ r e. sv ∙ (unfold Reason in e)) (λ e o. absurd (unfold OwnClass in o))
+
+    pub turned-withdrawn : Each (λ r. (serviceOf (c .service) ≡ Stop) × (r .task ≡ c .target)) (turned withdrawn (serve key w s c) (opened (partOf w) s c rs))
+    unfolding OwnClass Reason reread
+    turned-withdrawn = turned-by withdrawn _ (λ r e. (sv ∙ e .0, e .1)) (λ e o. absurd o)
+
+-- ---- who turns met
+
+own-caller : (s : State) (c : Call) (x : ℕ) → serviceOf (c .service) ≡ HubRequest → Own c (metCaller s c x)
+own-caller s c x sv = record { service = sv; task = refl; hub = refl; side = refl }
+
+-- one side is 1 and the other 2
+sides : (n : ℕ) → (n ≡ 1) ⊎ (n ≡ 2) → across (sideOf n) + n ≡ 3
+unfolding across sideOf
+sides n (inl e) = rw e refl
+sides n (inr e) = rw e refl
+
+-- a hub request: by the verdict's row
+module _ (key : ℕ → ℕ) (s : State) (c : Call) (sv : serviceOf (c .service) ≡ HubRequest) (t : Asked s c) where
+  by-row : (n : ℕ) (ws : List ℕ) (x : ℕ) (ms : List Meeting) → verdict s c ≡ met n ws x ms → Partners s c ms → ByRow s (settle key (met n ws x ms) s c) c (metCaller s c x)
+  unfolding core holding hubAfter queued
+  by-row n ws x ms q p = record {
+    count = n;
+    held = ws;
+    waiters = ms;
+    own = own-caller s c x sv;
+    row = q;
+    counts = ap (λ (h : Hub). h .count) (hub-target key s c (met n ws x ms) (t .named));
+    holds = ap (λ (h : Hub). h .held) (hub-target key s c (met n ws x ms) (t .named));
+    others = waiters-met key s c (t .run) n ws x ms p;
+  }
+
+  met-row : (v : Verdict) → verdict s c ≡ v → Few (firstWaiting s (across (sideOf (c .side))) (hub s (c .target) .waiters)) v → Partners s c (waitersMet v)
+      → Each (MetBy s (settle key v s c) c) (metIn s c v)
+  unfolding Each metIn waitersMet
+  met-row v q (meets-none n ws x) p = (itself (by-row n ws x [] q p), tt)
+  met-row v q (meets-first n ws x w y e) p =
+      let ms : List Meeting = record { waiter = w; word = y } ∷ [] in (
+        partner (record {
+          service = sv;
+          place = refl;
+          sides = sides (c .side) (t .side);
+          first = e;
+          caller = class-of-met key s c (t .run) (settle key (met n ws x ms) s c) x (met-caller key s c (t .run) n ws x ms p);
+        }),
+        (itself (by-row n ws x ms q p), tt),
+      )
+  met-row v q meets-later p = tt
+  met-row v q meets-never p = tt
+
+-- and at most one of each side
+one-side : (a b b′ : Bool) → (b && b′) ≡ false → bit (a && b) + bit (a && b′) ≤ 1
+one-side true true true e = absurd (false≢true (sym e))
+one-side true true false e = omega arith
+one-side true false true e = omega arith
+one-side true false false e = omega arith
+one-side false b b′ e = omega arith
+
+not-both : (i j d : ℕ) → i ≢ j → (eqb i d && eqb j d) ≡ false
+not-both i j d n = sameOr i d (λ e. rw (ne-eqb j d (λ q. n (e ∙ sym q)), and-false)) (λ m. rw (ne-eqb i d m))
+
+apart : (n : ℕ) → (n ≡ 1) ⊎ (n ≡ 2) → across (sideOf n) ≢ n
+apart n k e = omega (arith, sides n k, e)
+
+none-at : (h d : ℕ) → howMany (at h d) [] ≡ 0
+unfolding those
+none-at h d = refl
+
+one-row : (s : State) (c : Call) (h d : ℕ) → (c .side ≡ 1) ⊎ (c .side ≡ 2) → (f : Option ℕ) (v : Verdict) → Few f v → howMany (at h d) (metIn s c v) ≤ 1
+unfolding metIn
+one-row s c h d t f v (meets-none n ws x) = omega (arith, howMany-cons (at h d) (metCaller s c x) [], one-side true (at h d (metCaller s c x)) false (and-false (at h d (metCaller s c x))), none-at h d)
+one-row s c h d t f v (meets-first n ws x w y e) =
+    omega (
+      arith,
+      howMany-cons (at h d) (metWaiter s c (record { waiter = w; word = y })) (metCaller s c x ∷ []),
+      howMany-cons (at h d) (metCaller s c x) [],
+      one-side (eqb (c .target) h) (eqb (across (sideOf (c .side))) d) (eqb (c .side) d) (not-both (across (sideOf (c .side))) (c .side) d (apart (c .side) t)),
+      none-at h d,
+    )
+one-row s c h d t f v meets-later = omega (arith, none-at h d)
+one-row s c h d t f v meets-never = omega (arith, none-at h d)
+
+-- by service: nobody turns met but in a hub request
+
+is-request : (w : Service) → (w ≡ HubRequest) ⊎ (w ≢ HubRequest)
+is-request Blank = inr (λ b. let z : _≡_ {A = ℕ} 0 1 = cc in omega arith)
+is-request HubRequest = inl refl
+is-request Start = inr (λ b. let z : _≡_ {A = ℕ} 0 1 = cc in omega arith)
+is-request Stop = inr (λ b. let z : _≡_ {A = ℕ} 0 1 = cc in omega arith)
+is-request Suspend = inr (λ b. let z : _≡_ {A = ℕ} 0 1 = cc in omega arith)
+is-request Resume = inr (λ b. let z : _≡_ {A = ℕ} 0 1 = cc in omega arith)
+is-request Yield = inr (λ b. let z : _≡_ {A = ℕ} 0 1 = cc in omega arith)
+is-request Sleep = inr (λ b. let z : _≡_ {A = ℕ} 0 1 = cc in omega arith)
+is-request Tick = inr (λ b. let z : _≡_ {A = ℕ} 0 1 = cc in omega arith)
+is-request AddTask = inr (λ b. let z : _≡_ {A = ℕ} 0 1 = cc in omega arith)
+is-request AddHub = inr (λ b. let z : _≡_ {A = ℕ} 0 1 = cc in omega arith)
+is-request Unknown = inr (λ b. let z : _≡_ {A = ℕ} 0 1 = cc in omega arith)
+
+-- P of those that turn met, where it holds of those that a hub request meets
+met-case : (P : State → List Request → Type 0) (key : ℕ → ℕ) (w : Service) (s : State) (rs : List Request) (c : Call) → Agree s rs → Valid s → refusalFor w s c ≡ 0
+    → (w ≡ HubRequest → Asked s c → P (settle key (verdict s c) s c) (metIn s c (verdict s c))) → ((s′ : State) → P s′ [])
+    → P (serve key w s c) (turned Class.met (serve key w s c) (opened (partOf w) s c rs))
+met-case P key w s rs c a g ok f z = by (is-request w)
+  where
+    nobody : w ≢ HubRequest → turned Class.met (serve key w s c) (opened (partOf w) s c rs) ≡ []
+    nobody n = each-none _ (turned-by key w s rs c a g ok Class.met (λ r. ⊥) (λ r e. n (unfold Reason in e)) (λ e o. n e))
+
+    request : Asked s c → P (settle key (verdict s c) s c) (metIn s c (verdict s c)) → P (serve key HubRequest s c) (turned Class.met (serve key HubRequest s c) (opened (partOf HubRequest) s c rs))
+    request t p =
+        unfold opened partOf serve in
+        rw (turned-settle key s c (t .run) rs a (verdict s c) _ (few s c) (partners s (g .listed) c)) p
+
+    by : (w ≡ HubRequest) ⊎ (w ≢ HubRequest) → P (serve key w s c) (turned Class.met (serve key w s c) (opened (partOf w) s c rs))
+    by (inl e) =
+        let t = request-tests s (g .listed) c (rw e at ok) in
+        rw e (request t (f e t))
+    by (inr n) = rw (nobody n) (z (serve key w s c))
+
+pub turned-met : (key : ℕ → ℕ) (w : Service) (s : State) (rs : List Request) (c : Call) → Agree s rs → Valid s → refusalFor w s c ≡ 0 → serviceOf (c .service) ≡ w
+    → Each (MetBy s (serve key w s c) c) (turned Class.met (serve key w s c) (opened (partOf w) s c rs))
+turned-met key w s rs c a g ok sv =
+    met-case (λ s′ l. Each (MetBy s s′ c) l) key w s rs c a g ok
+    (λ e t. met-row key s c (sv ∙ e) t (verdict s c) refl (few s c) (partners s (g .listed) c))
+    (λ s′. unfold Each in tt)
+
+pub one-met : (key : ℕ → ℕ) (w : Service) (s : State) (rs : List Request) (c : Call) → Agree s rs → Valid s → refusalFor w s c ≡ 0
+    → (h d : ℕ) → howMany (at h d) (turned Class.met (serve key w s c) (opened (partOf w) s c rs)) ≤ 1
+one-met key w s rs c a g ok h d =
+    met-case (λ s′ l. howMany (at h d) l ≤ 1) key w s rs c a g ok (λ e t. one-row s c h d (t .side) _ (verdict s c) (few s c)) (λ s′. omega (arith, none-at h d))

@@ -1,0 +1,84 @@
+-- What holds of a run's history after every call: its table is well formed, and its requests and hubs are in account with
+-- the state shown (`Sound`). From words to states by the rules' own promises (rules' Promise.antt); all else is of states.
+use Prim.Native.Nat.{suc, zero, ℕ}
+use Rattle.history.proofs.Account.{Account, account-blank, account-serve}
+use Rattle.history.proofs.Made.{Makes, makes-blank, makes-serve}
+use Rattle.history.specs.History.{History, begun, history, next, nextBy, shown, turnedBy}
+use Rattle.history.specs.Statements.{Begins}
+use Rattle.rules.proofs.After.{accepted, read-valid, well-formed-long}
+use Rattle.rules.proofs.Promise.{read-after, refused-leaves, well-formed-after}
+use Rattle.rules.proofs.Valid.{Valid}
+use Rattle.rules.specs.Calls.{blank, serve, served, serviceOf}
+use Rattle.rules.specs.Refusals.{isBlank, need, refusal, refusalFor, refusalOf}
+use Rattle.rules.specs.Reply.{tableAfter}
+use Rattle.rules.specs.Table.{one, size}
+use Rattle.rules.specs.WellFormed.{urgency, wellFormed}
+use Rattle.rules.specs.declared.Call.{Call}
+use borrow.Author.Tests.{eq-eqb}
+use lib.ListN.{length}
+use mathlib.Core.Bool.{or-true, true}
+use mathlib.Core.List.{List, [], _∷_}
+use mathlib.Core.Path.{_∙_, _≡_, refl}
+
+pub record Sound (x : History) : Type 0 where
+  pub formed : wellFormed (x .table) ≡ true
+  pub valid : Valid (shown (x .table))
+  pub account : Account (shown (x .table)) (x .requests) (x .met)
+  pub makes : Makes (shown (x .table)) (x .added)
+
+-- ---- a call, by its service on the state shown
+
+module _ (x : History) (g : Sound x) (c : Call) where
+  pub refusal-shown : refusalOf (x .table) c ≡ refusalFor (serviceOf (c .service)) (shown (x .table)) c
+  unfolding need refusal refusalOf
+  refusal-shown = rw (eq-eqb (length (x .table)) (size one) (well-formed-long (x .table) (g .formed)), g .formed, or-true (isBlank c)) refl
+
+module _ (x : History) (c : Call) (e : refusalOf (x .table) c ≡ 0) where
+  pub accepted-service : refusalFor (serviceOf (c .service)) (shown (x .table)) c ≡ 0
+  accepted-service = unfold refusal in accepted (x .table) c e .1
+
+  pub shown-next : shown (tableAfter (x .table) c) ≡ serve (urgency (shown (x .table))) (serviceOf (c .service)) (shown (x .table)) c
+  shown-next = unfold served in read-after (x .table) c e
+
+-- ---- from call to call
+
+sound-by : (n : ℕ) (x : History) (c : Call) → Sound x → refusalOf (x .table) c ≡ n → Sound (nextBy n x c)
+unfolding nextBy turnedBy
+sound-by zero x c g e = record {
+  formed = well-formed-after (x .table) c e;
+  valid = read-valid (tableAfter (x .table) c) (well-formed-after (x .table) c e);
+  account = rw (shown-next x c e) (account-serve _ (serviceOf (c .service)) (shown (x .table)) (x .requests) (x .met) c (g .account) (g .valid) (accepted-service x c e));
+  makes = rw (shown-next x c e) (makes-serve _ (serviceOf (c .service)) (shown (x .table)) c (x .added) (g .valid .listed) (accepted-service x c e) (g .makes));
+}
+sound-by (suc n) x c g e = record {
+  formed = rw (refused-leaves (x .table) c n e .0) (g .formed);
+  valid = rw (refused-leaves (x .table) c n e .0) (g .valid);
+  account = rw (refused-leaves (x .table) c n e .0) (g .account);
+  makes = rw (refused-leaves (x .table) c n e .0) (g .makes);
+}
+
+pub sound-next : (x : History) (c : Call) → Sound x → Sound (next x c)
+unfolding next
+sound-next x c g = sound-by (refusalOf (x .table) c) x c g refl
+
+sound-history : (x : History) (cs : List Call) → Sound x → Sound (history x cs)
+unfolding history
+sound-history x [] g = g
+sound-history x (c ∷ cs) g = sound-history (next x c) cs (sound-next x c g)
+
+-- ---- a run
+
+first-shown : (w : List ℕ) (b : Call) → Begins w b → shown (tableAfter w b) ≡ blank
+unfolding serve served
+first-shown w b g = read-after w b (g .accepted) ∙ rw (g .blank) refl
+
+pub sound-run : (w : List ℕ) (b : Call) → Begins w b → (cs : List Call) → Sound (history (begun (tableAfter w b)) cs)
+sound-run w b g cs = sound-history _ cs first
+  where
+    first : Sound (begun (tableAfter w b))
+    first = unfold begun in record {
+      formed = well-formed-after w b (g .accepted);
+      valid = read-valid (tableAfter w b) (well-formed-after w b (g .accepted));
+      account = rw (first-shown w b g) account-blank;
+      makes = rw (first-shown w b g) makes-blank;
+    }

@@ -1,0 +1,212 @@
+-- A run, and what became of each accepted hub request in it, read from the calls and the tables around them: definitions.
+-- In order: the classes; a request, and a request read again; the run so far, call by call; what is counted of it.
+-- Not here: what is promised of a run (Statements.antt), a run worked out (Worked.antt).
+use Prim.Native.Nat.{suc, zero, ℕ}
+use Rattle.rules.specs.Calls.{AddHub, AddTask, Blank, HubRequest, Resume, Service, Sleep, Start, Stop, Suspend, Tick, Unknown, Yield, kept, serviceOf}
+use Rattle.rules.specs.HubTable.{Verdict, fail, notNow}
+use Rattle.rules.specs.Refusals.{refusalOf}
+use Rattle.rules.specs.Reply.{tableAfter}
+use Rattle.rules.specs.Table.{Inactive, NoStage, Ready, Sleeping, Stage, State, Task, Waiting, hub, one, read, stageOf, task}
+use Rattle.rules.specs.declared.Call.{Call}
+use lib.Dec.{eqb}
+use lib.ListN.{getD, length}
+use mathlib.Core.Bool.{Bool, _&&_, cond}
+use mathlib.Core.List.{List, [], _++_, _∷_, map}
+
+-- ---- lists
+
+-- the entries that pass the test, and how many they are
+unfoldable pub those : {A : Type 0} → (A → Bool) → List A → List A
+those p [] = []
+those p (x ∷ xs) = cond (p x) (x ∷ those p xs) (those p xs)
+
+abbrev pub howMany : {A : Type 0} → (A → Bool) → List A → ℕ
+howMany p xs = length (those p xs)
+
+-- ---- the classes
+
+-- waiting, met, failed, timed out, withdrawn by Stop; unread where a table shows none of these
+pub data Class : Type 0 where
+  waiting met failed timedOut withdrawn unread : Class
+
+abbrev pub place : Class → ℕ
+place waiting = 0
+place met = 1
+place failed = 2
+place timedOut = 3
+place withdrawn = 4
+place unread = 5
+
+abbrev pub isClass : Class → Class → Bool
+isClass k k′ = eqb (place k) (place k′)
+
+-- the class that a task's record shows of the request it made last: by its state, and where it is ready by its answer
+unfoldable pub classBy : Stage → ℕ → Class
+classBy NoStage a = unread
+classBy Inactive a = withdrawn
+classBy Ready a = getD (unread ∷ met ∷ failed ∷ timedOut ∷ []) a unread
+classBy Waiting a = waiting
+classBy Sleeping a = unread
+
+unfoldable pub classOf : Task → Class
+classOf t = classBy (stageOf (t .state)) (t .answer)
+
+-- ---- a request
+
+-- what stands in a table of words
+abbrev pub shown : List ℕ → State
+shown t = read one t
+
+-- an accepted hub request: its task, hub and side, the word it puts (0 where it puts none), its class, the word received
+pub record Request : Type 0 where
+  pub task : ℕ
+  pub hub : ℕ
+  pub side : ℕ
+  pub word : ℕ
+  pub class : Class
+  pub received : ℕ
+
+-- as the call makes it: waiting, until the table after the call is read
+unfoldable pub asked : State → Call → Request
+asked s c = record {
+  task = c .caller;
+  hub = c .target;
+  side = c .side;
+  word = kept (hub s (c .target)) c;
+  class = waiting;
+  received = 0;
+}
+
+-- read from a table: its class and the word received are what its task's record shows
+unfoldable pub reread : State → Request → Request
+reread s r = record {
+  task = r .task;
+  hub = r .hub;
+  side = r .side;
+  word = r .word;
+  class = classOf (task s (r .task));
+  received = task s (r .task) .word;
+}
+
+abbrev pub isWaiting : Request → Bool
+isWaiting r = isClass waiting (r .class)
+
+abbrev pub isMet : Request → Bool
+isMet r = isClass met (r .class)
+
+-- what the hub table's row says of the caller's own request: "not now" under NW (mode 2) fails, else it waits
+unfoldable pub rowClass : Verdict → Call → Class
+rowClass (Verdict.met n ws x ms) c = met
+rowClass notNow c = cond (eqb (c .mode) 2) failed waiting
+rowClass fail c = failed
+
+-- only a request that is waiting is read again
+unfoldable pub again : State → Request → Request
+again s r = cond (isWaiting r) (reread s r) r
+
+-- of requests that are read again, those that were waiting and turn out as k
+abbrev pub turns : Class → State → Request → Bool
+turns k s r = isWaiting r && isClass k (classOf (task s (r .task)))
+
+unfoldable pub turned : Class → State → List Request → List Request
+turned k s rs = map (reread s) (those (turns k s) rs)
+
+-- ---- the run so far
+
+-- what an accepted call is to the requests: a new beginning, a request opened, a hub added, none of these
+pub data Part : Type 0 where
+  begins opens adds passes : Part
+
+unfoldable pub partOf : Service → Part
+partOf Blank = begins
+partOf HubRequest = opens
+partOf Start = passes
+partOf Stop = passes
+partOf Suspend = passes
+partOf Resume = passes
+partOf Yield = passes
+partOf Sleep = passes
+partOf Tick = passes
+partOf AddTask = passes
+partOf AddHub = adds
+partOf Unknown = passes
+
+-- the table as it stands; the accepted hub requests since the last Blank, in the order of the calls; those that are met, in
+-- the order of meeting; the accepted Add hub calls, in order: hub h is made by the one at place h
+pub record History : Type 0 where
+  pub table : List ℕ
+  pub requests : List Request
+  pub met : List Request
+  pub added : List Call
+
+-- a run's beginning: the table after an accepted Blank
+unfoldable pub begun : List ℕ → History
+begun t = record { table = t; requests = []; met = []; added = [] }
+
+-- the requests that the table after an accepted call is read for: with its own, where it opens one
+unfoldable pub opened : Part → State → Call → List Request → List Request
+opened begins s c rs = []
+opened opens s c rs = rs ++ asked s c ∷ []
+opened adds s c rs = rs
+opened passes s c rs = rs
+
+-- a Blank forgets
+unfoldable pub sinceBlank : {A : Type 0} → Part → List A → List A
+sinceBlank begins xs = []
+sinceBlank opens xs = xs
+sinceBlank adds xs = xs
+sinceBlank passes xs = xs
+
+unfoldable pub made : Part → Call → List Call → List Call
+made begins c cs = []
+made opens c cs = cs
+made adds c cs = cs ++ c ∷ []
+made passes c cs = cs
+
+-- those that call c turns into k, where t is the table before; by the refusal number, none where it is refused
+unfoldable pub turnedBy : ℕ → Class → List ℕ → Call → List Request → List Request
+turnedBy zero k t c rs = turned k (shown (tableAfter t c)) (opened (partOf (serviceOf (c .service))) (shown t) c rs)
+turnedBy (suc r) k t c rs = []
+
+unfoldable pub turnedTo : Class → History → Call → List Request
+turnedTo k x c = turnedBy (refusalOf (x .table) c) k (x .table) c (x .requests)
+
+-- one more call: by the refusal number, and its part where it is accepted; "every table is tableAfter of the one before"
+unfoldable pub nextBy : ℕ → History → Call → History
+nextBy zero x c = record {
+  table = tableAfter (x .table) c;
+  requests = map (again (shown (tableAfter (x .table) c))) (opened (partOf (serviceOf (c .service))) (shown (x .table)) c (x .requests));
+  met = sinceBlank (partOf (serviceOf (c .service))) (x .met) ++ turnedBy 0 met (x .table) c (x .requests);
+  added = made (partOf (serviceOf (c .service))) c (x .added);
+}
+nextBy (suc r) x c = record { table = tableAfter (x .table) c; requests = x .requests; met = x .met; added = x .added }
+
+unfoldable pub next : History → Call → History
+next x c = nextBy (refusalOf (x .table) c) x c
+
+-- any calls, in their order, refused ones included
+unfoldable pub history : History → List Call → History
+history x [] = x
+history x (c ∷ cs) = history (next x c) cs
+
+-- ---- what is counted of it
+
+-- the waiting requests of task i
+abbrev pub waitsBy : ℕ → Request → Bool
+waitsBy i r = isWaiting r && eqb (r .task) i
+
+-- of a side (1 put, 2 get) at a hub
+abbrev pub at : ℕ → ℕ → Request → Bool
+at h d r = eqb (r .hub) h && eqb (r .side) d
+
+-- how many requests of a side at a hub are met
+unfoldable pub metCount : ℕ → ℕ → List Request → ℕ
+metCount h d rs = howMany (λ r. at h d r && isMet r) rs
+
+-- the word that a met request passed on: the word put, or the word received
+abbrev pub passed : Request → ℕ
+passed r = cond (eqb (r .side) 1) (r .word) (r .received)
+
+-- the words of those of a side at a hub
+unfoldable pub wordsOf : ℕ → ℕ → List Request → List ℕ
+wordsOf h d rs = map passed (those (at h d) rs)

@@ -1,0 +1,177 @@
+-- Demand 3: what holds of every run. `Demand3` is the whole of it, a field for each sentence; `EachMet` and `OneEach` are
+-- consequences, said by themselves. The proofs are elsewhere: `demand3`, `each-met`, `one-each` of proofs/Promise.antt.
+-- A run: a Blank, accepted, on any 600 words (`Begins`), and then any calls, any seven numbers each, refused ones included;
+-- x is its history (History.antt), and x .table the table as it stands.
+use Prim.Native.Nat.{_+_, _<_, _≤_, suc, ℕ}
+use Rattle.history.specs.History.{History, Request, at, classOf, failed, history, howMany, isMet, met, metCount, next, rowClass, shown, timedOut, turnedTo, unread, waiting, waitsBy, withdrawn, wordsOf}
+use Rattle.lists.specs.Lists.{bit}
+use Rattle.rules.specs.Calls.{Blank, HubRequest, Stop, Tick, serviceOf}
+use Rattle.rules.specs.HubTable.{Meeting, Verdict, verdict}
+use Rattle.rules.specs.Lists.{firstWaiting}
+use Rattle.rules.specs.Refusals.{WT, modeOf, refusalOf}
+use Rattle.rules.specs.Reply.{tableAfter}
+use Rattle.rules.specs.Table.{Event, Fifo, Hub, Port, Semaphore, State, hub, kindOf, task}
+use Rattle.rules.specs.WellFormed.{wellFormed}
+use Rattle.rules.specs.declared.Call.{Call}
+use lib.Dec.{eqb}
+use lib.ListN.{getD, length}
+use mathlib.Core.Bool.{Bool, _&&_, true}
+use mathlib.Core.List.{List, [], _++_, _∷_}
+use mathlib.Core.Logic.{_≢_, _⊎_}
+use mathlib.Core.Option.{some}
+use mathlib.Core.Path.{_≡_}
+
+-- ---- the words of the statements
+
+-- P of each entry
+unfoldable pub Each : {A : Type 0} → (A → Type 0) → List A → Type 0
+Each P [] = Unit {0}
+Each P (x ∷ xs) = P x × Each P xs
+
+-- an accepted Blank (on 600 words: on any other length it is refused)
+pub record Begins (w : List ℕ) (b : Call) : Type 0 where
+  pub blank : serviceOf (b .service) ≡ Blank
+  pub accepted : refusalOf w b ≡ 0
+
+-- no Blank among the calls
+abbrev pub NoBlank : List Call → Type 0
+NoBlank ds = Each (λ d. serviceOf (d .service) ≢ Blank) ds
+
+-- how many Ticks are among the calls
+abbrev pub ticksIn : List Call → ℕ
+ticksIn ds = howMany (λ d. eqb (d .service) 8) ds
+
+-- the task's record shows the request: state 3, its hub, its side, its word
+pub record Stands (s : State) (r : Request) : Type 0 where
+  pub state : task s (r .task) .state ≡ 3
+  pub hub : task s (r .task) .hub ≡ suc (r .hub)
+  pub side : task s (r .task) .side ≡ r .side
+  pub word : task s (r .task) .word ≡ r .word
+
+-- the same request, later: task, hub, side and word stay, and once out of waiting all of it does
+pub record Follows (r r′ : Request) : Type 0 where
+  pub task : r′ .task ≡ r .task
+  pub hub : r′ .hub ≡ r .hub
+  pub side : r′ .side ≡ r .side
+  pub word : r′ .word ≡ r .word
+  pub settled : r .class ≢ waiting → r′ ≡ r
+
+-- each request of the first list, in its place in the second, later; further ones may stand behind
+unfoldable pub Continues : List Request → List Request → Type 0
+Continues [] all = Unit {0}
+Continues (r ∷ rs) [] = ⊥
+Continues (r ∷ rs) (r′ ∷ all) = Follows r r′ × Continues rs all
+
+-- a hub as its Add hub call said: "target is kind, ticks the limit, word the start"
+pub record MadeBy (c : Call) (h : Hub) : Type 0 where
+  pub kind : h .kind ≡ c .target
+  pub limit : h .limit ≡ c .ticks
+  pub start : h .start ≡ c .word
+
+-- what is read where no call, or no request, stands at a place: a request that is missing counts as waiting
+unfoldable pub noCall : Call
+noCall = record { service = 0; caller = 0; target = 0; side = 0; mode = 0; ticks = 0; word = 0 }
+
+unfoldable pub noRequest : Request
+noRequest = record { task = 0; hub = 0; side = 0; word = 0; class = waiting; received = 0 }
+
+-- the Add hub call that made hub h; the request at place n
+abbrev pub addedAs : History → ℕ → Call
+addedAs x h = getD (x .added) h noCall
+
+abbrev pub requestAt : History → ℕ → Request
+requestAt x n = getD (x .requests) n noRequest
+
+-- r is the request that call c itself opens
+pub record Own (c : Call) (r : Request) : Type 0 where
+  pub service : serviceOf (c .service) ≡ HubRequest
+  pub task : r .task ≡ c .caller
+  pub hub : r .hub ≡ c .target
+  pub side : r .side ≡ c .side
+
+-- the caller's own request, met by the hub table's row for it, with s before the call and s′ after it
+pub record ByRow (s s′ : State) (c : Call) (r : Request) : Type 0 where
+  pub count : ℕ
+  pub held : List ℕ
+  pub waiters : List Meeting
+  pub own : Own c r
+  -- the row says met, and the word received is the row's
+  pub row : verdict s c ≡ Verdict.met count held (r .received) waiters
+  -- the hub's own count and store are the row's afterwards
+  pub counts : hub s′ (c .target) .count ≡ count
+  pub holds : hub s′ (c .target) .held ≡ held
+  -- and whoever the row names is met in the same call
+  pub others : Each (λ m. classOf (task s′ (m .waiter)) ≡ met) waiters
+
+-- the first waiter of the other side (of 1 and 2) at the caller's hub, the caller's request being met too
+pub record ByCaller (s s′ : State) (c : Call) (r : Request) : Type 0 where
+  pub service : serviceOf (c .service) ≡ HubRequest
+  pub place : r .hub ≡ c .target
+  pub sides : r .side + c .side ≡ 3
+  pub first : firstWaiting s (r .side) (hub s (c .target) .waiters) ≡ some (r .task)
+  pub caller : classOf (task s′ (c .caller)) ≡ met
+
+-- who met r in call c
+pub data MetBy (s s′ : State) (c : Call) (r : Request) : Type 0 where
+  itself : ByRow s s′ c r → MetBy s s′ c r
+  partner : ByCaller s s′ c r → MetBy s s′ c r
+
+-- ---- demand 3
+
+pub record Demand3 (x : History) : Type 0 where
+  -- every accepted hub request is in one of the five classes: none is ever unread
+  pub read : Each (λ r. r .class ≢ unread) (x .requests)
+  -- those waiting are exactly the tasks in state 3, one request each
+  pub waits : (i : ℕ) → howMany (waitsBy i) (x .requests) ≡ bit (eqb (task (shown (x .table)) i .state) 3)
+  -- and a waiting request is what its task's record shows
+  pub stands : Each (λ r. r .class ≡ waiting → Stands (shown (x .table)) r) (x .requests)
+  -- `met` is the met requests, in order of meeting: of any sort it has as many as there are among all requests
+  pub meetings : (p : Request → Bool) → howMany p (x .met) ≡ howMany (λ r. p r && isMet r) (x .requests)
+  -- once out of waiting a request never changes, whatever is called, until a Blank
+  pub settled : (ds : List Call) → NoBlank ds → Continues (x .requests) (history x ds .requests)
+  -- each hub is as its Add hub call made it: kind, limit and start
+  pub hubs : (h : ℕ) → h < length (shown (x .table) .hubs) → MadeBy (addedAs x h) (hub (shown (x .table)) h)
+  -- Semaphore: the start given to Add hub, plus the met puts, is the count held plus the met gets
+  pub semaphore : (h : ℕ) → kindOf (hub (shown (x .table)) h .kind) ≡ Semaphore
+      → addedAs x h .word + metCount h 1 (x .requests) ≡ hub (shown (x .table)) h .count + metCount h 2 (x .requests)
+  -- Event: likewise, with start 0
+  pub event : (h : ℕ) → kindOf (hub (shown (x .table)) h .kind) ≡ Event
+      → metCount h 1 (x .requests) ≡ hub (shown (x .table)) h .count + metCount h 2 (x .requests)
+  -- FIFO: the words of met puts, in order of meeting, are the words of met gets, then the words held
+  pub fifo : (h : ℕ) → kindOf (hub (shown (x .table)) h .kind) ≡ Fifo
+      → wordsOf h 1 (x .met) ≡ wordsOf h 2 (x .met) ++ hub (shown (x .table)) h .held
+  -- Port: the words of met puts, in order of meeting, are the words of met gets
+  pub port : (h : ℕ) → kindOf (hub (shown (x .table)) h .kind) ≡ Port → wordsOf h 1 (x .met) ≡ wordsOf h 2 (x .met)
+  -- a request is met, fails or waits as the hub table's row for it says: call c opens it, and it takes the next place
+  pub own : (c : Call) → serviceOf (c .service) ≡ HubRequest → refusalOf (x .table) c ≡ 0
+      → requestAt (next x c) (length (x .requests)) .class ≡ rowClass (verdict (shown (x .table)) c) c
+  -- a request that came back is never met unless somebody, or the hub's own count or store, met it: whoever turns met in a
+  -- call is its caller, by the hub table's row, or the first waiter of the other side at its hub, the caller being met too
+  pub metMeansMet : (c : Call) → Each (MetBy (shown (x .table)) (shown (tableAfter (x .table) c)) c) (turnedTo met x c)
+  -- a request fails in its own call only, times out in a Tick only, is withdrawn by a Stop of its task only
+  pub fails : (c : Call) → Each (Own c) (turnedTo failed x c)
+  pub timesOut : (c : Call) → Each (λ r. serviceOf (c .service) ≡ Tick) (turnedTo timedOut x c)
+  pub isWithdrawn : (c : Call) → Each (λ r. (serviceOf (c .service) ≡ Stop) × (r .task ≡ c .target)) (turnedTo withdrawn x c)
+  -- "a request under WT with t ticks is out of waiting by the t-th accepted Tick after it": c opens it
+  pub bound : (c : Call) (ds : List Call) → serviceOf (c .service) ≡ HubRequest → refusalOf (x .table) c ≡ 0 → modeOf (c .mode) ≡ WT
+      → NoBlank ds → c .ticks ≤ ticksIn ds → requestAt (history x (c ∷ ds)) (length (x .requests)) .class ≢ waiting
+  -- the table stays well formed: refusal 2 never comes in a run
+  pub formed : wellFormed (x .table) ≡ true
+  pub neverTwo : (c : Call) → refusalOf (x .table) c ≢ 2
+  -- every Blank and every Tick of a run is accepted, so that counting them is counting the accepted ones
+  pub blanks : (c : Call) → serviceOf (c .service) ≡ Blank → refusalOf (x .table) c ≡ 0
+  pub ticks : (c : Call) → serviceOf (c .service) ≡ Tick → refusalOf (x .table) c ≡ 0
+
+-- r is met in one of the calls after x
+unfoldable pub MetIn : History → List Call → Request → Type 0
+MetIn x [] r = ⊥
+MetIn x (c ∷ cs) r = MetBy (shown (x .table)) (shown (tableAfter (x .table) c)) c r ⊎ MetIn (next x c) cs r
+
+-- The shift leader's sentence, over a whole run, which begins at x: whatever request is met, one of the run's calls met it.
+abbrev pub EachMet : History → List Call → Type 0
+EachMet x cs = Each (λ r. r .class ≡ met → MetIn x cs r) (history x cs .requests)
+
+-- One call meets at most one put and one get of a FIFO. Nothing above leans on it.
+abbrev pub OneEach : History → Type 0
+OneEach x =
+    (c : Call) (h d : ℕ) → kindOf (hub (shown (x .table)) h .kind) ≡ Fifo → howMany (at h d) (turnedTo met x c) ≤ 1

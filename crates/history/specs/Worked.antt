@@ -1,0 +1,106 @@
+-- Two runs worked out over the tables themselves, by computation: the marked calls of document 01, and one with a Stop.
+-- A line for each call behind the Blank, a line for each request that the calls opened; refused calls open none.
+use Prim.Native.Nat.{ℕ}
+use Rattle.history.specs.History.{Class, History, Request, again, asked, begun, classBy, classOf, failed, history, made, met, metCount, next, nextBy, opened, partOf, reread, shown, sinceBlank, those, timedOut, turned, turnedBy, turnedTo, waiting, withdrawn, wordsOf}
+use Rattle.lists.specs.Lists.{allZero, entries, insert, numbers, occ, packed, padded, without}
+use Rattle.rules.specs.Calls.{addHub, addStarted, addTask, blank, flag, grant, hold, kept, meetAll, newHub, serve, served, serviceOf, settle, slept, start, stop, tickAll, tickBy, tickOne, wait, yielded}
+use Rattle.rules.specs.HubTable.{getEvent, getFifo, getPort, getResource, getSemaphore, onGet, onPut, onSide, pass, putEvent, putFifo, putPort, putResource, putSemaphore, verdict}
+use Rattle.rules.specs.Lists.{answer, answered, asleep, counted, firstFree, firstWaiting, flagged, holding, joinHub, joinReady, leave, queued, readied, unqueue, waits, wake}
+use Rattle.rules.specs.Lists.{next as running}
+use Rattle.rules.specs.Refusals.{byRunning, goodHub, goodWait, modeOf, need, onTask, refusal, refusalFor, refusalOf}
+use Rattle.rules.specs.Reply.{tableAfter, tableBy}
+use Rattle.rules.specs.Table.{contents, heldIn, hub, hubAt, inactive, kindOf, noHub, read, rows, setHub, setReady, setTask, sideOf, stageOf, tab, taskAt, words}
+use Rattle.rules.specs.WellFormed.{bearsWord, contentsRight, every, exactly, fieldsRight, forAll, hubsRight, inOrder, kindRight, listsExact, listsPacked, mayWait, oneSide, rising, stageRight, storeRight, storesRight, tasksRight, unusedZero, valid, waitersRight, wellFormed, written}
+use Rattle.rules.specs.declared.Call.{Call}
+use lib.ListN.{replicate}
+use mathlib.Core.List.{List, [], _∷_}
+use mathlib.Core.Path.{_≡_, refl}
+
+abbrev pub call : ℕ → ℕ → ℕ → ℕ → ℕ → ℕ → ℕ → Call
+call sv ca ta si mo ti wo = record { service = sv; caller = ca; target = ta; side = si; mode = mo; ticks = ti; word = wo }
+
+abbrev pub row : ℕ → ℕ → ℕ → ℕ → Class → ℕ → Request
+row i h d w k x = record { task = i; hub = h; side = d; word = w; class = k; received = x }
+
+-- a Blank on a table of zeros, and then the calls
+unfoldable pub run : List Call → History
+run cs = history (begun (tableAfter (replicate 600 0) (call 0 0 0 0 0 0 0))) cs
+
+-- what is seen of it: its requests; the words of met puts and of met gets at hub 0, its count and the words it holds
+pub record Seen : Type 0 where
+  pub requests : List Request
+  pub puts : List ℕ
+  pub gets : List ℕ
+  pub count : ℕ
+  pub held : List ℕ
+
+unfoldable pub seen : History → Seen
+seen x = record {
+  requests = x .requests;
+  puts = wordsOf 0 1 (x .met);
+  gets = wordsOf 0 2 (x .met);
+  count = hub (shown (x .table)) 0 .count;
+  held = hub (shown (x .table)) 0 .held;
+}
+
+-- the marked calls behind the Blank
+unfoldable pub marked : List Call
+marked =
+    call 9 0 5 1 0 0 0  -- task 0, priority 5, started
+    ∷ call 9 0 3 1 0 0 0  -- task 1, priority 3, started: it runs
+    ∷ call 10 0 4 0 0 1 0  -- hub 0, a FIFO of one word
+    ∷ call 1 1 0 2 3 2 0  -- task 1 gets under WT, two ticks: it waits
+    ∷ call 1 0 0 1 1 0 77  -- task 0 puts 77: both are met
+    ∷ call 1 0 0 1 1 0 5  -- refused with 4: task 1 runs
+    ∷ call 1 1 0 1 2 0 9  -- task 1 puts 9: met by the store
+    ∷ call 1 1 0 1 2 0 10  -- puts 10 under NW, the FIFO is full: failed
+    ∷ call 1 1 0 1 3 1 10  -- puts 10 under WT, one tick: it waits
+    ∷ call 8 0 0 0 0 0 0  -- and times out
+    ∷ []
+
+-- a Semaphore of start 1, a task stopped while it waits, another left waiting
+unfoldable pub stopped : List Call
+stopped =
+    call 9 0 1 1 0 0 0  -- task 0, priority 1, started
+    ∷ call 9 0 2 1 0 0 0  -- task 1, priority 2, started
+    ∷ call 10 0 2 0 0 2 1  -- hub 0, a Semaphore of limit 2, start 1
+    ∷ call 1 0 0 2 1 0 0  -- task 0 gets: met by the count
+    ∷ call 1 0 0 2 1 0 0  -- gets again: it waits
+    ∷ call 3 1 0 0 0 0 0  -- task 1 stops task 0: withdrawn
+    ∷ call 1 1 0 1 1 0 8  -- task 1 puts: met by the count; the word 8 is not kept
+    ∷ call 1 1 0 2 1 0 0  -- gets: met by the count
+    ∷ call 1 1 0 2 1 0 0  -- gets again: it waits
+    ∷ []
+
+--       task hub side word class received
+pub worked : (
+    seen (run marked) ≡ record {
+      requests =
+          row 1 0 2 0 met 77
+          ∷ row 0 0 1 77 met 0
+          ∷ row 1 0 1 9 met 0
+          ∷ row 1 0 1 10 failed 0
+          ∷ row 1 0 1 10 timedOut 0
+          ∷ [];
+      puts = 77 ∷ 9 ∷ [];
+      gets = 77 ∷ [];
+      count = 1;
+      held = 9 ∷ [];
+    }
+    ) × (
+    seen (run stopped) ≡ record {
+      requests =
+          row 0 0 2 0 met 0
+          ∷ row 0 0 2 0 withdrawn 0
+          ∷ row 1 0 1 0 met 0
+          ∷ row 1 0 2 0 met 0
+          ∷ row 1 0 2 0 waiting 0
+          ∷ [];
+      puts = 0 ∷ [];
+      gets = 0 ∷ 0 ∷ [];
+      count = 0;
+      held = [];
+    }
+    )
+unfolding addHub addStarted addTask again allZero answer answered asked asleep bearsWord begun blank byRunning classBy classOf contents contentsRight counted entries every exactly fieldsRight firstFree firstWaiting flag flagged forAll getEvent getFifo getPort getResource getSemaphore goodHub goodWait grant heldIn history hold holding hubAt hubsRight inOrder inactive insert joinHub joinReady kept kindOf kindRight leave listsExact listsPacked made marked mayWait meetAll metCount modeOf need newHub next nextBy noHub numbers occ onGet onPut onSide onTask oneSide opened packed padded partOf pass putEvent putFifo putPort putResource putSemaphore queued read readied refusal refusalFor refusalOf reread rising rows run running seen serve served serviceOf setHub setReady setTask settle sideOf sinceBlank slept stageOf stageRight start stop stopped storeRight storesRight tab tableAfter tableBy taskAt tasksRight those tickAll tickBy tickOne turned turnedBy turnedTo unqueue unusedZero valid verdict wait waitersRight waits wake wellFormed without words wordsOf written yielded
+worked = (refl, refl)

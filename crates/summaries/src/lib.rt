@@ -1,0 +1,81 @@
+// "Hub summary: given a table and a hub, one word with bit i set when task i waits there, and the number of set bits as
+// count. Refused with 1, 2 or 5, then both are 0." Any words, any length, any hub number; the table is only read.
+use refusals::FoundHub;
+use rules::Summary;
+ghost use Prim.Native.Nat.{_<_, _≤_};
+ghost use Rattle.lists.specs.Lists.{numbers, packed};
+ghost use Rattle.rules.specs.Reply.{summaryOf};
+ghost use Rattle.summaries.specs.Mask.{bitOf, maskOf, refusedWith};
+ghost use mathlib.Core.Bool.{true};
+ghost use mathlib.Core.Path.{_≡_};
+
+// "The table is a lent slice of exactly 600 words"
+const TABLE_SIZE: usize = 600;
+
+// "216 to 471: 16 waiting lists of 16 words, one per hub"
+const WAITS_AT: usize = 216;
+
+const LIST_SIZE: usize = 16;
+
+// The refusal numbers of a summary.
+const WRONG_LENGTH: u32 = 1;
+
+const NOT_WELL_FORMED: u32 = 2;
+
+const NOT_IN_USE: u32 = 5;
+
+// "then both are 0"
+fn refused(number: u32) -> Summary
+    ensures { λ r. ⌜ r ≡ refusedWith number ⌝ }
+{
+    Summary {
+        refusal: number,
+        mask: 0,
+        count: 0,
+    }
+}
+
+// The bit of an entry's task. An entry is a task number plus 1, and an empty one, 0, has no bit.
+fn bit_of(entry: u32) -> u32
+    requires { ⌜ entry ≤ 16 ⌝ }
+    ensures { λ r. ⌜ r ≡ bitOf entry ⌝ }
+{
+    (1 << entry) >> 1
+}
+
+// The bits of the tasks of a list: entries, then zeros.
+fn mask_of(list: &[u32]) -> u32
+    requires { ⌜ packed (now list) ≡ true ⌝ }
+    requires { ⌜ maskOf (numbers (now list)) < 65536 ⌝ }
+    ensures { λ r. ⌜ r ≡ maskOf (numbers (now (list .entry))) ⌝ }
+{
+    let mut mask = 0;
+    let mut k = 0;
+    while k < list.len() {
+        mask += bit_of(list[k]);
+        k += 1;
+    }
+    mask
+}
+
+pub fn summarise(t: &[u32], hub: u32) -> Summary
+    ensures { λ r. ⌜ r ≡ summaryOf (now (t .entry)) hub ⌝ }
+{
+    if t.len() != TABLE_SIZE {
+        return refused(WRONG_LENGTH);
+    }
+    if !wellformed::well_formed(t) {
+        return refused(NOT_WELL_FORMED);
+    }
+    let found = refusals::find_hub(t, hub);
+    let FoundHub::InUse(h) = found else {
+        return refused(NOT_IN_USE);
+    };
+    let at = WAITS_AT + h.0 * LIST_SIZE;
+    let mask = mask_of(&t[at..at + LIST_SIZE]);
+    Summary {
+        refusal: 0,
+        mask: mask,
+        count: u32::count_ones(mask),
+    }
+}

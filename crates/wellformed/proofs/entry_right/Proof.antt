@@ -1,0 +1,69 @@
+-- `wellformed::entry_right` meets its contract: the task's words are read once its number is known to be in use.
+-- Assumes nothing.
+use Rattle.wellformed.proofs.Turns.{meets-far, meets-words}
+use Rattle.wellformed.proofs.entry_right.Statement.{statement}
+use Rattle.wellformed.proofs.entry_right.Tie as tie
+use borrow.Author.Needs.{needs}
+use mathlib.Core.Path.{sym}
+use native.Mathlib.Omega.{arith}
+
+shared-slice-read-if1 : tie.Need-shared-slice-read-if1
+shared-slice-read-if1 c = search needs
+
+returns : tie.Need-returns
+returns c =
+    let a = c .before .before .args in sym (meets-far (a .t .now) (a .hub) (a .side) (a .owner) (a .last) (a .e) (c .if1 .taken))
+
+mul-b : tie.Need-mul-b
+mul-b c = search needs
+
+add-result : tie.Need-add-result
+add-result c = search needs
+
+mul-result : tie.Need-mul-result
+mul-result c = search needs
+
+shared-slice-read-result : tie.Need-shared-slice-read-result
+shared-slice-read-result c = search needs
+
+add-result-2 : tie.Need-add-result-2
+add-result-2 c = search needs
+
+mul-result-2 : tie.Need-mul-result-2
+mul-result-2 c = search needs
+
+shared-slice-read-result-2 : tie.Need-shared-slice-read-result-2
+shared-slice-read-result-2 c = search needs
+
+add-result-3 : tie.Need-add-result-3
+add-result-3 c = search needs
+
+mul-result-3 : tie.Need-mul-result-3
+mul-result-3 c = search needs
+
+shared-slice-read-result-3 : tie.Need-shared-slice-read-result-3
+shared-slice-read-result-3 c = search needs
+
+returns-2 : tie.Need-returns-2
+returns-2 c =
+    let b = c .before .before .before .before .before in
+    let a = b .args in
+    sym (meets-words (a .t .now) (a .e) (λ z. omega (arith, b .pre .1)) (c .before .before .before .if1 .left) (a .hub) (a .side) (a .owner) (a .last))
+
+pub entry-right-spec : {M : Type 1} → statement M
+entry-right-spec =
+    tie.close
+    (tie.spec
+    shared-slice-read-if1
+    returns
+    mul-b
+    add-result
+    mul-result
+    shared-slice-read-result
+    add-result-2
+    mul-result-2
+    shared-slice-read-result-2
+    add-result-3
+    mul-result-3
+    shared-slice-read-result-3
+    returns-2)

@@ -1,0 +1,230 @@
+/* The hub kernel for C and C++ hosts: two functions over a table of 2,400 bytes.
+ *
+ *     uint8_t table[HUB_KERNEL_TABLE_BYTES];
+ *     hub_kernel_call(table, sizeof table, HUB_KERNEL_BLANK, 0, 0, 0, 0, 0, 0);
+ *
+ * Link with libpanel.a (`rt staticlib panel` writes target/staticlib/libpanel.a, for
+ * x86-64 Linux). It exports the two functions below and uses nothing but the C
+ * library's memcpy, memmove and memset.
+ *
+ * THE TABLE is 600 words of 32 bits, each as four bytes, the least first, whatever
+ * the machine. The table may stand at any address; no alignment is asked for.
+ *
+ *   words       bytes          holds
+ *   0 to 7      0 to 31        contents: edition 1, tasks T, hubs H, then 8, 136, 200, 216, 472
+ *   8 to 135    32 to 543      16 task records of 8 words
+ *   136 to 199  544 to 799     16 hub records of 4 words
+ *   200 to 215  800 to 863     ready list
+ *   216 to 471  864 to 1887    16 waiting lists of 16 words, one per hub
+ *   472 to 599  1888 to 2399   16 stores of 8 words, one per hub
+ *
+ * Tasks are numbered 0 to T - 1 and hubs 0 to H - 1, at most 16 of each, in the order
+ * in which they were added. A list holds task number plus 1 per entry. Everything
+ * unused is 0. Any bytes may be handed in: a table that isn't well formed is refusal 2.
+ *
+ * OWNERSHIP. The host owns the table and lends it for one call. The kernel keeps
+ * nothing between calls: no globals, no allocation, no system call. Two tables are two
+ * kernels; calls on different tables may run at the same time in different threads.
+ *
+ * A CALL gives back refusal, answer and next, and the bytes afterwards are the words
+ * after the call, all four bytes of each. A refused call has answer 0 and next 0, and
+ * writes no byte. `next` is the running task plus 1, or 0 if no task can run.
+ *
+ *   no. service        caller  target    side           mode  ticks       word
+ *   0   Blank
+ *   1   Hub request    task    hub       1 put, 2 get   1..3  under WT    for a put
+ *   2   Start          task    task
+ *   3   Stop           task    task
+ *   4   Suspend        task    task
+ *   5   Resume         task    task
+ *   6   Yield          task
+ *   7   Sleep          task                                   1..1000000
+ *   8   Tick
+ *   9   Add task               priority  1 starts it
+ *   10  Add hub                kind                           limit       start
+ *
+ * A number that a service doesn't name is ignored. The caller of services 1 to 7 must be
+ * the running task, the one that `next` of the call before named.
+ *
+ *   answer 0  nothing yet: the caller waits or sleeps (and always 0 for 0, 8, 9 and 10)
+ *   answer 1  OK: the request was met, the service done
+ *   answer 2  FAIL: not now under NW, a Resource that refuses, or a condition that
+ *             doesn't hold
+ *
+ * A STEP THAT CAME BACK IS NOT A STEP THAT WAS MET. A caller that waits gets its answer
+ * later, in the answer word of its own record, when another call meets it (1) or when a
+ * Tick ends its wait (3, TO). No call returns 3. So a host that resumes a task after
+ * answer 0 reads the task's answer word, at
+ *     HUB_KERNEL_TASKS_AT + HUB_KERNEL_TASK_BYTES * task + HUB_KERNEL_TASK_ANSWER
+ * and its state word beside it: state 3 is still waiting, state 2 with answer 1 is met,
+ * 2 failed, 3 timed out. The word received stands at HUB_KERNEL_TASK_WORD.
+ *
+ * REFUSALS, tested in this order:
+ *
+ *   1  the length isn't 2,400 bytes
+ *   2  the table isn't well formed (never for Blank)
+ *   3  service above 10
+ *   4  services 1 to 7: caller isn't the running task
+ *   5  service 1 and the summary: hub not in use; 2 to 5: task not in use
+ *   6  service 1: side not 1 or 2, mode not 1 to 3, ticks not 0 under W or NW, ticks
+ *      outside 1 to 1,000,000 under WT. Service 7: ticks outside that range. Service 9:
+ *      priority above 255 or side above 1. Service 10: kind not 1 to 5, limit or start
+ *      outside the table below
+ *   7  service 9 or 10 with 16 already
+ *
+ *   kind         count                       limit          start
+ *   1 Event      0 or 1                      1              0
+ *   2 Semaphore  0 to limit                  1 to 65,535    0 to limit
+ *   3 Port       0                           0              0
+ *   4 FIFO       words held, 0 to limit      1 to 8         0
+ *   5 Resource   0 free, else owner plus 1   1              0
+ *
+ * PROVED, for every length and every content of the table and every seven numbers: the
+ * call returns, reads and writes nothing but the table, and its reply and every byte
+ * afterwards are those of the rules (crate panel, `hub_kernel_call` and
+ * `hub_kernel_summary`, whose contracts have no condition). The tables after any run of
+ * calls from a Blank stay well formed, so refusal 2 never comes there.
+ *
+ * ASSUMED: the prover and the compiler of Rattle, with LLVM behind it; and of the host,
+ * that `table` isn't NULL (not even for 0 bytes), points to `bytes` bytes that it may
+ * read (and for hub_kernel_call write), and that nothing else reads or writes them until
+ * the call has returned. About 3 kB of stack are used.
+ */
+#ifndef HUB_KERNEL_H
+#define HUB_KERNEL_H
+
+#include <stddef.h>
+#include <stdint.h>
+
+#ifdef __cplusplus
+extern "C" {
+#endif
+
+/* Sizes, and places in bytes from the start of the table. */
+enum {
+    HUB_KERNEL_TABLE_WORDS = 600,
+    HUB_KERNEL_TABLE_BYTES = 2400,
+    HUB_KERNEL_TASKS = 16,
+    HUB_KERNEL_HUBS = 16,
+    HUB_KERNEL_TASKS_AT = 32,
+    HUB_KERNEL_TASK_BYTES = 32,
+    HUB_KERNEL_HUBS_AT = 544,
+    HUB_KERNEL_HUB_BYTES = 16,
+    HUB_KERNEL_READY_AT = 800,
+    HUB_KERNEL_WAITING_AT = 864,
+    HUB_KERNEL_LIST_BYTES = 64,
+    HUB_KERNEL_STORES_AT = 1888,
+    HUB_KERNEL_STORE_BYTES = 32
+};
+
+/* A task record's words, in bytes from its start. */
+enum {
+    HUB_KERNEL_TASK_STATE = 0,
+    HUB_KERNEL_TASK_SUSPENDED = 4,
+    HUB_KERNEL_TASK_PRIORITY = 8,
+    HUB_KERNEL_TASK_HUB = 12,
+    HUB_KERNEL_TASK_TICKS = 16,
+    HUB_KERNEL_TASK_SIDE = 20,
+    HUB_KERNEL_TASK_WORD = 24,
+    HUB_KERNEL_TASK_ANSWER = 28
+};
+
+/* A hub record's words, in bytes from its start. */
+enum {
+    HUB_KERNEL_HUB_KIND = 0,
+    HUB_KERNEL_HUB_COUNT = 4,
+    HUB_KERNEL_HUB_LIMIT = 8,
+    HUB_KERNEL_HUB_START = 12
+};
+
+/* Services. */
+enum {
+    HUB_KERNEL_BLANK = 0,
+    HUB_KERNEL_HUB_REQUEST = 1,
+    HUB_KERNEL_START = 2,
+    HUB_KERNEL_STOP = 3,
+    HUB_KERNEL_SUSPEND = 4,
+    HUB_KERNEL_RESUME = 5,
+    HUB_KERNEL_YIELD = 6,
+    HUB_KERNEL_SLEEP = 7,
+    HUB_KERNEL_TICK = 8,
+    HUB_KERNEL_ADD_TASK = 9,
+    HUB_KERNEL_ADD_HUB = 10
+};
+
+/* States of a task. */
+enum {
+    HUB_KERNEL_INACTIVE = 1,
+    HUB_KERNEL_READY = 2,
+    HUB_KERNEL_WAITING = 3,
+    HUB_KERNEL_SLEEPING = 4
+};
+
+/* Sides of a hub request; a task that isn't waiting at a hub has side 0. */
+enum { HUB_KERNEL_PUT = 1, HUB_KERNEL_GET = 2 };
+
+/* Modes of a hub request: wait, don't wait, wait for some ticks. */
+enum { HUB_KERNEL_W = 1, HUB_KERNEL_NW = 2, HUB_KERNEL_WT = 3 };
+
+/* Kinds of hub. */
+enum {
+    HUB_KERNEL_EVENT = 1,
+    HUB_KERNEL_SEMAPHORE = 2,
+    HUB_KERNEL_PORT = 3,
+    HUB_KERNEL_FIFO = 4,
+    HUB_KERNEL_RESOURCE = 5
+};
+
+/* Answers. TO stands in a task's record only: no call returns it. */
+enum {
+    HUB_KERNEL_NOTHING_YET = 0,
+    HUB_KERNEL_OK = 1,
+    HUB_KERNEL_FAIL = 2,
+    HUB_KERNEL_TO = 3
+};
+
+/* Refusals. */
+enum {
+    HUB_KERNEL_ACCEPTED = 0,
+    HUB_KERNEL_BAD_LENGTH = 1,
+    HUB_KERNEL_NOT_WELL_FORMED = 2,
+    HUB_KERNEL_NO_SUCH_SERVICE = 3,
+    HUB_KERNEL_NOT_RUNNING = 4,
+    HUB_KERNEL_NOT_IN_USE = 5,
+    HUB_KERNEL_BAD_ARGUMENT = 6,
+    HUB_KERNEL_TABLE_FULL = 7
+};
+
+/* Largest numbers. */
+enum {
+    HUB_KERNEL_PRIORITY_MAX = 255,
+    HUB_KERNEL_TICKS_MAX = 1000000,
+    HUB_KERNEL_SEMAPHORE_MAX = 65535,
+    HUB_KERNEL_FIFO_MAX = 8
+};
+
+typedef struct hub_kernel_reply {
+    uint32_t refusal; /* 0 accepted, else 1 to 7 */
+    uint32_t answer;  /* 0 nothing yet, 1 OK, 2 FAIL */
+    uint32_t next;    /* the running task plus 1, or 0 */
+} hub_kernel_reply;
+
+/* One call on the table of `bytes` bytes. */
+hub_kernel_reply hub_kernel_call(uint8_t *table, size_t bytes, uint32_t service, uint32_t caller,
+                                 uint32_t target, uint32_t side, uint32_t mode, uint32_t ticks,
+                                 uint32_t word);
+
+typedef struct hub_kernel_summary_reply {
+    uint32_t refusal; /* 0 accepted, else 1, 2 or 5; then mask and count are 0 */
+    uint32_t mask;    /* bit i set: task i waits at the hub, suspended or not */
+    uint32_t count;   /* the number of set bits */
+} hub_kernel_summary_reply;
+
+/* Who waits at a hub. Writes nothing. */
+hub_kernel_summary_reply hub_kernel_summary(const uint8_t *table, size_t bytes, uint32_t hub);
+
+#ifdef __cplusplus
+}
+#endif
+
+#endif

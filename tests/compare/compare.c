@@ -1,0 +1,369 @@
+/* The proved kernel, through hub_kernel_call and hub_kernel_summary, against the
+ * second program: after every call the reply and every byte of the table, and
+ * the summary of a hub. `compare SIZE` runs all parts, one line each; the first
+ * difference ends the program.
+ *
+ * Each side keeps its own table through a run, so a difference can't be mended
+ * by the other. The kernel's table moves to another address before every call,
+ * odd ones among them, and the bytes around it are watched. */
+#define _POSIX_C_SOURCE 200809L
+
+#include <inttypes.h>
+#include <stdio.h>
+#include <stdlib.h>
+#include <string.h>
+#include <time.h>
+#include <unistd.h>
+
+#include "gen.h"
+#include "hub_kernel.h"
+#include "numbers.h"
+#include "second.h"
+
+typedef struct {
+    const char *name;
+    uint32_t runs, calls;         /* from Blank: runs, calls in each */
+    uint32_t tables, table_calls; /* well-formed tables that no run need reach */
+    uint32_t damages;             /* tables of each family of damage */
+    uint32_t flips;               /* tables with a few words changed at random */
+    uint32_t lengths;             /* tables of each odd length */
+    uint64_t least;               /* calls that this size promises */
+    unsigned seconds;             /* a program that loops is ended after these */
+} scale;
+
+static const scale scales[] = {
+    {"quick", 60, 300, 1500, 8, 2, 3000, 100, 30000, 300},
+    {"gate", 1200, 400, 40000, 8, 40, 150000, 1500, 1000000, 600},
+    {"long", 20000, 1000, 1000000, 8, 800, 4000000, 20000, 30000000, 14400},
+};
+
+static const size_t odd_lengths[] = {0, 1, 4, 2396, 2399, 2401, 2404};
+
+enum { LONGEST = BYTES + 4, AROUND = 64, PLACES = 16, WATCHED = 0xA5 };
+
+typedef struct {
+    const char *part;
+    uint64_t seed; /* of the part's draws, for the report of a difference */
+    uint64_t calls;
+    uint64_t refusals[8], answers[3], waiters;
+    gen_random random; /* the calls and tables */
+    gen_random other;  /* places and hubs: the draws of the calls stay the generator's own */
+    uint8_t room[AROUND + PLACES + LONGEST + AROUND];
+    uint8_t *table; /* the kernel's, somewhere in the room */
+    size_t length;
+} comparison;
+
+/* ---- Reports ----------------------------------------------------------- */
+
+static void differ(const comparison *at, const uint32_t *call, const char *what)
+{
+    printf("%s: DIFFER, seed %" PRIu64 ", call %" PRIu64 ": %s\n", at->part, at->seed, at->calls,
+           what);
+    for (int i = 0; call != NULL && i < CALL_NUMBERS; i++)
+        printf("%s%" PRIu32 "%s", i == 0 ? "  the call: " : " ", call[i],
+               i == CALL_NUMBERS - 1 ? "\n" : "");
+    exit(1);
+}
+
+static void differ_in(const comparison *at, const uint32_t *call, const uint8_t *second)
+{
+    char what[96];
+    size_t i = 0;
+
+    while (at->table[i] == second[i])
+        i++;
+    snprintf(what, sizeof what, "byte %zu (word %zu) is %u, the second program's %u", i, i / 4,
+             at->table[i], second[i]);
+    differ(at, call, what);
+}
+
+static void differ_by(const comparison *at, const uint32_t *call, const char *name,
+                      const uint32_t kernel[3], const uint32_t second[3])
+{
+    char what[160];
+
+    snprintf(what, sizeof what,
+             "%s is %" PRIu32 " %" PRIu32 " %" PRIu32 ", the second program's %" PRIu32 " %" PRIu32
+             " %" PRIu32,
+             name, kernel[0], kernel[1], kernel[2], second[0], second[1], second[2]);
+    differ(at, call, what);
+}
+
+/* ---- The kernel's table ------------------------------------------------ */
+
+static void lay(comparison *at, const uint8_t *bytes, size_t length)
+{
+    memset(at->room, WATCHED, sizeof at->room);
+    at->table = at->room + AROUND + gen_below(&at->other, PLACES);
+    at->length = length;
+    memcpy(at->table, bytes, length);
+}
+
+static void move(comparison *at)
+{
+    uint8_t bytes[LONGEST];
+
+    memcpy(bytes, at->table, at->length);
+    lay(at, bytes, at->length);
+}
+
+static void check_around(const comparison *at, const uint32_t *call)
+{
+    const uint8_t *end = at->room + sizeof at->room;
+
+    for (const uint8_t *byte = at->room; byte < at->table; byte++)
+        if (*byte != WATCHED)
+            differ(at, call, "a byte before the table was written");
+    for (const uint8_t *byte = at->table + at->length; byte < end; byte++)
+        if (*byte != WATCHED)
+            differ(at, call, "a byte after the table was written");
+}
+
+static void to_bytes(uint8_t *bytes, const uint32_t *words)
+{
+    for (size_t i = 0; i < BYTES; i++)
+        bytes[i] = (uint8_t)(words[i / 4] >> i % 4 * 8);
+}
+
+static void lay_words(comparison *at, const uint32_t *words)
+{
+    uint8_t bytes[BYTES];
+
+    to_bytes(bytes, words);
+    lay(at, bytes, BYTES);
+}
+
+/* ---- One call ---------------------------------------------------------- */
+
+static hub_kernel_reply kernel_call(comparison *at, const uint32_t *call)
+{
+    at->calls++;
+    return hub_kernel_call(at->table, at->length, call[C_SERVICE], call[C_CALLER], call[C_TARGET],
+                           call[C_SIDE], call[C_MODE], call[C_TICKS], call[C_WORD]);
+}
+
+static void check_reply(comparison *at, const uint32_t *call, hub_kernel_reply kernel,
+                        second_reply second)
+{
+    if (kernel.refusal != second.refusal || kernel.answer != second.answer ||
+        kernel.next != second.next)
+        differ_by(at, call, "the reply", (uint32_t[]){kernel.refusal, kernel.answer, kernel.next},
+                  (uint32_t[]){second.refusal, second.answer, second.next});
+    at->refusals[kernel.refusal]++;
+    if (kernel.refusal == ACCEPTED)
+        at->answers[kernel.answer]++;
+}
+
+static void check_summary(comparison *at, uint32_t hub, second_summary_reply second)
+{
+    hub_kernel_summary_reply kernel = hub_kernel_summary(at->table, at->length, hub);
+
+    if (kernel.refusal != second.refusal || kernel.mask != second.mask ||
+        kernel.count != second.count)
+        differ_by(at, NULL, "the summary", (uint32_t[]){kernel.refusal, kernel.mask, kernel.count},
+                  (uint32_t[]){second.refusal, second.mask, second.count});
+    at->waiters += kernel.count;
+}
+
+/* Mostly a hub in use, else any number. */
+static uint32_t draw_hub(comparison *at)
+{
+    return gen_chance(&at->other, 95) ? gen_below(&at->other, HUBS + 1) : gen_word(&at->other);
+}
+
+/* The call on both tables, and the summary of the table after it. */
+static second_reply compare(comparison *at, uint32_t *words, const uint32_t *call)
+{
+    uint8_t expected[BYTES];
+    uint32_t hub = draw_hub(at);
+
+    move(at);
+    hub_kernel_reply kernel = kernel_call(at, call);
+    second_reply second = second_call(words, WORDS, call);
+    check_reply(at, call, kernel, second);
+    check_summary(at, hub, second_summary(words, WORDS, hub));
+    to_bytes(expected, words);
+    if (memcmp(at->table, expected, BYTES) != 0)
+        differ_in(at, call, expected);
+    check_around(at, call);
+    return second;
+}
+
+/* ---- The parts --------------------------------------------------------- */
+
+static void begin(comparison *at, const char *part, uint64_t seed)
+{
+    at->part = part;
+    at->seed = seed;
+    gen_seed(&at->random, seed);
+}
+
+static void part_runs(comparison *at, const scale *to)
+{
+    uint32_t call[CALL_NUMBERS];
+    gen_mood mood;
+
+    for (uint32_t run = 0; run < to->runs; run++) {
+        uint32_t words[WORDS] = {0};
+
+        begin(at, "runs", run);
+        lay_words(at, words);
+        gen_draw_mood(&at->random, &mood);
+        for (uint32_t i = 0; i < to->calls; i++) {
+            if (i % 64 == 63)
+                gen_turn(&at->random, &mood);
+            gen_call(&at->random, &mood, words, call);
+            compare(at, words, call);
+        }
+    }
+}
+
+static void part_tables(comparison *at, const scale *to)
+{
+    uint32_t words[WORDS], call[CALL_NUMBERS];
+    gen_mood mood;
+
+    for (uint32_t i = 0; i < to->tables; i++) {
+        begin(at, "tables", i);
+        gen_table(&at->random, words);
+        lay_words(at, words);
+        gen_draw_mood(&at->random, &mood);
+        mood.tasks = mood.hubs = 0; /* nothing to add first */
+        for (uint32_t j = 0; j < to->table_calls; j++) {
+            gen_call(&at->random, &mood, words, call);
+            compare(at, words, call);
+        }
+    }
+}
+
+/* Every service, two numbers above them, and Blank last, since it mends the table. */
+static void part_damaged(comparison *at, const scale *to)
+{
+    uint32_t words[WORDS], call[CALL_NUMBERS];
+
+    for (size_t family = 0; family < gen_damages(); family++) {
+        begin(at, gen_damage_name(family), family);
+        for (uint32_t i = 0; i < to->damages; i++) {
+            gen_damaged(&at->random, family, words);
+            lay_words(at, words);
+            for (uint32_t service = HUB_REQUEST; service <= ADD_HUB + 3; service++) {
+                for (int j = 0; j < CALL_NUMBERS; j++)
+                    call[j] = gen_below(&at->random, 4);
+                call[C_SERVICE] = service <= ADD_HUB + 1   ? service
+                                  : service == ADD_HUB + 2 ? UINT32_MAX
+                                                           : BLANK;
+                compare(at, words, call);
+            }
+        }
+    }
+}
+
+static void part_flips(comparison *at, const scale *to)
+{
+    uint32_t words[WORDS], call[CALL_NUMBERS];
+    gen_mood mood;
+
+    begin(at, "flips", 0);
+    for (uint32_t i = 0; i < to->flips; i++) {
+        gen_table(&at->random, words);
+        gen_draw_mood(&at->random, &mood);
+        gen_call(&at->random, &mood, words, call);
+        gen_flip(&at->random, words);
+        lay_words(at, words);
+        compare(at, words, call);
+    }
+}
+
+/* A well-formed table cut short, or with more bytes behind it. */
+static void part_lengths(comparison *at, const scale *to)
+{
+    uint32_t words[WORDS], call[CALL_NUMBERS];
+    uint8_t bytes[LONGEST] = {0};
+    gen_mood mood;
+
+    for (size_t i = 0; i < sizeof odd_lengths / sizeof *odd_lengths; i++) {
+        begin(at, "lengths", odd_lengths[i]);
+        for (uint32_t j = 0; j < to->lengths; j++) {
+            uint32_t hub = draw_hub(at);
+
+            gen_table(&at->random, words);
+            gen_draw_mood(&at->random, &mood);
+            gen_call(&at->random, &mood, words, call);
+            if (j % 16 == 0)
+                call[C_SERVICE] = BLANK;
+            to_bytes(bytes, words);
+            lay(at, bytes, odd_lengths[i]);
+            hub_kernel_reply kernel = kernel_call(at, call);
+            check_reply(at, call, kernel, second_call_bytes(bytes, odd_lengths[i], call));
+            check_summary(at, hub, second_summary_bytes(bytes, odd_lengths[i], hub));
+            if (memcmp(at->table, bytes, odd_lengths[i]) != 0)
+                differ_in(at, call, bytes);
+            check_around(at, call);
+        }
+    }
+}
+
+/* ---- The whole --------------------------------------------------------- */
+
+static double seconds(void)
+{
+    struct timespec now;
+    clock_gettime(CLOCK_MONOTONIC, &now);
+    return (double)now.tv_sec + (double)now.tv_nsec / 1e9;
+}
+
+static void part(comparison *at, const scale *to, const char *name,
+                 void (*run)(comparison *, const scale *))
+{
+    uint64_t calls = at->calls;
+    double since = seconds();
+
+    run(at, to);
+    printf("%-10s %10" PRIu64 " calls  %6.1f s  same\n", name, at->calls - calls, seconds() - since);
+    fflush(stdout);
+}
+
+/* A comparison in which an answer or a refusal never came up shows little. */
+static int check_seen(const comparison *at)
+{
+    int fine = at->waiters > 0;
+
+    printf("refusals 0 to 7:");
+    for (int i = 0; i < 8; i++) {
+        printf(" %" PRIu64, at->refusals[i]);
+        fine = fine && at->refusals[i] > 0;
+    }
+    printf("; answers nothing yet, OK, FAIL:");
+    for (int i = 0; i < 3; i++) {
+        printf(" %" PRIu64, at->answers[i]);
+        fine = fine && at->answers[i] > 0;
+    }
+    printf("; waiters in summaries: %" PRIu64 "\n", at->waiters);
+    return fine;
+}
+
+int main(int count, char **words)
+{
+    static comparison at;
+
+    for (size_t i = 0; i < sizeof scales / sizeof *scales && count == 2; i++) {
+        if (strcmp(words[1], scales[i].name) != 0)
+            continue;
+        alarm(scales[i].seconds);
+        gen_seed(&at.other, 1);
+        part(&at, &scales[i], "runs", part_runs);
+        part(&at, &scales[i], "tables", part_tables);
+        part(&at, &scales[i], "damaged", part_damaged);
+        part(&at, &scales[i], "flips", part_flips);
+        part(&at, &scales[i], "lengths", part_lengths);
+        int fine = check_seen(&at);
+        printf("compare: %" PRIu64 " calls, every byte of every table the same\n", at.calls);
+        if (!fine || at.calls < scales[i].least) {
+            printf("compare: FAILED, too little was seen\n");
+            return 1;
+        }
+        return 0;
+    }
+    fprintf(stderr, "usage: compare quick|gate|long\n");
+    return 2;
+}
