@@ -35,6 +35,7 @@ static const scale scales[] = {
     {"quick", 60, 300, 1500, 8, 2, 3000, 100, 30000, 300},
     {"gate", 1200, 400, 40000, 8, 40, 150000, 1500, 1000000, 600},
     {"long", 20000, 1000, 1000000, 8, 800, 4000000, 20000, 30000000, 14400},
+    {"campaign", 65000, 1000, 3200000, 8, 2600, 13000000, 65000, 100000000, 14400},
 };
 
 static const size_t odd_lengths[] = {0, 1, 4, 2396, 2399, 2401, 2404};
@@ -364,6 +365,6 @@ int main(int count, char **words)
         }
         return 0;
     }
-    fprintf(stderr, "usage: compare quick|gate|long\n");
+    fprintf(stderr, "usage: compare quick|gate|long|campaign\n");
     return 2;
 }

@@ -43,6 +43,11 @@ seen x = record {
   held = hub (shown (x .table)) 0 .held;
 }
 
+-- what is seen of a run; to unfold it is to unfold all that it computes with
+unfoldable pub shows : List Call → Seen
+unfolding addHub addStarted addTask again allZero answer answered asked asleep bearsWord begun blank byRunning classBy classOf contents contentsRight counted entries every exactly fieldsRight firstFree firstWaiting flag flagged forAll getEvent getFifo getPort getResource getSemaphore goodHub goodWait grant heldIn history hold holding hubAt hubsRight inOrder inactive insert joinHub joinReady kept kindOf kindRight leave listsExact listsPacked made mayWait meetAll metCount modeOf need newHub next nextBy noHub numbers occ onGet onPut onSide onTask oneSide opened packed padded partOf pass putEvent putFifo putPort putResource putSemaphore queued read readied refusal refusalFor refusalOf reread rising rows run running seen serve served serviceOf setHub setReady setTask settle sideOf sinceBlank slept stageOf stageRight start stop storeRight storesRight tab tableAfter tableBy taskAt tasksRight those tickAll tickBy tickOne turned turnedBy turnedTo unqueue unusedZero valid verdict wait waitersRight waits wake wellFormed without words wordsOf written yielded
+shows cs = seen (run cs)
+
 -- the marked calls behind the Blank
 unfoldable pub marked : List Call
 marked =
@@ -74,7 +79,7 @@ stopped =
 
 --       task hub side word class received
 pub worked : (
-    seen (run marked) ≡ record {
+    shows marked ≡ record {
       requests =
           row 1 0 2 0 met 77
           ∷ row 0 0 1 77 met 0
@@ -88,7 +93,7 @@ pub worked : (
       held = 9 ∷ [];
     }
     ) × (
-    seen (run stopped) ≡ record {
+    shows stopped ≡ record {
       requests =
           row 0 0 2 0 met 0
           ∷ row 0 0 2 0 withdrawn 0
@@ -102,5 +107,5 @@ pub worked : (
       held = [];
     }
     )
-unfolding addHub addStarted addTask again allZero answer answered asked asleep bearsWord begun blank byRunning classBy classOf contents contentsRight counted entries every exactly fieldsRight firstFree firstWaiting flag flagged forAll getEvent getFifo getPort getResource getSemaphore goodHub goodWait grant heldIn history hold holding hubAt hubsRight inOrder inactive insert joinHub joinReady kept kindOf kindRight leave listsExact listsPacked made marked mayWait meetAll metCount modeOf need newHub next nextBy noHub numbers occ onGet onPut onSide onTask oneSide opened packed padded partOf pass putEvent putFifo putPort putResource putSemaphore queued read readied refusal refusalFor refusalOf reread rising rows run running seen serve served serviceOf setHub setReady setTask settle sideOf sinceBlank slept stageOf stageRight start stop stopped storeRight storesRight tab tableAfter tableBy taskAt tasksRight those tickAll tickBy tickOne turned turnedBy turnedTo unqueue unusedZero valid verdict wait waitersRight waits wake wellFormed without words wordsOf written yielded
+unfolding marked shows stopped
 worked = (refl, refl)

@@ -1,4 +1,5 @@
--- Laws of a text put into a buffer. In order: a byte; one text behind another, and the buffer's length; three
+-- Laws of a text put into a buffer. In order: a byte; one text behind another, and the buffer's length; a text
+-- fits; three
 -- texts; five bytes; a number; the room that a number takes; the texts of printed lines as they are put.
 use Prim.Native.Nat.{_%_, _+_, _/_, _<_, _^_, _≤_, suc, ℕ}
 use Rattle.lines.proofs.Decimal.{decimal-more, decimal-small, length-decimal, length-more}
@@ -27,14 +28,14 @@ module _ (l : List ℕ) (at : ℕ) (x : List ℕ) (end : ℕ) (m : List ℕ) (p 
   drop-put : drop end m ≡ drop end l
   drop-put = ap (drop end) (p .bytes) ∙ drop-at (take at l ++ x) (drop (at + length x) l) end length-head ∙ ap (λ (n : ℕ). drop n l) (sym (p .place))
 
-  length-put : length m ≡ length l
+  pub length-put : length m ≡ length l
   length-put =
       ap length (p .bytes)
       ∙ length-append (take at l ++ x) (drop (at + length x) l)
       ∙ omega (arith, length-head, length-drop (at + length x) l, p .place)
 
   -- a text, and a second behind it
-  put-append : (y : List ℕ) (last : ℕ) (n : List ℕ) → Put m end y last n → Put l at (x ++ y) last n
+  pub put-append : (y : List ℕ) (last : ℕ) (n : List ℕ) → Put m end y last n → Put l at (x ++ y) last n
   put-append y last n q =
       let e : at + length (x ++ y) ≡ end + length y = omega (arith, length-append x y, p .place) in
       record {
@@ -50,6 +51,11 @@ module _ (l : List ℕ) (at : ℕ) (x : List ℕ) (end : ℕ) (m : List ℕ) (p 
   -- a text, and a byte behind it
   pub put-snoc : (b last : ℕ) → end < length l → last ≡ end + 1 → Put l at (x ++ b ∷ []) last (set m end b)
   put-snoc b last f e = put-append (b ∷ []) last (set m end b) (put-byte m end b last (rw length-put f) e)
+
+-- a buffer that keeps its length holds the text
+pub put-fits : (l : List ℕ) (at : ℕ) (x : List ℕ) (end : ℕ) (m : List ℕ) → Put l at x end m → at ≤ length l → length m ≡ length l → end ≤ length m
+put-fits l at x end m p h e =
+    omega (arith, p .place, ap length (p .bytes), length-append (take at l ++ x) (drop (at + length x) l), length-append (take at l) x, length-take-le at l h, length-drop (at + length x) l)
 
 put-three : (l : List ℕ) (at : ℕ) (x y z : List ℕ) (e₁ : ℕ) (l₁ : List ℕ) (e₂ : ℕ) (l₂ : List ℕ) (e₃ : ℕ) (l₃ : List ℕ)
     → at + (length x + length y) ≤ length l → Put l at x e₁ l₁ → Put l₁ e₁ y e₂ l₂ → Put l₂ e₂ z e₃ l₃ → Put l at (x ++ y ++ z) e₃ l₃

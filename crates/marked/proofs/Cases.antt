@@ -1,0 +1,48 @@
+-- The twelve marked cases, proved by computation: the whole input, as bytes, is read and answered from a table of zeros, and
+-- what is printed is the table's right column. In order: the lines read; the lines answered, Blank first; the statement.
+use Prim.Native.Nat.{ℕ}
+use Rattle.lines.specs.Lines.{all, areNumbers, badText, decimal, digits, isDecimal, isGood, isNumber, joined, lineOf, linesOf, numbered, numbersOf, piecesFrom, printed, readLines, spaced, valueFrom, withoutEmptyLast}
+use Rattle.lines.specs.declared.Line.the-variants.{Bad, Good}
+use Rattle.lines.specs.declared.Line.{Line}
+use Rattle.lists.specs.Lists.{insert, without}
+use Rattle.marked.proofs.States.{on-words, stateAfter, stateBy, textFrom}
+use Rattle.marked.specs.Marked.{Row, inputOf, outputOf, rows}
+use Rattle.rules.proofs.Kept.{valid-blank}
+use Rattle.rules.proofs.Promise.{blank-accepted}
+use Rattle.rules.specs.Calls.{addHub, addStarted, addTask, blank, hold, kept, meetAll, newHub, serve, served, serviceOf, settle, start, tickAll, tickBy, tickOne, wait}
+use Rattle.rules.specs.HubTable.{onPut, onGet, onSide, putFifo, getFifo, verdict}
+use Rattle.rules.specs.Lists.{answer, answered, counted, firstFree, firstWaiting, holding, joinHub, joinReady, leave, next, queued, readied, unqueue, waits, wake}
+use Rattle.rules.specs.Refusals.{byRunning, goodHub, goodWait, modeOf, need, refusal, refusalFor, refusalOf}
+use Rattle.rules.specs.Reply.{bearsAnswer, outcome, outcomeOf, replyBy, replyTo, tableAfter, tableBy}
+use Rattle.rules.specs.Table.{inactive, kindOf, noHub, one, setHub, setReady, setTask, sideOf, size, words}
+use Rattle.rules.specs.WellFormed.{bearsWord}
+use Rattle.runner.specs.Runner.{callOf, drillText, replyText, textThrough, zeros}
+use lib.ListN.{length, length-replicate}
+use mathlib.Core.List.{List, [], _++_, _∷_}
+use mathlib.Core.Path.{_∙_, _≡_, ap, refl}
+
+unfoldable linesFrom : List Row → List Line
+linesFrom [] = Bad 12 ∷ []
+linesFrom (r ∷ rs) = Good (numbersOf (r .line)) ∷ linesFrom rs
+
+read : readLines (inputOf rows) ≡ linesFrom rows
+unfolding all areNumbers decimal digits inputOf isDecimal isGood isNumber joined lineOf linesFrom linesOf numbered numbersOf piecesFrom readLines rows spaced valueFrom withoutEmptyLast
+read = refl
+
+zeros-long : length zeros ≡ size one
+unfolding zeros
+zeros-long = length-replicate {A = ℕ} (size one) 0
+
+-- a first call that is a Blank
+blanked : (ls : List Line) → textThrough zeros (Good (numbersOf (0 ∷ 0 ∷ 0 ∷ 0 ∷ 0 ∷ 0 ∷ 0 ∷ [])) ∷ ls) ≡ printed (0 ∷ 0 ∷ 0 ∷ []) ++ textThrough (words one blank) ls
+unfolding bearsAnswer blank firstFree next numbersOf outcome replyBy replyText replyTo serve served serviceOf tableAfter tableBy textThrough
+blanked ls = rw (blank-accepted zeros (callOf (numbersOf (0 ∷ 0 ∷ 0 ∷ 0 ∷ 0 ∷ 0 ∷ 0 ∷ []))) zeros-long refl)
+
+answered-all : textThrough zeros (linesFrom rows) ≡ outputOf rows
+unfolding addHub addStarted addTask answer answered badText bearsAnswer bearsWord blank byRunning counted decimal digits firstFree firstWaiting getFifo goodHub goodWait hold holding inactive insert joinHub joinReady joined kept kindOf leave linesFrom meetAll modeOf need newHub next noHub numbersOf onGet onPut onSide outcome outcomeOf outputOf printed putFifo queued readied refusal refusalFor replyBy replyText rows serve served serviceOf setHub setReady setTask settle sideOf spaced start stateAfter stateBy textFrom tickAll tickBy tickOne unqueue verdict wait waits wake without
+answered-all = blanked _ ∙ ap (λ (t : List ℕ). printed (0 ∷ 0 ∷ 0 ∷ []) ++ t) (on-words blank valid-blank _)
+
+-- the twelve, as one input and one output
+pub marked : drillText (inputOf rows) ≡ outputOf rows
+unfolding drillText
+marked = ap (textThrough zeros) read ∙ answered-all

@@ -1,0 +1,46 @@
+-- Document 01's "marked set" as one table: eleven calls with what is printed, and the line that is no call. In order: the
+-- rows; the input that they are; what is printed for it.
+use Prim.Native.Nat.{ℕ}
+use Rattle.lines.specs.Lines.{badText, newline, printed, spaced}
+use mathlib.Core.List.{List, [], _++_, _∷_}
+
+-- a line's seven numbers; refusal, answer and next
+pub record Row : Type 0 where
+  pub line : List ℕ
+  pub shown : List ℕ
+
+abbrev pub row : ℕ → ℕ → ℕ → ℕ → ℕ → ℕ → ℕ → ℕ → ℕ → ℕ → Row
+row service caller target side mode ticks word refusal answer next =
+    record {
+      line = service ∷ caller ∷ target ∷ side ∷ mode ∷ ticks ∷ word ∷ [];
+      shown = refusal ∷ answer ∷ next ∷ [];
+    }
+
+-- | line | printed |
+unfoldable pub rows : List Row
+rows =
+    row 0 0 0 0 0 0 0 0 0 0
+    ∷ row 9 0 5 1 0 0 0 0 0 1
+    ∷ row 9 0 3 1 0 0 0 0 0 2
+    ∷ row 10 0 4 0 0 1 0 0 0 2
+    ∷ row 1 1 0 2 3 2 0 0 0 1
+    ∷ row 1 0 0 1 1 0 77 0 1 2
+    ∷ row 1 0 0 1 1 0 5 4 0 0
+    ∷ row 1 1 0 1 2 0 9 0 1 2
+    ∷ row 1 1 0 1 2 0 10 0 2 2
+    ∷ row 1 1 0 1 3 1 10 0 0 1
+    ∷ row 8 0 0 0 0 0 0 0 0 2
+    ∷ []
+
+-- "`x`", whose byte is 120
+abbrev pub x : List ℕ
+x = 120 ∷ []
+
+unfoldable pub inputOf : List Row → List ℕ
+inputOf [] = x ++ newline ∷ []
+inputOf (r ∷ rs) = spaced (r .line) ++ newline ∷ inputOf rs
+
+-- "`line 12 bad`"
+unfoldable pub outputOf : List Row → List ℕ
+outputOf [] = badText 12
+outputOf (r ∷ rs) = printed (r .shown) ++ outputOf rs
