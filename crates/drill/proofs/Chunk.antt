@@ -6,14 +6,13 @@ use Rattle.drill.specs.declared.Turn.the-variants.{On}
 use Rattle.drill.specs.declared.Turn.{Turn}
 use Rattle.lines.specs.Lines.{printRoom}
 use Rattle.lines.specs.Scan.{after, ended}
-use Rattle.lines.specs.declared.Line.{Line}
 use Rattle.lines.specs.declared.Scan.{Scan}
 use Rattle.runner.proofs.Runs.{table-append}
 use Rattle.runner.specs.Runner.{AllOf, ChunkAnswered, UpTo, tableThrough}
 use Rattle.runner.specs.declared.Answered.the-variants.{Drained, Full}
 use Rattle.runner.specs.declared.Answered.{Answered}
 use lib.ListN.{drop, length}
-use mathlib.Core.List.{List, _++_}
+use mathlib.Core.List.{List}
 use mathlib.Core.Path.{_∙_, _≡_, ap, refl, sym}
 
 -- what is left from place i on leads to the table and the state behind the whole chunk, and a line has room

@@ -44,12 +44,8 @@ fn answer_chunk(t: &mut [u32], out: &mut [u8], at: usize, chunk: &[u8], scan: Sc
 fn finish(t: &mut [u32], out: &mut [u8], at: usize, scan: Scan)
     requires { ⌜ at + printRoom ≤ length (now out) ⌝ }
 {
-    if scan.fresh() {
-        io::write_all(STDOUT_FILENO, &out[..at]);
-    } else {
-        let end = runner::answer_line(t, out, at, scan.finish());
-        io::write_all(STDOUT_FILENO, &out[..end]);
-    }
+    let end = runner::answer_last(t, out, at, scan);
+    io::write_all(STDOUT_FILENO, &out[..end]);
 }
 
 // A proved loop has to end, and nothing says that the input does: the turns are counted down from a number that no run uses up.

@@ -10,9 +10,9 @@ use Rattle.marked.specs.Marked.{Row, inputOf, outputOf, rows}
 use Rattle.rules.proofs.Kept.{valid-blank}
 use Rattle.rules.proofs.Promise.{blank-accepted}
 use Rattle.rules.specs.Calls.{addHub, addStarted, addTask, blank, hold, kept, meetAll, newHub, serve, served, serviceOf, settle, start, tickAll, tickBy, tickOne, wait}
-use Rattle.rules.specs.HubTable.{onPut, onGet, onSide, putFifo, getFifo, verdict}
+use Rattle.rules.specs.HubTable.{getFifo, onGet, onPut, onSide, putFifo, verdict}
 use Rattle.rules.specs.Lists.{answer, answered, counted, firstFree, firstWaiting, holding, joinHub, joinReady, leave, next, queued, readied, unqueue, waits, wake}
-use Rattle.rules.specs.Refusals.{byRunning, goodHub, goodWait, modeOf, need, refusal, refusalFor, refusalOf}
+use Rattle.rules.specs.Refusals.{byRunning, goodHub, goodWait, modeOf, need, refusal, refusalFor}
 use Rattle.rules.specs.Reply.{bearsAnswer, outcome, outcomeOf, replyBy, replyTo, tableAfter, tableBy}
 use Rattle.rules.specs.Table.{inactive, kindOf, noHub, one, setHub, setReady, setTask, sideOf, size, words}
 use Rattle.rules.specs.WellFormed.{bearsWord}

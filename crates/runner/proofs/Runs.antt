@@ -1,11 +1,11 @@
 -- Lines answered one after the other. In order: their texts and tables over ++; an input in any chunks (`fed-text`); lines
--- answered into a buffer, none and one more; a loop over a chunk: its start, a turn, and its two ends.
+-- answered into a buffer: one, none, the last, and further ones; a loop over a chunk: its start, a turn, and its two ends.
 use Prim.Native.Nat.{_+_, _<_, _≤_, ℕ}
+use Rattle.kernel.specs.Promise.{Called}
 use Rattle.lines.proofs.Chunks.{Rest, Turn, read-chunks, rest, turn}
 use Rattle.lines.proofs.Putting.{put-append}
-use Rattle.kernel.specs.Promise.{Called}
 use Rattle.lines.specs.Lines.{Put, badText, linesOf, printRoom, printed}
-use Rattle.lines.specs.Scan.{after, ended, fed, lastNumber, lastOf, progressOf, startOf, whole}
+use Rattle.lines.specs.Scan.{after, ended, fed, isFresh, lastNumber, lastOf, lineOfScan, progressOf, startOf, whole}
 use Rattle.lines.specs.declared.Line.the-variants.{Bad, Good}
 use Rattle.lines.specs.declared.Line.{Line}
 use Rattle.lines.specs.declared.Numbers.{Numbers}
@@ -16,6 +16,7 @@ use Rattle.rules.specs.declared.Call.{Call}
 use Rattle.rules.specs.declared.Reply.{Reply}
 use Rattle.runner.specs.Runner.{AllOf, Lines, Split, UpTo, callOf, drillText, fedText, replyText, tableOn, tableThrough, textOn, textThrough, zeros}
 use lib.ListN.{drop, length, take, take-append-drop}
+use mathlib.Core.Bool.{false, true}
 use mathlib.Core.List.{List, [], _++_, _∷_, append-assoc, append-nil}
 use mathlib.Core.Path.{_∙_, _≡_, ap, refl, sym}
 use native.Mathlib.Nat.{add-zero}
@@ -80,6 +81,16 @@ lines-none t out at h =
       };
       fits = h;
     }
+
+-- the last line of an input, none where no byte of it is read
+pub last-none : (t out : List ℕ) (at : ℕ) (s : Scan) → at ≤ length out → isFresh s ≡ true → Lines t (lastOf s) out at at t out
+unfolding lastOf
+last-none t out at s h e = rw e (lines-none t out at h)
+
+pub last-line : (t out : List ℕ) (at end : ℕ) (s : Scan) (x : Line) (t′ out′ : List ℕ) → isFresh s ≡ false → x ≡ lineOfScan s → Lines t (x ∷ []) out at end t′ out′
+    → Lines t (lastOf s) out at end t′ out′
+unfolding lastOf
+last-line t out at end s x t′ out′ e f l = rw e (rw f at l)
 
 -- lines, and further lines on the table and behind the text of those before
 module _ (t out : List ℕ) (at : ℕ) (a : List Line) (end : ℕ) (t₁ out₁ : List ℕ) (p : Lines t a out at end t₁ out₁) (h : end ≤ length out) where

@@ -8,6 +8,7 @@ use lines::Scan;
 use rules::Call;
 ghost use Prim.Native.Nat.{_+_, _≤_};
 ghost use Rattle.lines.specs.Lines.{printRoom};
+ghost use Rattle.lines.specs.Scan.{lastOf};
 ghost use Rattle.runner.specs.Runner.{ChunkAnswered, Lines, callOf};
 ghost use lib.ListN.{length};
 ghost use mathlib.Core.List.{[], _∷_};
@@ -62,6 +63,17 @@ pub fn answer_line(t: &mut [u32], out: &mut [u8], at: usize, line: Line) -> usiz
         Line::Good(x) => answer_call(t, out, at, x),
         Line::Bad(n) => lines::write_bad(out, at, n),
     }
+}
+
+// Answers the last line of an input, where no newline ends it; there may be none.
+pub fn answer_last(t: &mut [u32], out: &mut [u8], at: usize, scan: Scan) -> usize
+    requires { ⌜ at + printRoom ≤ length (now out) ⌝ }
+    ensures { λ r. ⌜ Lines (now (t .entry)) (lastOf scan) (now (out .entry)) at r (now (t .exit)) (now (out .exit)) ⌝ }
+{
+    if scan.fresh() {
+        return at;
+    }
+    answer_line(t, out, at, scan.finish())
 }
 
 // Answers the lines that end in a chunk from place `start` on, until the chunk is read or the buffer is full.

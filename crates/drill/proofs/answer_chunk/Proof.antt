@@ -1,16 +1,13 @@
+-- `drill::answer_chunk` meets its contract. The loop's invariant is `Going`; each full block answers a line, so what is left of the chunk falls.
 use Prim.Native.Nat.{_-_}
 use Rattle.drill.proofs.Chunk.{Going, behind, full, going, next-block}
+use Rattle.drill.proofs.answer_chunk.Statement.{statement}
+use Rattle.drill.proofs.answer_chunk.Tie as tie
 use borrow.Author.Needs.{needs}
 use lib.ListN.{length}
 use lib.Seq.{length-take-le}
-use mathlib.Core.Path.{_∙_, sym}
+use mathlib.Core.Path.{sym}
 use native.Mathlib.Omega.{arith}
-use Rattle.drill.proofs.answer_chunk.Statement.{statement}
-use Rattle.drill.proofs.answer_chunk.Tie as tie
-use Rattle.drill.proofs.answer_chunk.Reads as reads
-use Rattle.drill.proofs.answer_chunk.Lts as lts
-use Rattle.io.proofs.write_all.Reads as write-all-reads
-use Rattle.runner.proofs.answer_lines.Reads as answer-lines-reads
 
 abbrev Inv-loop : tie.InvT-loop
 Inv-loop t₀ out₀ at chunk s₀ end₀ i₀ t out s end i = Going chunk s₀ t₀ out₀ t out s end i
@@ -18,27 +15,21 @@ Inv-loop t₀ out₀ at chunk s₀ end₀ i₀ t out s end i = Going chunk s₀ 
 abbrev μ-loop : tie.MeasureT-loop
 μ-loop t₀ out₀ at chunk s₀ end₀ i₀ t out s end i = length chunk - i
 
--- src/main.rt:28:5
 loop-holds : tie.Need-loop-holds Inv-loop μ-loop
 loop-holds c = going _ _ _ _ _ (c .before .before .before .pre)
 
--- src/main.rt:29:15
 answer-lines-requires : tie.Need-answer-lines-requires Inv-loop μ-loop
 answer-lines-requires c κs = c .before .before .loop .inv .room
 
--- src/main.rt:30:31
 enum-known-next : tie.Need-enum-known-next Inv-loop μ-loop
 enum-known-next c = search needs
 
--- src/main.rt:30:47
 same-length : tie.Need-same-length Inv-loop μ-loop
-same-length c = let a = c .before .before .before .before .before .before .before in a .answer-lines .kept .0 ∙ a .before .before .before .loop .inv .words
+same-length c = search needs
 
--- src/main.rt:30:47
 same-length-2 : tie.Need-same-length-2 Inv-loop μ-loop
-same-length-2 c = let a = c .before .before .before .before .before .before .before in a .answer-lines .kept .1 .0 ∙ a .before .before .before .loop .inv .bytes
+same-length-2 c = search needs
 
--- src/main.rt:30:47
 returns : tie.Need-returns Inv-loop μ-loop
 returns c =
     let a = c .before .before .before .before .before .before .before in
@@ -47,11 +38,9 @@ returns c =
     behind (s .args .chunk .now) (s .args .scan) (s .args .t .now) (s .args .out .now) (l .loop .t) (l .loop .out) (l .loop .s) (l .loop .end) (l .loop .i) (l .loop .inv)
     (a .answer-lines .result) (a .answer-lines .last .0) (a .answer-lines .last .1 .0) (a .answer-lines .ensures) (c .before .next .given .0 .0) (c .before .next .given .0 .1 .0) (c .before .next .given .1)
 
--- src/main.rt:31:28
 enum-known-next-2 : tie.Need-enum-known-next-2 Inv-loop μ-loop
 enum-known-next-2 c = search needs
 
--- src/main.rt:32:50
 slice-reshare-prefix-write-all : tie.Need-slice-reshare-prefix-write-all Inv-loop μ-loop
 slice-reshare-prefix-write-all c =
     let a = c .before .before .before .before .before .before .before in
@@ -62,7 +51,6 @@ slice-reshare-prefix-write-all c =
     (a .answer-lines .result) (a .answer-lines .last .0) (a .answer-lines .last .1 .0) (a .answer-lines .ensures) (told .0 .0) (told .0 .1 .0) (told .0 .1 .1 .0) (told .1) in
     u .answered .fits
 
--- src/main.rt:32:50
 slice-aggregate-write-all : tie.Need-slice-aggregate-write-all Inv-loop μ-loop
 slice-aggregate-write-all c =
     let a = c .before .before .before .before .before .before .before .before in
@@ -73,23 +61,18 @@ slice-aggregate-write-all c =
     (a .answer-lines .result) (a .answer-lines .last .0) (a .answer-lines .last .1 .0) (a .answer-lines .ensures) (told .0 .0) (told .0 .1 .0) (told .0 .1 .1 .0) (told .1) in
     sym (length-take-le _ _ (u .answered .fits))
 
--- src/main.rt:32:21
 write-all-requires : tie.Need-write-all-requires Inv-loop μ-loop
 write-all-requires c κs = search needs
 
--- src/main.rt:33:21
 same-length-3 : tie.Need-same-length-3 Inv-loop μ-loop
-same-length-3 c = let a = c .before .before .before .before .before .before .before .before .before .before in a .answer-lines .kept .0 ∙ a .before .before .before .loop .inv .words
+same-length-3 c = search needs
 
--- src/main.rt:33:21
 same-length-4 : tie.Need-same-length-4 Inv-loop μ-loop
-same-length-4 c = let a = c .before .before .before .before .before .before .before .before .before .before in a .answer-lines .kept .1 .0 ∙ a .before .before .before .loop .inv .bytes
+same-length-4 c = search needs
 
--- src/main.rt:33:21
 returns-2 : tie.Need-returns-2 Inv-loop μ-loop
 returns-2 c = search needs
 
--- src/main.rt:28:5
 loop-less : tie.Need-loop-less Inv-loop μ-loop
 loop-less c =
     let a = c .before .before .before .before .before .before .before .before .before .before in
@@ -100,7 +83,6 @@ loop-less c =
     (a .answer-lines .result) (a .answer-lines .last .0) (a .answer-lines .last .1 .0) (a .answer-lines .ensures) (told .0 .0) (told .0 .1 .0) (told .0 .1 .1 .0) (told .1) in
     omega (arith, u .forward, u .inside)
 
--- src/main.rt:28:5
 loop-again : tie.Need-loop-again Inv-loop μ-loop
 loop-again c =
     let a = c .before .before .before .before .before .before .before .before .before .before in

@@ -1,16 +1,10 @@
+-- `drill::run` is safe and ends. The loop's invariant is `Reading`, and the measure the turns that are left.
 use Rattle.drill.proofs.Chunk.{Reading, behind-chunk}
+use Rattle.drill.proofs.run.Statement.{statement}
+use Rattle.drill.proofs.run.Tie as tie
 use borrow.Author.Needs.{needs}
 use mathlib.Core.Path.{_∙_, refl}
 use native.Mathlib.Omega.{arith}
-use Rattle.drill.proofs.run.Statement.{statement}
-use Rattle.drill.proofs.run.Tie as tie
-use Rattle.drill.proofs.run.Reads as reads
-use Rattle.drill.proofs.run.Lts as lts
-use Rattle.drill.proofs.answer_chunk.Reads as answer-chunk-reads
-use Rattle.drill.proofs.finish.Reads as finish-reads
-use Rattle.io.proofs.count.Reads as count-reads
-use Rattle.libc.proofs.read.Reads as read-reads
-use Rattle.lines.proofs.Scan.start.Reads as start-reads
 
 abbrev Inv-loop : tie.InvT-loop
 Inv-loop t₀ input₀ out₀ scan₀ at₀ turns₀ t input out scan at turns = Reading t₀ input₀ out₀ t input out at
@@ -18,67 +12,51 @@ Inv-loop t₀ input₀ out₀ scan₀ at₀ turns₀ t input out scan at turns =
 abbrev μ-loop : tie.MeasureT-loop
 μ-loop t₀ input₀ out₀ scan₀ at₀ turns₀ t input out scan at turns = turns
 
--- src/main.rt:59:9
 start-requires : tie.Need-start-requires Inv-loop μ-loop
 start-requires c κs = search needs
 
--- src/main.rt:62:5
 loop-holds : tie.Need-loop-holds Inv-loop μ-loop
 loop-holds c = record { room = omega (arith, c .before .before .before .before .pre); words = refl; read = refl; bytes = refl }
 
--- src/main.rt:63:9
 sub-turns : tie.Need-sub-turns Inv-loop μ-loop
 sub-turns c = omega arith
 
--- src/main.rt:64:13
 read-requires : tie.Need-read-requires Inv-loop μ-loop
 read-requires c κs = search needs
 
--- src/main.rt:65:13
 count-requires : tie.Need-count-requires Inv-loop μ-loop
 count-requires c κs = search needs
 
--- src/main.rt:67:13
 finish-requires : tie.Need-finish-requires Inv-loop μ-loop
 finish-requires c κs = c .before .before .before .before .before .before .before .before .before .before .loop .inv .room
 
--- src/main.rt:68:13
 same-length : tie.Need-same-length Inv-loop μ-loop
-same-length c = let f = c .before .before .before .before in f .finish .kept .0 ∙ f .before .before .before .before .before .before .before .before .before .before .before .loop .inv .words
+same-length c = search needs
 
--- src/main.rt:68:13
 same-length-2 : tie.Need-same-length-2 Inv-loop μ-loop
-same-length-2 c = let r = c .before .before .before .before .before .before .before .before .before .before .before .before in r .read .kept .1 .0 ∙ r .before .before .before .loop .inv .read
+same-length-2 c = search needs
 
--- src/main.rt:68:13
 same-length-3 : tie.Need-same-length-3 Inv-loop μ-loop
-same-length-3 c = let f = c .before .before .before .before in f .finish .kept .1 .0 ∙ f .before .before .before .before .before .before .before .before .before .before .before .loop .inv .bytes
+same-length-3 c = search needs
 
--- src/main.rt:68:13
 returns : tie.Need-returns Inv-loop μ-loop
 returns c = search needs
 
--- src/main.rt:70:40
 slice-reshare-prefix-answer-chunk : tie.Need-slice-reshare-prefix-answer-chunk Inv-loop μ-loop
 slice-reshare-prefix-answer-chunk c = c .before .before .before .count .ensures .0 .0
 
--- src/main.rt:70:40
 slice-aggregate-answer-chunk : tie.Need-slice-aggregate-answer-chunk Inv-loop μ-loop
 slice-aggregate-answer-chunk c = c .before .before .before .before .count .ensures .0 .1
 
--- src/main.rt:70:15
 answer-chunk-requires : tie.Need-answer-chunk-requires Inv-loop μ-loop
 answer-chunk-requires c κs = c .before .before .before .before .before .before .before .before .before .before .before .loop .inv .room
 
--- src/main.rt:71:22
 enum-known-next : tie.Need-enum-known-next Inv-loop μ-loop
 enum-known-next c = search needs
 
--- src/main.rt:62:5
 loop-less : tie.Need-loop-less Inv-loop μ-loop
 loop-less c = omega arith
 
--- src/main.rt:62:5
 loop-again : tie.Need-loop-again Inv-loop μ-loop
 loop-again c =
     let a = c .before .before .before .before .before .before .before in
@@ -92,39 +70,30 @@ loop-again c =
       bytes = a .answer-chunk .kept .1 .0 ∙ l .loop .inv .bytes;
     }
 
--- src/main.rt:75:27
 enum-told : tie.Need-enum-told Inv-loop μ-loop
 enum-told c = search needs
 
--- src/main.rt:75:27
 same-length-4 : tie.Need-same-length-4 Inv-loop μ-loop
-same-length-4 c = let a = c .before .before .before .before .before .before in a .answer-chunk .kept .0 ∙ a .before .before .before .before .before .before .before .before .before .before .before .before .loop .inv .words
+same-length-4 c = search needs
 
--- src/main.rt:75:27
 same-length-5 : tie.Need-same-length-5 Inv-loop μ-loop
-same-length-5 c = let r = c .before .before .before .before .before .before .before .before .before .before .before .before .before .before .before in r .read .kept .1 .0 ∙ r .before .before .before .loop .inv .read
+same-length-5 c = search needs
 
--- src/main.rt:75:27
 same-length-6 : tie.Need-same-length-6 Inv-loop μ-loop
-same-length-6 c = let a = c .before .before .before .before .before .before in a .answer-chunk .kept .1 .0 ∙ a .before .before .before .before .before .before .before .before .before .before .before .before .loop .inv .bytes
+same-length-6 c = search needs
 
--- src/main.rt:75:27
 returns-2 : tie.Need-returns-2 Inv-loop μ-loop
 returns-2 c = search needs
 
--- src/main.rt:56:1
 same-length-7 : tie.Need-same-length-7 Inv-loop μ-loop
-same-length-7 c = c .before .loop .inv .words
+same-length-7 c = search needs
 
--- src/main.rt:56:1
 same-length-8 : tie.Need-same-length-8 Inv-loop μ-loop
-same-length-8 c = c .before .loop .inv .read
+same-length-8 c = search needs
 
--- src/main.rt:56:1
 same-length-9 : tie.Need-same-length-9 Inv-loop μ-loop
-same-length-9 c = c .before .loop .inv .bytes
+same-length-9 c = search needs
 
--- src/main.rt:56:1
 returns-3 : tie.Need-returns-3 Inv-loop μ-loop
 returns-3 c = search needs
 

@@ -3,10 +3,8 @@ use Rattle.lines.proofs.Putting.{put-fits}
 use Rattle.runner.proofs.Runs.{answered-call}
 use Rattle.runner.proofs.answer_call.Statement.{statement}
 use Rattle.runner.proofs.answer_call.Tie as tie
-use Rattle.runner.proofs.answer_call.Reads as reads
-use Rattle.runner.proofs.answer_call.Lts as lts
-use native.Mathlib.Omega.{arith}
 use borrow.Author.Needs.{needs}
+use native.Mathlib.Omega.{arith}
 
 call-of-requires : tie.Need-call-of-requires
 call-of-requires c κs = search needs
