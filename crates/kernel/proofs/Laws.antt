@@ -1,11 +1,11 @@
 -- What an accepted call rests on, and how its parts make the whole. In order: services by their numbers; keys; the refusal of
 -- a table, test by test; what an accepted call knows of the table and of its numbers; the reply.
 -- Not here: what each service does (the crates below). Assumes nothing.
-use Prim.Native.Nat.{_+_, _<_, _≤_, suc, zero, ℕ}
+use Prim.Native.Nat.{_<_, _≤_, suc, zero, ℕ}
 use Rattle.kernel.specs.Promise.{Called}
 use Rattle.lists.proofs.Laws.{boolCase}
 use Rattle.moves.specs.Moves.{Sound, keyOf}
-use Rattle.rules.proofs.Accepted.{caller-ready, hub-tests, need-zero, on-task, request-tests, task-tests}
+use Rattle.rules.proofs.Accepted.{caller-ready, need-zero, on-task, request-tests}
 use Rattle.rules.proofs.After.{accepted, read-valid, well-formed-words}
 use Rattle.rules.proofs.Changes.{inUse}
 use Rattle.rules.proofs.Lengths.{length-serve, tasksAfter}
@@ -18,13 +18,12 @@ use Rattle.rules.specs.Table.{State, one, read, task, words}
 use Rattle.rules.specs.WellFormed.{urgency, wellFormed}
 use Rattle.rules.specs.declared.Answer.the-variants.{Accepted, Refused}
 use Rattle.rules.specs.declared.Call.{Call}
-use Rattle.rules.specs.declared.Outcome.the-variants.{Fail, NothingYet, Ok}
+use Rattle.rules.specs.declared.Outcome.the-variants.{NothingYet}
 use Rattle.rules.specs.declared.Outcome.{Outcome}
-use Rattle.rules.specs.declared.Reply.{Reply}
 use borrow.Author.Tests.{eq-eqb, eqb-true, leb-false, leb-true, ne-eqb}
 use lib.Dec.{eqb, leb}
 use lib.ListN.{List·getD-eq-default, getD, length}
-use mathlib.Core.Bool.{Bool, _||_, false, true}
+use mathlib.Core.Bool.{_||_, false, true}
 use mathlib.Core.List.{List, [], _∷_}
 use mathlib.Core.Path.{_∙_, _≡_, ap, refl, subst, sym}
 use native.Mathlib.Omega.{arith}

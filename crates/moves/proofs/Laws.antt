@@ -3,7 +3,7 @@
 -- Not here: where a state's parts stand (rules, Places), joining and leaving a list as such (lists, Laws). Assumes nothing.
 use Prim.Native.Nat.{_*_, _+_, _<_, _≤_, suc, zero, ℕ}
 use Rattle.lists.proofs.Laws.{boolCase, join-entries, leave-entries, length-entries, place-entries, without-none}
-use Rattle.lists.specs.Lists.{entries, indexOf, insert, insertAt, occ, placeIn, placeOf, removeAt, without}
+use Rattle.lists.specs.Lists.{entries, indexOf, insertAt, occ, placeIn, placeOf, removeAt, without}
 use Rattle.moves.specs.Moves.{Sound, keyOf, taskOf}
 use Rattle.records.specs.Records.{taskAt, taskWords}
 use Rattle.records.specs.declared.TaskRecord.{TaskRecord}
@@ -17,7 +17,7 @@ use borrow.Rule.Slice.PartMut.{midOf, putMid}
 use lib.Dec.{ltb}
 use lib.ListN.{List·getD-eq-default, getD, length, set}
 use lib.Seq.{sets}
-use mathlib.Core.Bool.{Bool, _&&_, and-false, false, true}
+use mathlib.Core.Bool.{and-false}
 use mathlib.Core.List.{List, [], _∷_, map}
 use mathlib.Core.Logic.{_≢_}
 use mathlib.Core.Path.{_∙_, _≡_, ap, refl, sym}

@@ -10,12 +10,12 @@ use Rattle.hubtable.specs.declared.Store.{Store}
 use Rattle.hubtable.specs.declared.Verdict.the-variants.{Met}
 use Rattle.lists.proofs.Laws.{length-padded, pop-padded, push-padded}
 use Rattle.lists.specs.Lists.{entries, occ, padded, removeAt}
+use Rattle.moves.specs.Moves.{Sound}
 use Rattle.records.specs.Records.{hubAt}
 use Rattle.requests.specs.Requests.{StoreFits}
-use Rattle.moves.specs.Moves.{Sound}
 use Rattle.rules.proofs.Accepted.{Asked, request-tests}
 use Rattle.rules.proofs.Changes.{inUse, length-setHub}
-use Rattle.rules.proofs.Cut.{Cut, cut-part, cut-paste, cut-set}
+use Rattle.rules.proofs.Cut.{cut-part, cut-paste, cut-set}
 use Rattle.rules.proofs.Listed.{listed-answer, listed-hold}
 use Rattle.rules.proofs.Places.{cut-store, hub-word, one-sized, same-hub, store-word, wait-word}
 use Rattle.rules.proofs.Settled.{InUse, length-answer, partners, partners-in}
@@ -26,7 +26,7 @@ use Rattle.rules.specs.Calls.{HubRequest, hold, kept, meetAll, serve, settle, w
 use Rattle.rules.specs.HubTable.{Verdict, fail, notNow, verdict}
 use Rattle.rules.specs.Lists.{answer, firstWaiting, holding}
 use Rattle.rules.specs.Refusals.{refusalFor}
-use Rattle.rules.specs.Table.{Event, Fifo, Hub, Kind, NoKind, Port, Resource, Semaphore, Side, State, hub, hubWords, kindOf, noHub, one, setHub, setTask, sideOf, task, words}
+use Rattle.rules.specs.Table.{Event, Fifo, Hub, Kind, NoKind, Port, Resource, Semaphore, State, hub, hubWords, kindOf, noHub, one, setHub, setTask, sideOf, task, words}
 use Rattle.rules.specs.WellFormed.{bearsWord}
 use Rattle.rules.specs.declared.Call.{Call}
 use borrow.Author.Tests.{eq-eqb, ne-eqb}
@@ -35,7 +35,6 @@ use lib.ListN.{drop, getD, length, length-append, length-drop, set}
 use lib.Seq.{getD-set-same, set-set}
 use mathlib.Core.Bool.{and-false, false, true}
 use mathlib.Core.List.{List, [], _++_, _∷_}
-use mathlib.Core.Logic.{_≢_}
 use mathlib.Core.Option.{Option, none, some}
 use mathlib.Core.Path.{_∙_, _≡_, ap, refl, subst, sym}
 use native.Mathlib.Nat.{add-zero}

@@ -1,6 +1,6 @@
 -- Services 2 to 5 by their condition: the state that each leaves where it holds and where it doesn't; and how many tasks each
 -- move leaves. Assumes nothing.
-use Prim.Native.Nat.{_<_, _≤_, ℕ}
+use Prim.Native.Nat.{ℕ}
 use Rattle.rules.specs.Calls.{Resume, Start, Stop, Suspend, flag, grant, serve, start, stop}
 use Rattle.rules.specs.Lists.{answer, joinReady, leave}
 use Rattle.rules.specs.Table.{State, Task, setReady, setTask, task}

@@ -1,3 +1,4 @@
+-- `clock::set_ticks` meets its contract. Assumes nothing.
 use Rattle.clock.proofs.set_ticks.Statement.{statement}
 use Rattle.clock.proofs.set_ticks.Tie as tie
 use Rattle.rules.specs.Lists.{counted}

@@ -1,3 +1,4 @@
+-- `clock::tick` meets its contract. Assumes nothing.
 use Prim.Native.Nat.{_+_, _-_, _≤_, ℕ}
 use Rattle.clock.proofs.Laws.{sound-tick}
 use Rattle.clock.proofs.tick.Statement.{statement}

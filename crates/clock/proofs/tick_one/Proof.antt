@@ -1,3 +1,4 @@
+-- `clock::tick_one` meets its contract. Assumes nothing.
 use Prim.Native.Nat.{_-_, suc}
 use Rattle.clock.proofs.Laws.{tick-down, tick-idle, tick-last, tick-none}
 use Rattle.clock.proofs.tick_one.Statement.{statement}

@@ -1,3 +1,4 @@
+-- `kernel::add_started` meets its contract. Assumes nothing.
 use Prim.Native.Nat.{_<_, _≤_}
 use Rattle.kernel.proofs.Laws.{key-is}
 use Rattle.kernel.proofs.add_started.Statement.{statement}

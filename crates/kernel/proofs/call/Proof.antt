@@ -1,3 +1,4 @@
+-- `kernel::call` meets its contract. Assumes nothing.
 use Rattle.kernel.proofs.Laws.{called-accepted, called-refused, caller-after}
 use Rattle.kernel.proofs.call.Statement.{statement}
 use Rattle.kernel.proofs.call.Tie as tie

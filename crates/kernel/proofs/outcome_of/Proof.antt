@@ -1,3 +1,4 @@
+-- `kernel::outcome_of` meets its contract. Assumes nothing.
 use Rattle.kernel.proofs.Laws.{outcome-none, outcome-other, outcome-past, outcome-word}
 use Rattle.kernel.proofs.outcome_of.Statement.{statement}
 use Rattle.kernel.proofs.outcome_of.Tie as tie

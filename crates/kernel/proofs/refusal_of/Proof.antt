@@ -1,3 +1,4 @@
+-- `kernel::refusal_of` meets its contract. Assumes nothing.
 use Rattle.kernel.proofs.Laws.{blank-0, refused-1, refused-2, refused-by-service}
 use Rattle.kernel.proofs.refusal_of.Statement.{statement}
 use Rattle.kernel.proofs.refusal_of.Tie as tie

@@ -1,3 +1,4 @@
+-- `kernel::serve_add_task` meets its contract. Assumes nothing.
 use Rattle.kernel.proofs.serve_add_task.Statement.{statement}
 use Rattle.kernel.proofs.serve_add_task.Tie as tie
 use Rattle.rules.specs.Calls.{serve}

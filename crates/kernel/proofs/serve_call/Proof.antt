@@ -1,3 +1,4 @@
+-- `kernel::serve_call` meets its contract. Assumes nothing.
 use Rattle.kernel.proofs.Laws.{accepted-by, caller-in, key-is, long-table, service-is, service-low, state-valid, state-words, target-low, task-named, to-service, valid-sound}
 use Rattle.kernel.proofs.serve_call.Statement.{statement}
 use Rattle.kernel.proofs.serve_call.Tie as tie

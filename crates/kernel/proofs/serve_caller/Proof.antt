@@ -1,3 +1,4 @@
+-- `kernel::serve_caller` meets its contract. Assumes nothing.
 use Rattle.kernel.proofs.Laws.{caller-in, service-is, to-service, valid-sound}
 use Rattle.kernel.proofs.serve_caller.Statement.{statement}
 use Rattle.kernel.proofs.serve_caller.Tie as tie

@@ -1,3 +1,4 @@
+-- `kernel::serve_target` meets its contract. Assumes nothing.
 use Rattle.kernel.proofs.Laws.{caller-in, service-is, task-named, to-service, valid-sound}
 use Rattle.kernel.proofs.serve_target.Statement.{statement}
 use Rattle.kernel.proofs.serve_target.Tie as tie

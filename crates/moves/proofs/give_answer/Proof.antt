@@ -1,9 +1,10 @@
-use Rattle.rules.specs.Lists.{answer, answered}
-use Rattle.rules.specs.Table.{Task, one, setTask, words}
-use mathlib.Core.Path.{_∙_, ap}
-use borrow.Author.Needs.{needs}
+-- `moves::give_answer` meets its contract. Assumes nothing.
 use Rattle.moves.proofs.give_answer.Statement.{statement}
 use Rattle.moves.proofs.give_answer.Tie as tie
+use Rattle.rules.specs.Lists.{answer, answered}
+use Rattle.rules.specs.Table.{Task, one, setTask, words}
+use borrow.Author.Needs.{needs}
+use mathlib.Core.Path.{_∙_, ap}
 
 task-at-requires : tie.Need-task-at-requires
 task-at-requires c κs = search needs

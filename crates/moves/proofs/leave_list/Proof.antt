@@ -1,13 +1,14 @@
+-- `moves::leave_list` meets its contract. Assumes nothing.
 use Prim.Native.Nat.{_-_, suc}
 use Rattle.moves.proofs.Laws.{by-hub, by-none, by-nowhere, by-ready, hub-used}
+use Rattle.moves.proofs.leave_list.Statement.{statement}
+use Rattle.moves.proofs.leave_list.Tie as tie
 use Rattle.rules.proofs.Places.{one-sized}
 use Rattle.rules.proofs.Room.{ready-once, ready-room, waiters-room, waits-once}
 use Rattle.rules.specs.Table.{one}
+use borrow.Author.Needs.{needs}
 use mathlib.Core.Path.{_∙_, _≡_, refl}
 use native.Mathlib.Omega.{arith}
-use borrow.Author.Needs.{needs}
-use Rattle.moves.proofs.leave_list.Statement.{statement}
-use Rattle.moves.proofs.leave_list.Tie as tie
 
 task-at-requires : tie.Need-task-at-requires
 task-at-requires c κs = search needs

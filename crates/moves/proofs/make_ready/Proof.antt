@@ -1,9 +1,10 @@
-use Rattle.rules.specs.Lists.{readied}
-use Rattle.rules.specs.Table.{Task, one, setTask, words}
-use mathlib.Core.Path.{_∙_, ap}
-use borrow.Author.Needs.{needs}
+-- `moves::make_ready` meets its contract. Assumes nothing.
 use Rattle.moves.proofs.make_ready.Statement.{statement}
 use Rattle.moves.proofs.make_ready.Tie as tie
+use Rattle.rules.specs.Lists.{readied}
+use Rattle.rules.specs.Table.{Task, one, setTask, words}
+use borrow.Author.Needs.{needs}
+use mathlib.Core.Path.{_∙_, ap}
 
 task-at-requires : tie.Need-task-at-requires
 task-at-requires c κs = search needs

@@ -1,8 +1,9 @@
+-- `moves::set_task` meets its contract. Assumes nothing.
 use Rattle.moves.proofs.Laws.{record-written}
-use mathlib.Core.Path.{_∙_}
-use borrow.Author.Needs.{needs}
 use Rattle.moves.proofs.set_task.Statement.{statement}
 use Rattle.moves.proofs.set_task.Tie as tie
+use borrow.Author.Needs.{needs}
+use mathlib.Core.Path.{_∙_}
 
 set-task-requires : tie.Need-set-task-requires
 set-task-requires c κs = search needs

@@ -1,9 +1,10 @@
+-- `moves::task_at` meets its contract. Assumes nothing.
 use Rattle.moves.proofs.Laws.{record-read}
-use Rattle.moves.specs.Moves.{taskOf}
-use mathlib.Core.Path.{_∙_, ap}
-use borrow.Author.Needs.{needs}
 use Rattle.moves.proofs.task_at.Statement.{statement}
 use Rattle.moves.proofs.task_at.Tie as tie
+use Rattle.moves.specs.Moves.{taskOf}
+use borrow.Author.Needs.{needs}
+use mathlib.Core.Path.{_∙_, ap}
 
 task-requires : tie.Need-task-requires
 task-requires c κs = search needs

@@ -1,10 +1,11 @@
+-- `moves::wake_task` meets its contract. Assumes nothing.
+use Rattle.moves.proofs.wake_task.Statement.{statement}
+use Rattle.moves.proofs.wake_task.Tie as tie
 use Rattle.rules.proofs.Places.{one-sized}
 use Rattle.rules.specs.Lists.{leave, wake}
 use Rattle.rules.specs.Table.{one, setTask}
-use mathlib.Core.Path.{refl}
 use borrow.Author.Needs.{needs}
-use Rattle.moves.proofs.wake_task.Statement.{statement}
-use Rattle.moves.proofs.wake_task.Tie as tie
+use mathlib.Core.Path.{refl}
 
 leave-list-requires : tie.Need-leave-list-requires
 leave-list-requires c κs = search needs

@@ -1,7 +1,8 @@
-use Rattle.rules.specs.Table.{hub}
+-- `requests::change_store` meets its contract. Assumes nothing.
 use Rattle.requests.proofs.Laws.{after-append, after-keep, after-pass, after-take, fits-append, fits-pass, fits-take, taken, taken-grown, taken-many, taken-used}
 use Rattle.requests.proofs.change_store.Statement.{statement}
 use Rattle.requests.proofs.change_store.Tie as tie
+use Rattle.rules.specs.Table.{hub}
 use borrow.Author.Needs.{needs}
 use mathlib.Core.Path.{_∙_}
 use native.Mathlib.Omega.{arith}

@@ -1,3 +1,4 @@
+-- `requests::first_waiter` meets its contract. Assumes nothing.
 use Rattle.hubtable.specs.Says.{first}
 use Rattle.lists.specs.Lists.{entries}
 use Rattle.requests.proofs.Laws.{entry-first, entry-read, entry-stands, no-entry, nobody, waiter-in}

@@ -1,3 +1,4 @@
+-- `requests::hold_hub` meets its contract. Assumes nothing.
 use Prim.Native.Nat.{ℕ}
 use Rattle.hubtable.specs.Says.{storeAfter}
 use Rattle.requests.proofs.hold_hub.Statement.{statement}

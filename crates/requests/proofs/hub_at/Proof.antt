@@ -1,3 +1,4 @@
+-- `requests::hub_at` meets its contract. Assumes nothing.
 use Rattle.requests.proofs.Laws.{hub-read}
 use Rattle.requests.proofs.hub_at.Statement.{statement}
 use Rattle.requests.proofs.hub_at.Tie as tie

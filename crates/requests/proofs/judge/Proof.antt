@@ -1,3 +1,4 @@
+-- `requests::judge` meets its contract. Assumes nothing.
 use Rattle.requests.proofs.Laws.{asked, oldest-read, putter-used}
 use Rattle.requests.proofs.judge.Statement.{statement}
 use Rattle.requests.proofs.judge.Tie as tie

@@ -1,3 +1,4 @@
+-- `requests::kept_word` meets its contract. Assumes nothing.
 use Rattle.requests.proofs.Laws.{kept-get, kept-not, kept-put}
 use Rattle.requests.proofs.kept_word.Statement.{statement}
 use Rattle.requests.proofs.kept_word.Tie as tie

@@ -1,3 +1,4 @@
+-- `requests::make_waiting` meets its contract. Assumes nothing.
 use Rattle.requests.proofs.make_waiting.Statement.{statement}
 use Rattle.requests.proofs.make_waiting.Tie as tie
 use Rattle.rules.specs.Lists.{waits}

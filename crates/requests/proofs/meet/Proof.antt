@@ -1,3 +1,4 @@
+-- `requests::meet` meets its contract. Assumes nothing.
 use Prim.Native.Nat.{_-_, pred}
 use Rattle.hubtable.proofs.Rows.{first-none, first-some}
 use Rattle.hubtable.specs.Says.{metWith, storeAfter}

@@ -1,5 +1,6 @@
-use Rattle.moves.specs.Moves.{Sound}
+-- `requests::request` meets its contract. Assumes nothing.
 use Rattle.hubtable.specs.Says.{says}
+use Rattle.moves.specs.Moves.{Sound}
 use Rattle.requests.proofs.Laws.{asked, caller-used, failed-state, refused-state, waiting-state}
 use Rattle.requests.proofs.request.Statement.{statement}
 use Rattle.requests.proofs.request.Tie as tie

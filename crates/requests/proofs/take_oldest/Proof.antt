@@ -1,3 +1,4 @@
+-- `requests::take_oldest` meets its contract. Assumes nothing.
 use Prim.Native.Nat.{_*_, _+_, _-_, ℕ}
 use Rattle.requests.proofs.Laws.{store-taken}
 use Rattle.requests.proofs.take_oldest.Statement.{statement}

@@ -1,3 +1,4 @@
+-- `requests::wait_there` meets its contract. Assumes nothing.
 use Rattle.requests.proofs.wait_there.Statement.{statement}
 use Rattle.requests.proofs.wait_there.Tie as tie
 use Rattle.rules.proofs.Places.{one-sized}

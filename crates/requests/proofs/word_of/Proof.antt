@@ -1,3 +1,4 @@
+-- `requests::word_of` meets its contract. Assumes nothing.
 use Prim.Native.Nat.{_-_, ℕ}
 use Rattle.hubtable.specs.Says.{first}
 use Rattle.requests.proofs.Laws.{first-is}

@@ -1,3 +1,4 @@
+-- `tasks::make_inactive` meets its contract. Assumes nothing.
 use Rattle.rules.specs.Table.{inactive}
 use Rattle.tasks.proofs.make_inactive.Statement.{statement}
 use Rattle.tasks.proofs.make_inactive.Tie as tie

@@ -1,3 +1,4 @@
+-- `tasks::set_flag` meets its contract. Assumes nothing.
 use Rattle.rules.specs.Calls.{flag}
 use Rattle.rules.specs.Lists.{flagged}
 use Rattle.rules.specs.Table.{Task, one, setTask, words}

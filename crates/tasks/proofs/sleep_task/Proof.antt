@@ -1,3 +1,4 @@
+-- `tasks::sleep_task` meets its contract. Assumes nothing.
 use Rattle.rules.specs.Calls.{serve, slept}
 use Rattle.rules.specs.Lists.{asleep, leave}
 use Rattle.rules.specs.Table.{Task, one, setTask, words}

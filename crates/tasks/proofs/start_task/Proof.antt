@@ -1,3 +1,4 @@
+-- `tasks::start_task` meets its contract. Assumes nothing.
 use Rattle.moves.specs.Moves.{keyOf}
 use Rattle.rules.proofs.Places.{one-sized}
 use Rattle.rules.specs.Calls.{start}
@@ -6,8 +7,7 @@ use Rattle.tasks.proofs.Laws.{start-fails, start-grants, tasks-start}
 use Rattle.tasks.proofs.start_task.Statement.{statement}
 use Rattle.tasks.proofs.start_task.Tie as tie
 use borrow.Author.Needs.{needs}
-use mathlib.Core.Path.{_∙_, ap, sym}
-use mathlib.Core.Path.{refl}
+use mathlib.Core.Path.{_∙_, ap, refl, sym}
 use native.Mathlib.Omega.{arith}
 
 cast-t8 : tie.Need-cast-t8

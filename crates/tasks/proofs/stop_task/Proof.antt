@@ -1,8 +1,8 @@
+-- `tasks::stop_task` meets its contract. Assumes nothing.
 use Prim.Native.Nat.{ℕ}
 use Rattle.rules.specs.Calls.{stop}
 use Rattle.rules.specs.Lists.{leave}
-use Rattle.rules.specs.Table.{Task, one, words}
-use Rattle.rules.specs.Table.{inactive, setTask}
+use Rattle.rules.specs.Table.{Task, inactive, one, setTask, words}
 use Rattle.tasks.proofs.Laws.{stop-caller, stop-grants, stop-inactive, tasks-stop}
 use Rattle.tasks.proofs.stop_task.Statement.{statement}
 use Rattle.tasks.proofs.stop_task.Tie as tie

@@ -1,3 +1,4 @@
+-- `tasks::yield_turn` meets its contract. Assumes nothing.
 use Rattle.rules.proofs.Places.{one-sized}
 use Rattle.rules.specs.Calls.{serve, yielded}
 use Rattle.rules.specs.Lists.{answer, leave}
