@@ -36,7 +36,7 @@ fn set_ticks(t: &mut [u32], i: TaskNo, n: u32)
 fn counts_down(x: TaskRecord) -> bool
     ensures { λ r. ⌜ r ≡ within 3 4 (x .state) ⌝ }
 {
-    (3 <= x.state) & (x.state <= 4)
+    (rules::WAITING <= x.state) & (x.state <= rules::SLEEPING)
 }
 
 // "with ticks above 0 loses one. At 0 it leaves its list and becomes ready behind its equals, answer 3, hub, side and word 0."
@@ -54,7 +54,7 @@ fn tick_one(t: &mut [u32], keys: &[u32], i: TaskNo)
         return;
     }
     if ticks == 1 {
-        moves::wake_task(t, keys, i, 3, 0);
+        moves::wake_task(t, keys, i, rules::TIMED_OUT, 0);
     } else {
         set_ticks(t, i, ticks - 1);
     }
@@ -66,7 +66,7 @@ pub fn tick(t: &mut [u32], keys: &[u32])
     requires { ⌜ getD (now t) 1 0 ≤ 16 ⌝ }
     ensures { λ _. ⌜ ((s : State) → Sound s → now (t .entry) ≡ words one s → now (t .exit) ≡ words one (tickAll (keyOf (now (keys .entry))) (length (s .tasks)) s)) ⌝ }
 {
-    let n = t[1] as usize;
+    let n = t[records::TASKS] as usize;
     let mut i = 0;
     while i < n {
         tick_one(t, keys, TaskNo(i));

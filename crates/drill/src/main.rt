@@ -9,8 +9,6 @@ ghost use Rattle.drill.specs.Turns.{Turned};
 ghost use Rattle.lines.specs.Lines.{printRoom};
 ghost use lib.ListN.{length};
 
-const TABLE_WORDS: usize = 600;
-
 // The state behind a chunk and the place behind the text that waits to be written; or a write has failed.
 enum Turn {
     On(Scan, usize),
@@ -74,7 +72,7 @@ fn run(t: &mut [u32], input: &mut [u8], out: &mut [u8])
 }
 
 fn main() {
-    let mut table = [0u32; TABLE_WORDS];
+    let mut table = [0u32; records::TABLE_SIZE];
     let mut input = io::large_buffer();
     let mut out = io::large_buffer();
     run(&mut table, &mut input, &mut out);

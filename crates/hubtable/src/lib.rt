@@ -13,17 +13,6 @@ ghost use mathlib.Core.Option.{some};
 ghost use mathlib.Core.Path.{_≡_};
 use records::HubRecord;
 
-// the kinds of hub, by their numbers
-const EVENT: u32 = 1;
-
-const SEMAPHORE: u32 = 2;
-
-const PORT: u32 = 3;
-
-const FIFO: u32 = 4;
-
-const RESOURCE: u32 = 5;
-
 // What becomes of the words held.
 pub enum Store {
     Keep,
@@ -192,10 +181,10 @@ pub fn on_put(h: HubRecord, waiter: u32, caller: u32, word: u32) -> Verdict
 {
     let kind = h.kind;
     match kind {
-        EVENT | SEMAPHORE => put_counted(h, waiter),
-        PORT => put_port(h, waiter, word),
-        FIFO => put_fifo(h, waiter, word),
-        RESOURCE => put_resource(h, waiter, caller),
+        rules::EVENT | rules::SEMAPHORE => put_counted(h, waiter),
+        rules::PORT => put_port(h, waiter, word),
+        rules::FIFO => put_fifo(h, waiter, word),
+        rules::RESOURCE => put_resource(h, waiter, caller),
         _ => Verdict::Fail,
     }
 }
@@ -209,10 +198,10 @@ pub fn on_get(h: HubRecord, waiter: u32, its: u32, oldest: u32, caller: u32) -> 
 {
     let kind = h.kind;
     match kind {
-        EVENT | SEMAPHORE => get_counted(h, waiter),
-        PORT => get_port(h, waiter, its),
-        FIFO => get_fifo(h, waiter, its, oldest),
-        RESOURCE => get_resource(h, caller),
+        rules::EVENT | rules::SEMAPHORE => get_counted(h, waiter),
+        rules::PORT => get_port(h, waiter, its),
+        rules::FIFO => get_fifo(h, waiter, its, oldest),
+        rules::RESOURCE => get_resource(h, caller),
         _ => Verdict::Fail,
     }
 }

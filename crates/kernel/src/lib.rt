@@ -21,14 +21,14 @@ ghost use mathlib.Core.Path.{_≡_};
 fn refusal_of(t: &[u32], c: Call) -> u32
     ensures { λ r. ⌜ r ≡ refusalOf (now (t .entry)) c ⌝ }
 {
-    if t.len() != 600 {
-        return 1;
+    if t.len() != records::TABLE_SIZE {
+        return rules::WRONG_LENGTH;
     }
-    if c.service == 0 {
+    if c.service == rules::BLANK {
         return 0;
     }
     if !wellformed::well_formed(t) {
-        return 2;
+        return rules::NOT_WELL_FORMED;
     }
     refusals::for_service(t, c)
 }
@@ -42,10 +42,10 @@ fn serve_target(t: &mut [u32], keys: &[u32], c: Call)
 {
     let service = c.service;
     match service {
-        1 => requests::request(t, keys, c),
-        2 => tasks::start_task(t, keys, c),
-        3 => tasks::stop_task(t, c),
-        4 => tasks::suspend_task(t, c),
+        rules::HUB_REQUEST => requests::request(t, keys, c),
+        rules::START => tasks::start_task(t, keys, c),
+        rules::STOP => tasks::stop_task(t, c),
+        rules::SUSPEND => tasks::suspend_task(t, c),
         _ => tasks::resume_task(t, c),
     }
 }
@@ -56,7 +56,7 @@ fn serve_caller(t: &mut [u32], keys: &[u32], c: Call)
     requires { ⌜ length (now t) ≡ 600 ⌝ }
     ensures { λ _. ⌜ ((s : State) → Valid s → refusal s c ≡ 0 → 6 ≤ c .service → c .service ≤ 7 → now (t .entry) ≡ words one s → now (t .exit) ≡ words one (serve (keyOf (now (keys .entry))) (serviceOf (c .service)) s c)) ⌝ }
 {
-    if c.service == 6 {
+    if c.service == rules::YIELD {
         tasks::yield_turn(t, keys, c);
     } else {
         tasks::sleep_task(t, c);
@@ -69,11 +69,11 @@ fn add_started(t: &mut [u32], priority: u32)
     requires { ⌜ getD (now t) 1 0 < 16 ⌝ }
     ensures { λ _. ⌜ ((s : State) → length (s .tasks) < 16 → now (t .entry) ≡ words one s → now (t .exit) ≡ words one (addStarted priority s)) ⌝ }
 {
-    let i = TaskNo(t[1] as usize);
+    let i = TaskNo(t[records::TASKS] as usize);
     setup::add_task(t, priority);
     let keys = setup::keys(&*t);
     moves::make_ready(t, i, 0, 0);
-    moves::join_ready(t, moves::TASK_SIZE, &keys, i);
+    moves::join_ready(t, records::TASK_SIZE, &keys, i);
 }
 
 // "Add task: target is priority, side 1 starts it at once, side 0 doesn't."
@@ -95,24 +95,24 @@ fn serve_call(t: &mut [u32], c: Call)
     ensures { λ _. ⌜ now (t .exit) ≡ words one (served (read one (now (t .entry))) c) ⌝ }
 {
     let service = c.service;
-    if service == 0 {
+    if service == rules::BLANK {
         setup::blank(t);
         return;
     }
     let keys = setup::keys(&*t);
-    if service <= 5 {
+    if service <= rules::RESUME {
         serve_target(t, &keys, c);
         return;
     }
-    if service <= 7 {
+    if service <= rules::SLEEP {
         serve_caller(t, &keys, c);
         return;
     }
-    if service == 8 {
+    if service == rules::TICK {
         clock::tick(t, &keys);
         return;
     }
-    if service == 9 {
+    if service == rules::ADD_TASK {
         serve_add_task(t, c);
         return;
     }
@@ -123,17 +123,17 @@ fn serve_call(t: &mut [u32], c: Call)
 fn outcome_of(t: &[u32], c: Call) -> Outcome
     ensures { λ r. ⌜ ((s : State) → length (s .tasks) ≤ 16 → (1 ≤ c .service → c .service ≤ 7 → c .caller < length (s .tasks)) → now (t .entry) ≡ words one s → r ≡ outcome s c) ⌝ }
 {
-    if c.service < 1 {
+    if c.service < rules::HUB_REQUEST {
         return Outcome::NothingYet;
     }
-    if 7 < c.service {
+    if rules::SLEEP < c.service {
         return Outcome::NothingYet;
     }
     let x = moves::task_at(t, TaskNo(c.caller as usize));
     let answer = x.answer;
     match answer {
-        1 => Outcome::Ok,
-        2 => Outcome::Fail,
+        rules::OK => Outcome::Ok,
+        rules::FAIL => Outcome::Fail,
         _ => Outcome::NothingYet,
     }
 }

@@ -9,7 +9,10 @@ ghost use lib.ListN.{drop, length};
 ghost use mathlib.Core.List.{[], _++_, _∷_};
 ghost use mathlib.Core.Path.{_≡_};
 
-// The paper's numbers, as specs/Lines.antt has them.
+// The room that a printed line may take, as specs/Lines.antt has it.
+pub const PRINT_ROOM: usize = 64;
+
+// The paper's numbers, likewise.
 const NUMBER_LIMIT: u64 = 4294967295;
 
 const FIELDS: u32 = 7;

@@ -12,9 +12,6 @@ ghost use Rattle.lists.specs.Lists.{occ, without};
 ghost use lib.ListN.{length};
 ghost use mathlib.Core.Path.{_≡_};
 
-// "16 task records of 8 words"
-pub const TASK_SIZE: usize = 8;
-
 // Task i joins the ready list by its key, and its place is what comes back; ts is the number of words in a task record.
 pub fn join_ready(t: &mut [u32], ts: usize, keys: &[u32], i: TaskNo) -> usize
     requires { ⌜ ts ≤ 9 ⌝ }
@@ -72,7 +69,7 @@ pub fn task_at(t: &[u32], i: TaskNo) -> TaskRecord
     requires { ⌜ i .0 ≤ 4294967295 ⌝ }
     ensures { λ r. ⌜ ((s : State) → length (s .tasks) ≤ 16 → i .0 < length (s .tasks) → now (t .entry) ≡ words one s → taskOf r ≡ task s (i .0)) ⌝ }
 {
-    records::task(t, TASK_SIZE, i)
+    records::task(t, records::TASK_SIZE, i)
 }
 
 // The record of task i, written.
@@ -80,7 +77,7 @@ pub fn set_task(t: &mut [u32], i: TaskNo, x: TaskRecord)
     requires { ⌜ i .0 ≤ 4294967295 ⌝ }
     ensures { λ _. ⌜ ((s : State) → length (s .tasks) ≤ 16 → i .0 < length (s .tasks) → now (t .entry) ≡ words one s → now (t .exit) ≡ words one (setTask (i .0) (taskOf x) s)) ⌝ }
 {
-    records::set_task(t, TASK_SIZE, i, x);
+    records::set_task(t, records::TASK_SIZE, i, x);
 }
 
 // "taken from any list": a ready task stands in the ready list, a waiting one in the list of its hub, any other in none.
@@ -92,14 +89,14 @@ pub fn leave_list(t: &mut [u32], i: TaskNo)
     let x = task_at(&*t, i);
     let state = x.state;
     let hub = x.hub;
-    if state == 2 {
-        leave_ready(t, TASK_SIZE, i);
+    if state == rules::READY {
+        leave_ready(t, records::TASK_SIZE, i);
         return;
     }
-    if state == 3 {
+    if state == rules::WAITING {
         if 1 <= hub {
             if hub <= 16 {
-                leave_hub(t, TASK_SIZE, HubNo((hub - 1) as usize), i);
+                leave_hub(t, records::TASK_SIZE, HubNo((hub - 1) as usize), i);
             }
         }
     }
@@ -137,7 +134,7 @@ pub fn make_ready(t: &mut [u32], i: TaskNo, a: u32, w: u32)
         t,
         i,
         TaskRecord {
-            state: 2,
+            state: rules::READY,
             suspended: x.suspended,
             priority: x.priority,
             hub: 0,
@@ -157,5 +154,5 @@ pub fn wake_task(t: &mut [u32], keys: &[u32], i: TaskNo, a: u32, w: u32)
 {
     leave_list(t, i);
     make_ready(t, i, a, w);
-    join_ready(t, TASK_SIZE, keys, i);
+    join_ready(t, records::TASK_SIZE, keys, i);
 }

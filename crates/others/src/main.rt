@@ -5,9 +5,6 @@ use rules::Call;
 ghost use Prim.Native.Nat.{_≤_};
 ghost use lib.ListN.{length};
 
-// As lines' `printRoom`.
-const LINE_ROOM: usize = 64;
-
 // One call, and its refusal, answer and next.
 fn say(
     t: &mut [u32],
@@ -32,7 +29,7 @@ fn say(
         },
     );
     let answer = reply.answer;
-    let mut line = [0u8; LINE_ROOM];
+    let mut line = [0u8; lines::PRINT_ROOM];
     let end = lines::write_reply(
         &mut line,
         0,
@@ -142,7 +139,7 @@ fn on_600_words(t: &mut [u32]) {
 }
 
 fn main() {
-    let mut table = [0u32; 600];
+    let mut table = [0u32; records::TABLE_SIZE];
     on_600_words(&mut table);
     let mut longer = [0u32; 601];
     lengths(&mut longer);

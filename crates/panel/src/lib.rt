@@ -5,13 +5,8 @@ ghost use mathlib.Core.Path.{_≡_};
 use rules::Call;
 use rules::Reply;
 
-// The table as a host holds it, and as the kernel holds it.
+// "A host program in C hands the table as 2,400 bytes"
 const BYTES: usize = 2400;
-
-const WORDS: usize = 600;
-
-// "another byte length is refusal 1"
-const BAD_LENGTH: u32 = 1;
 
 #[repr(C)]
 pub struct HubKernelReply {
@@ -55,12 +50,12 @@ pub extern "C" fn hub_kernel_call(
 {
     if table.len() != BYTES {
         return HubKernelReply {
-            refusal: BAD_LENGTH,
+            refusal: rules::WRONG_LENGTH,
             answer: 0,
             next: 0,
         };
     }
-    let mut words = [0u32; WORDS];
+    let mut words = [0u32; records::TABLE_SIZE];
     bytes4::unpack(&*table, &mut words);
     let reply = kernel::call(
         &mut words,
@@ -89,12 +84,12 @@ pub extern "C" fn hub_kernel_summary(table: &[u8], hub: u32) -> HubKernelSummary
 {
     if table.len() != BYTES {
         return HubKernelSummaryReply {
-            refusal: BAD_LENGTH,
+            refusal: rules::WRONG_LENGTH,
             mask: 0,
             count: 0,
         };
     }
-    let mut words = [0u32; WORDS];
+    let mut words = [0u32; records::TABLE_SIZE];
     bytes4::unpack(table, &mut words);
     let s = kernel::summary(&words, hub);
     HubKernelSummaryReply {

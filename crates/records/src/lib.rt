@@ -1,17 +1,43 @@
-// The records of the table: the two kinds of number, a record's words read and written by name, in a lent slice of any length.
-// Where a record stands and how many words it has are parameters, and what lies past the end reads as 0 and is not written.
-// Not here: what the words of a record mean, and which records are in use.
+// The table's words by name: where each body stands in edition 1, the two kinds of number, and a record's words read and
+// written, in a lent slice of any length. Where a record stands and how many words it has are parameters of each function,
+// and what lies past the end reads as 0 and is not written.
+// Not here: what the words of a record mean (crate rules), and which records are in use.
 ghost use Prim.Native.Nat.{_*_, _+_, _≤_};
 ghost use Rattle.records.specs.Records.{RecordAt, hubAt, taskAt, taskWords};
 ghost use lib.ListN.{getD, set};
 ghost use lib.Seq.{sets};
 ghost use mathlib.Core.Path.{_≡_};
 
-// The contents are words "0 to 7", and the task records come next.
-const TASKS_AT: usize = 8;
+// "The table is a lent slice of exactly 600 words"
+pub const TABLE_SIZE: usize = 600;
 
-// "16 hub records of 4 words"
-const HUB_SIZE: usize = 4;
+// "contents: edition 1, tasks T, hubs H": the words that hold T and H
+pub const TASKS: usize = 1;
+
+pub const HUBS: usize = 2;
+
+// "then where each body starts"
+pub const TASKS_AT: usize = 8;
+
+pub const HUBS_AT: usize = 136;
+
+pub const READY_AT: usize = 200;
+
+pub const WAITS_AT: usize = 216;
+
+pub const STORES_AT: usize = 472;
+
+// How many words a task record, a hub record, a list and a store have.
+pub const TASK_SIZE: usize = 8;
+
+pub const HUB_SIZE: usize = 4;
+
+pub const LIST_SIZE: usize = 16;
+
+pub const STORE_SIZE: usize = 8;
+
+// "16 task records", and as many hub records
+pub const MOST_RECORDS: u32 = 16;
 
 // "A task number and a hub number are two kinds of number and are never taken for each other."
 pub struct TaskNo(pub usize);

@@ -16,38 +16,6 @@ ghost use lib.Dec.{eqb, leb, ltb};
 ghost use mathlib.Core.Bool.{_&&_, not};
 ghost use mathlib.Core.Path.{_≡_};
 
-// "contents: edition 1, tasks T, hubs H"
-const TASKS: usize = 1;
-
-const HUBS: usize = 2;
-
-// "16 task records of 8 words", and as many hub records
-const TASK_SIZE: usize = 8;
-
-const MOST_RECORDS: u32 = 16;
-
-// "200 to 215: ready list"
-const READY_AT: usize = 200;
-
-const READY_SIZE: usize = 16;
-
-// "ticks outside 1 to 1,000,000"
-const MOST_TICKS: u32 = 1000000;
-
-// "priority above 255"
-const LAST_PRIORITY: u32 = 255;
-
-// The refusal numbers; 0 is none.
-const UNKNOWN_SERVICE: u32 = 3;
-
-const NOT_RUNNING: u32 = 4;
-
-const NOT_IN_USE: u32 = 5;
-
-const BAD_ARGUMENT: u32 = 6;
-
-const FULL: u32 = 7;
-
 // What a lookup answers: the number as its own kind of number, or that it is not in use.
 pub enum FoundHub {
     InUse(HubNo),
@@ -63,7 +31,7 @@ enum FoundTask {
 pub fn find_hub(t: &[u32], n: u32) -> FoundHub
     ensures { λ r. ⌜ r ≡ foundHub (now (t .entry)) n ⌝ }
 {
-    if n < lists::word(t, HUBS) {
+    if n < lists::word(t, records::HUBS) {
         FoundHub::InUse(HubNo(n as usize))
     } else {
         FoundHub::Unused
@@ -73,7 +41,7 @@ pub fn find_hub(t: &[u32], n: u32) -> FoundHub
 fn find_task(t: &[u32], n: u32) -> FoundTask
     ensures { λ r. ⌜ r ≡ foundTask (now (t .entry)) n ⌝ }
 {
-    if n < lists::word(t, TASKS) {
+    if n < lists::word(t, records::TASKS) {
         FoundTask::InUse(TaskNo(n as usize))
     } else {
         FoundTask::Unused
@@ -85,7 +53,7 @@ fn is_suspended(t: &[u32], i: TaskNo) -> bool
     requires { ⌜ i .0 ≤ 4294967295 ⌝ }
     ensures { λ r. ⌜ r ≡ not (eqb (taskAt 8 (now (t .entry)) (i .0) .suspended) 0) ⌝ }
 {
-    let x = records::task(t, TASK_SIZE, i);
+    let x = records::task(t, records::TASK_SIZE, i);
     x.suspended != 0
 }
 
@@ -94,8 +62,8 @@ pub fn running(t: &[u32]) -> u32
     ensures { λ r. ⌜ ((s : State) → Room s → Listed s → now (t .entry) ≡ words one s → r ≡ next s) ⌝ }
 {
     let mut k = 0;
-    while k < READY_SIZE {
-        let e = lists::word(t, READY_AT + k);
+    while k < records::LIST_SIZE {
+        let e = lists::word(t, records::READY_AT + k);
         if e == 0 {
             return 0;
         }
@@ -120,7 +88,7 @@ fn is_running(t: &[u32], caller: u32) -> bool
 fn good_ticks(ticks: u32) -> bool
     ensures { λ r. ⌜ r ≡ within 1 1000000 ticks ⌝ }
 {
-    (1 <= ticks) & (ticks <= MOST_TICKS)
+    (1 <= ticks) & (ticks <= rules::MOST_TICKS)
 }
 
 // "mode 1 W, 2 NW, 3 WT with ticks"
@@ -128,8 +96,8 @@ fn good_wait(mode: u32, ticks: u32) -> bool
     ensures { λ r. ⌜ r ≡ goodWait (modeOf mode) ticks ⌝ }
 {
     match mode {
-        1 | 2 => ticks == 0,
-        3 => good_ticks(ticks),
+        rules::W | rules::NW => ticks == 0,
+        rules::WT => good_ticks(ticks),
         _ => false,
     }
 }
@@ -138,18 +106,18 @@ fn good_wait(mode: u32, ticks: u32) -> bool
 fn good_request(c: Call) -> bool
     ensures { λ r. ⌜ r ≡ goodRequest c ⌝ }
 {
-    ((1 <= c.side) & (c.side <= 2)) & good_wait(c.mode, c.ticks)
+    ((rules::PUT <= c.side) & (c.side <= rules::GET)) & good_wait(c.mode, c.ticks)
 }
 
-// The kinds table: Event 1, Semaphore 2, Port 3, FIFO 4, Resource 5.
+// The kinds table: limit and start.
 fn good_hub(kind: u32, limit: u32, start: u32) -> bool
     ensures { λ r. ⌜ r ≡ goodHub (kindOf kind) limit start ⌝ }
 {
     match kind {
-        1 | 5 => (limit == 1) & (start == 0),
-        2 => ((1 <= limit) & (limit <= 65535)) & (start <= limit),
-        3 => (limit == 0) & (start == 0),
-        4 => ((1 <= limit) & (limit <= 8)) & (start == 0),
+        rules::EVENT | rules::RESOURCE => (limit == 1) & (start == 0),
+        rules::SEMAPHORE => ((1 <= limit) & (limit <= rules::MOST_COUNT)) & (start <= limit),
+        rules::PORT => (limit == 0) & (start == 0),
+        rules::FIFO => ((1 <= limit) & (limit <= rules::MOST_HELD)) & (start == 0),
         _ => false,
     }
 }
@@ -161,9 +129,13 @@ fn for_request(t: &[u32], c: Call) -> u32
 {
     let found = find_hub(t, c.target);
     let FoundHub::InUse(_) = found else {
-        return NOT_IN_USE;
+        return rules::NOT_IN_USE;
     };
-    if good_request(c) { 0 } else { BAD_ARGUMENT }
+    if good_request(c) {
+        0
+    } else {
+        rules::BAD_ARGUMENT
+    }
 }
 
 // 2 Start, 3 Stop, 4 Suspend, 5 Resume.
@@ -172,7 +144,7 @@ fn for_task(t: &[u32], c: Call) -> u32
 {
     let found = find_task(t, c.target);
     let FoundTask::InUse(_) = found else {
-        return NOT_IN_USE;
+        return rules::NOT_IN_USE;
     };
     0
 }
@@ -181,7 +153,11 @@ fn for_task(t: &[u32], c: Call) -> u32
 fn for_sleep(c: Call) -> u32
     ensures { λ r. ⌜ r ≡ need (within 1 1000000 (c .ticks)) 6 0 ⌝ }
 {
-    if good_ticks(c.ticks) { 0 } else { BAD_ARGUMENT }
+    if good_ticks(c.ticks) {
+        0
+    } else {
+        rules::BAD_ARGUMENT
+    }
 }
 
 // 9 Add task: "target is priority, side 1 starts it at once, side 0 doesn't".
@@ -189,13 +165,13 @@ fn for_add_task(t: &[u32], c: Call) -> u32
     ensures { λ r. ⌜ r ≡ need (leb (c .target) 255 && leb (c .side) 1) 6
         (need (ltb (tasksIn (now (t .entry))) 16) 7 0) ⌝ }
 {
-    if !((c.target <= LAST_PRIORITY) & (c.side <= 1)) {
-        return BAD_ARGUMENT;
+    if !((c.target <= rules::LAST_PRIORITY) & (c.side <= 1)) {
+        return rules::BAD_ARGUMENT;
     }
-    if lists::word(t, TASKS) < MOST_RECORDS {
+    if lists::word(t, records::TASKS) < records::MOST_RECORDS {
         0
     } else {
-        FULL
+        rules::FULL
     }
 }
 
@@ -205,42 +181,42 @@ fn for_add_hub(t: &[u32], c: Call) -> u32
         (need (ltb (hubsIn (now (t .entry))) 16) 7 0) ⌝ }
 {
     if !good_hub(c.target, c.ticks, c.word) {
-        return BAD_ARGUMENT;
+        return rules::BAD_ARGUMENT;
     }
-    if lists::word(t, HUBS) < MOST_RECORDS {
+    if lists::word(t, records::HUBS) < records::MOST_RECORDS {
         0
     } else {
-        FULL
+        rules::FULL
     }
 }
 
-// "services 1 to 7: caller isn't the running task". What a Yield, 6, asks besides is nothing.
+// "services 1 to 7: caller isn't the running task". What a Yield asks besides is nothing.
 fn for_caller(t: &[u32], c: Call) -> u32
     ensures { λ r. ⌜ (1 ≤ c .service → c .service ≤ 7
         → (s : State) → Room s → Listed s → now (t .entry) ≡ words one s → r ≡ refusal s c) ⌝ }
 {
     if !is_running(t, c.caller) {
-        return NOT_RUNNING;
+        return rules::NOT_RUNNING;
     }
     let service = c.service;
     match service {
-        1 => for_request(t, c),
-        6 => 0,
-        7 => for_sleep(c),
+        rules::HUB_REQUEST => for_request(t, c),
+        rules::YIELD => 0,
+        rules::SLEEP => for_sleep(c),
         _ => for_task(t, c),
     }
 }
 
-// A call on a table that is well formed: its refusal number, or 0. Blank, 0, and Tick, 8, are never refused here.
+// A call on a table that is well formed: its refusal number, or 0. Blank and Tick are never refused here.
 pub fn for_service(t: &[u32], c: Call) -> u32
     ensures { λ r. ⌜ ((s : State) → Valid s → Room s → now (t .entry) ≡ words one s → r ≡ refusal s c) ⌝ }
 {
     let service = c.service;
     match service {
-        0 | 8 => 0,
-        9 => for_add_task(t, c),
-        10 => for_add_hub(t, c),
-        1..=7 => for_caller(t, c),
-        _ => UNKNOWN_SERVICE,
+        rules::BLANK | rules::TICK => 0,
+        rules::ADD_TASK => for_add_task(t, c),
+        rules::ADD_HUB => for_add_hub(t, c),
+        rules::HUB_REQUEST..=rules::SLEEP => for_caller(t, c),
+        _ => rules::UNKNOWN_SERVICE,
     }
 }

@@ -25,29 +25,12 @@ ghost use mathlib.Core.List.{[], _++_, _∷_};
 ghost use mathlib.Core.Option.{some};
 ghost use mathlib.Core.Path.{_≡_};
 
-const PUT: u32 = 1;
-
-const GET: u32 = 2;
-
-const NW: u32 = 2;
-
-const PORT: u32 = 3;
-
-const FIFO: u32 = 4;
-
-// Where the hub records, the waiting lists and the stores start.
-const HUBS_AT: usize = 136;
-
-const WAITS_AT: usize = 216;
-
-const STORES_AT: usize = 472;
-
 // The record of hub h.
 fn hub_at(t: &[u32], h: HubNo) -> HubRecord
     requires { ⌜ h .0 ≤ 4294967295 ⌝ }
     ensures { λ r. ⌜ ((s : State) → length (s .hubs) ≤ 16 → h .0 < length (s .hubs) → now (t .entry) ≡ words one s → RecordOf r (hub s (h .0))) ⌝ }
 {
-    records::hub(t, HUBS_AT, h)
+    records::hub(t, records::HUBS_AT, h)
 }
 
 // The first task that waits at hub h on this side, plus 1, or 0. One list holds one side only, so its first entry tells.
@@ -56,7 +39,7 @@ fn first_waiter(t: &[u32], h: HubNo, side: u32) -> u32
     ensures { λ r. ⌜ ((s : State) → Valid s → h .0 < length (s .hubs) → now (t .entry) ≡ words one s → first r ≡ firstWaiting s side (hub s (h .0) .waiters)) ⌝ }
 {
     let k = h.0;
-    let e = lists::word(t, WAITS_AT + k * 16);
+    let e = lists::word(t, records::WAITS_AT + k * records::LIST_SIZE);
     if e == 0 {
         return 0;
     }
@@ -83,14 +66,14 @@ fn judge(t: &[u32], c: Call) -> Verdict
 {
     let h = HubNo(c.target as usize);
     let x = hub_at(t, h);
-    if c.side == PUT {
-        let waiter = first_waiter(t, h, GET);
+    if c.side == rules::PUT {
+        let waiter = first_waiter(t, h, rules::GET);
         return hubtable::on_put(x, waiter, c.caller, c.word);
     }
-    let waiter = first_waiter(t, h, PUT);
+    let waiter = first_waiter(t, h, rules::PUT);
     let its = word_of(t, waiter);
     let k = h.0;
-    let oldest = lists::word(t, STORES_AT + k * 8);
+    let oldest = lists::word(t, records::STORES_AT + k * records::STORE_SIZE);
     hubtable::on_get(x, waiter, its, oldest, c.caller)
 }
 
@@ -101,8 +84,8 @@ fn take_oldest(t: &mut [u32], h: HubNo)
     ensures { λ _. ⌜ ((s : State) → h .0 < length (s .hubs) → length (hub s (h .0) .held) ≤ 8 → now (t .entry) ≡ words one s → now (t .exit) ≡ words one (hold (h .0) (hub s (h .0) .count) (drop 1 (hub s (h .0) .held)) s)) ⌝ }
 {
     let k = h.0;
-    let a = STORES_AT + k * 8;
-    lists::remove_at(&mut t[a..a + 8], 0);
+    let a = records::STORES_AT + k * records::STORE_SIZE;
+    lists::remove_at(&mut t[a..a + records::STORE_SIZE], 0);
 }
 
 // A word goes into hub h's store behind the n words held.
@@ -112,8 +95,8 @@ fn append_word(t: &mut [u32], h: HubNo, n: usize, w: u32)
     ensures { λ _. ⌜ ((s : State) → h .0 < length (s .hubs) → n ≡ length (hub s (h .0) .held) → n < 8 → now (t .entry) ≡ words one s → now (t .exit) ≡ words one (hold (h .0) (hub s (h .0) .count) (hub s (h .0) .held ++ w ∷ []) s)) ⌝ }
 {
     let k = h.0;
-    if n < 8 {
-        t[STORES_AT + k * 8 + n] = w;
+    if n < records::STORE_SIZE {
+        t[records::STORES_AT + k * records::STORE_SIZE + n] = w;
     }
 }
 
@@ -155,7 +138,7 @@ fn hold_hub(t: &mut [u32], h: HubNo, m: Meeting)
     let n = x.count as usize;
     let store = m.store;
     change_store(t, h, n, store);
-    records::set_count(t, HUBS_AT, h, m.count);
+    records::set_count(t, records::HUBS_AT, h, m.count);
 }
 
 // "A request that is met answers 1." The waiter met with it, if there is one, becomes ready.
@@ -169,10 +152,10 @@ fn meet(t: &mut [u32], keys: &[u32], c: Call, m: Meeting)
     let h = HubNo(c.target as usize);
     let waiter = m.waiter;
     hold_hub(t, h, m);
-    moves::give_answer(t, caller, 1, m.word);
+    moves::give_answer(t, caller, rules::OK, m.word);
     if 1 <= waiter {
         if waiter <= 16 {
-            moves::wake_task(t, keys, TaskNo((waiter - 1) as usize), 1, m.its);
+            moves::wake_task(t, keys, TaskNo((waiter - 1) as usize), rules::OK, m.its);
         }
     }
 }
@@ -181,11 +164,11 @@ fn meet(t: &mut [u32], keys: &[u32], c: Call, m: Meeting)
 fn kept_word(kind: u32, side: u32, word: u32) -> u32
     ensures { λ r. ⌜ ((h : Hub) (c : Call) → kind ≡ h .kind → side ≡ c .side → word ≡ c .word → r ≡ kept h c) ⌝ }
 {
-    if side != PUT {
+    if side != rules::PUT {
         return 0;
     }
     match kind {
-        PORT | FIFO => word,
+        rules::PORT | rules::FIFO => word,
         _ => 0,
     }
 }
@@ -202,7 +185,7 @@ fn make_waiting(t: &mut [u32], c: Call, word: u32)
         t,
         caller,
         TaskRecord {
-            state: 3,
+            state: rules::WAITING,
             suspended: x.suspended,
             priority: x.priority,
             hub: c.target + 1,
@@ -227,7 +210,7 @@ fn wait_there(t: &mut [u32], keys: &[u32], c: Call)
     let word = kept_word(x.kind, c.side, c.word);
     moves::leave_list(t, caller);
     make_waiting(t, c, word);
-    moves::join_hub(t, moves::TASK_SIZE, keys, h, caller);
+    moves::join_hub(t, records::TASK_SIZE, keys, h, caller);
 }
 
 // Service 1, accepted: met, failed, or not now, which under NW fails and under W and WT waits.
@@ -241,10 +224,10 @@ pub fn request(t: &mut [u32], keys: &[u32], c: Call)
     let v = judge(&*t, c);
     match v {
         Verdict::Met(m) => meet(t, keys, c, m),
-        Verdict::Fail => moves::give_answer(t, caller, 2, 0),
+        Verdict::Fail => moves::give_answer(t, caller, rules::FAIL, 0),
         Verdict::NotNow => {
-            if c.mode == NW {
-                moves::give_answer(t, caller, 2, 0);
+            if c.mode == rules::NW {
+                moves::give_answer(t, caller, rules::FAIL, 0);
             } else {
                 wait_there(t, keys, c);
             }

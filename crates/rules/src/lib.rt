@@ -1,6 +1,93 @@
-// What a call hands over and what it gives back. The rules themselves are in specs/, in the order of document 01.
+// What a call hands over and what it gives back, and the paper's numbers by name. The rules themselves are in specs/, in the
+// order of document 01. Not here: the places and sizes of the table (crate records).
 ghost use Rattle.rules.specs.Reply.{answerNumber, refusalNumber};
 ghost use mathlib.Core.Path.{_≡_};
+
+// The services.
+pub const BLANK: u32 = 0;
+
+pub const HUB_REQUEST: u32 = 1;
+
+pub const START: u32 = 2;
+
+pub const STOP: u32 = 3;
+
+pub const SUSPEND: u32 = 4;
+
+pub const RESUME: u32 = 5;
+
+pub const YIELD: u32 = 6;
+
+pub const SLEEP: u32 = 7;
+
+pub const TICK: u32 = 8;
+
+pub const ADD_TASK: u32 = 9;
+
+pub const ADD_HUB: u32 = 10;
+
+// The states of a task.
+pub const INACTIVE: u32 = 1;
+
+pub const READY: u32 = 2;
+
+pub const WAITING: u32 = 3;
+
+pub const SLEEPING: u32 = 4;
+
+// The answer word of a task: nothing yet is 0.
+pub const OK: u32 = 1;
+
+pub const FAIL: u32 = 2;
+
+pub const TIMED_OUT: u32 = 3;
+
+// The kinds of hub.
+pub const EVENT: u32 = 1;
+
+pub const SEMAPHORE: u32 = 2;
+
+pub const PORT: u32 = 3;
+
+pub const FIFO: u32 = 4;
+
+pub const RESOURCE: u32 = 5;
+
+// The sides of a hub request.
+pub const PUT: u32 = 1;
+
+pub const GET: u32 = 2;
+
+// Its modes: wait, no wait, wait at most so many ticks.
+pub const W: u32 = 1;
+
+pub const NW: u32 = 2;
+
+pub const WT: u32 = 3;
+
+// "priority 0 to 255", "ticks left 0 to 1,000,000", and the limits of a Semaphore and of a FIFO
+pub const LAST_PRIORITY: u32 = 255;
+
+pub const MOST_TICKS: u32 = 1000000;
+
+pub const MOST_COUNT: u32 = 65535;
+
+pub const MOST_HELD: u32 = 8;
+
+// The refusal numbers, in the order in which they are tested; 0 is none.
+pub const WRONG_LENGTH: u32 = 1;
+
+pub const NOT_WELL_FORMED: u32 = 2;
+
+pub const UNKNOWN_SERVICE: u32 = 3;
+
+pub const NOT_RUNNING: u32 = 4;
+
+pub const NOT_IN_USE: u32 = 5;
+
+pub const BAD_ARGUMENT: u32 = 6;
+
+pub const FULL: u32 = 7;
 
 // "A call is seven numbers, each any 32-bit value."
 pub struct Call {
@@ -56,8 +143,8 @@ pub fn answer_number(a: Answer) -> u32
     match a {
         Answer::Accepted(o) => match o {
             Outcome::NothingYet => 0,
-            Outcome::Ok => 1,
-            Outcome::Fail => 2,
+            Outcome::Ok => OK,
+            Outcome::Fail => FAIL,
         },
         Answer::Refused(_) => 0,
     }

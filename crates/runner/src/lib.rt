@@ -14,9 +14,6 @@ ghost use lib.ListN.{length};
 ghost use mathlib.Core.List.{[], _∷_};
 ghost use mathlib.Core.Path.{_≡_};
 
-// The room that a printed line may take, as lines' `printRoom`.
-pub const PRINT_ROOM: usize = 64;
-
 // How far the lines of a chunk are answered: all that end in it, with the state behind the chunk and the place behind the
 // text; or those before a place of the chunk, the last number, where the buffer has no room for another line.
 pub enum Answered {
@@ -97,7 +94,7 @@ pub fn answer_lines(
                 end = answer_line(t, out, end, line);
                 s = next;
                 i = place;
-                if out.len() - end < PRINT_ROOM {
+                if out.len() - end < lines::PRINT_ROOM {
                     return Answered::Full(s, end, i);
                 }
             }

@@ -10,28 +10,11 @@ ghost use mathlib.Core.Path.{_≡_};
 use records::TaskNo;
 use records::TaskRecord;
 
-// "contents: edition 1, tasks T, hubs H, then where each body starts"
+// "contents: edition 1"
 const EDITION: u32 = 1;
 
-const TASKS_AT: usize = 8;
-
-const HUBS_AT: usize = 136;
-
-const READY_AT: usize = 200;
-
-const WAITS_AT: usize = 216;
-
-const STORES_AT: usize = 472;
-
-// How many words a task record and a hub record have, and which of a task's is its priority.
-const TASK_SIZE: usize = 8;
-
-const HUB_SIZE: usize = 4;
-
+// Which word of a task record is its priority.
 const PRIORITY: usize = 2;
-
-// "1 inactive"
-const INACTIVE: u32 = 1;
 
 fn clear(t: &mut [u32])
     ensures { λ _. ⌜ now (t .exit) ≡ replicate (length (now (t .entry))) 0 ⌝ }
@@ -50,11 +33,11 @@ pub fn blank(t: &mut [u32])
 {
     clear(t);
     t[0] = EDITION;
-    t[3] = TASKS_AT as u32;
-    t[4] = HUBS_AT as u32;
-    t[5] = READY_AT as u32;
-    t[6] = WAITS_AT as u32;
-    t[7] = STORES_AT as u32;
+    t[3] = records::TASKS_AT as u32;
+    t[4] = records::HUBS_AT as u32;
+    t[5] = records::READY_AT as u32;
+    t[6] = records::WAITS_AT as u32;
+    t[7] = records::STORES_AT as u32;
 }
 
 // "Each takes the next number": a task of this priority, inactive.
@@ -64,13 +47,13 @@ pub fn add_task(t: &mut [u32], priority: u32)
     ensures { λ _. ⌜ ((s : State) → length (s .tasks) < 16 → now (t .entry) ≡ words one s
         → now (t .exit) ≡ words one (addTask priority s)) ⌝ }
 {
-    let n = t[1] as usize;
+    let n = t[records::TASKS] as usize;
     records::set_task(
         t,
-        TASK_SIZE,
+        records::TASK_SIZE,
         TaskNo(n),
         TaskRecord {
-            state: INACTIVE,
+            state: rules::INACTIVE,
             suspended: 0,
             priority,
             hub: 0,
@@ -80,7 +63,7 @@ pub fn add_task(t: &mut [u32], priority: u32)
             answer: 0,
         },
     );
-    t[1] = (n + 1) as u32;
+    t[records::TASKS] = (n + 1) as u32;
 }
 
 // "target is kind, ticks the limit, word the start, count = start"
@@ -91,12 +74,12 @@ pub fn add_hub(t: &mut [u32], kind: u32, limit: u32, start: u32)
         → now (t .exit)
         ≡ words one (addHub record { kind = kind; count = start; limit = limit; start = start; waiters = []; held = [] } s)) ⌝ }
 {
-    let n = t[2] as usize;
-    records::set_field(t, HUBS_AT, HUB_SIZE, n, 0, kind);
-    records::set_field(t, HUBS_AT, HUB_SIZE, n, 1, start);
-    records::set_field(t, HUBS_AT, HUB_SIZE, n, 2, limit);
-    records::set_field(t, HUBS_AT, HUB_SIZE, n, 3, start);
-    t[2] = (n + 1) as u32;
+    let n = t[records::HUBS] as usize;
+    records::set_field(t, records::HUBS_AT, records::HUB_SIZE, n, 0, kind);
+    records::set_field(t, records::HUBS_AT, records::HUB_SIZE, n, 1, start);
+    records::set_field(t, records::HUBS_AT, records::HUB_SIZE, n, 2, limit);
+    records::set_field(t, records::HUBS_AT, records::HUB_SIZE, n, 3, start);
+    t[records::HUBS] = (n + 1) as u32;
 }
 
 // The key of each task number, by which it joins a list: its own priority; of a number not in use 0.
@@ -107,7 +90,7 @@ pub fn keys(t: &[u32]) -> [u32; 16]
     let mut ks = [0u32; 16];
     let mut i = 0;
     while i < 16 {
-        ks[i] = records::field(t, TASKS_AT, TASK_SIZE, i, PRIORITY);
+        ks[i] = records::field(t, records::TASKS_AT, records::TASK_SIZE, i, PRIORITY);
         i += 1;
     }
     ks

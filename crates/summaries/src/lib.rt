@@ -9,21 +9,6 @@ ghost use Rattle.summaries.specs.Mask.{bitOf, maskOf, refusedWith};
 ghost use mathlib.Core.Bool.{true};
 ghost use mathlib.Core.Path.{_≡_};
 
-// "The table is a lent slice of exactly 600 words"
-const TABLE_SIZE: usize = 600;
-
-// "216 to 471: 16 waiting lists of 16 words, one per hub"
-const WAITS_AT: usize = 216;
-
-const LIST_SIZE: usize = 16;
-
-// The refusal numbers of a summary.
-const WRONG_LENGTH: u32 = 1;
-
-const NOT_WELL_FORMED: u32 = 2;
-
-const NOT_IN_USE: u32 = 5;
-
 // "then both are 0"
 fn refused(number: u32) -> Summary
     ensures { λ r. ⌜ r ≡ refusedWith number ⌝ }
@@ -61,18 +46,18 @@ fn mask_of(list: &[u32]) -> u32
 pub fn summarise(t: &[u32], hub: u32) -> Summary
     ensures { λ r. ⌜ r ≡ summaryOf (now (t .entry)) hub ⌝ }
 {
-    if t.len() != TABLE_SIZE {
-        return refused(WRONG_LENGTH);
+    if t.len() != records::TABLE_SIZE {
+        return refused(rules::WRONG_LENGTH);
     }
     if !wellformed::well_formed(t) {
-        return refused(NOT_WELL_FORMED);
+        return refused(rules::NOT_WELL_FORMED);
     }
     let found = refusals::find_hub(t, hub);
     let FoundHub::InUse(h) = found else {
-        return refused(NOT_IN_USE);
+        return refused(rules::NOT_IN_USE);
     };
-    let at = WAITS_AT + h.0 * LIST_SIZE;
-    let mask = mask_of(&t[at..at + LIST_SIZE]);
+    let at = records::WAITS_AT + h.0 * records::LIST_SIZE;
+    let mask = mask_of(&t[at..at + records::LIST_SIZE]);
     Summary {
         refusal: 0,
         mask: mask,

@@ -10,11 +10,6 @@ ghost use Rattle.rules.specs.Table.{State, inactive, one, setTask, words};
 ghost use lib.ListN.{length};
 ghost use mathlib.Core.Path.{_≡_};
 
-// "Each answers 1, or 2 where its condition doesn't hold." "In 2 to 7 the caller's word becomes 0."
-const OK: u32 = 1;
-
-const FAIL: u32 = 2;
-
 // "Start an inactive task: ready, behind its equals."
 pub fn start_task(t: &mut [u32], keys: &[u32], c: Call)
     requires { ⌜ c .caller < 16 ⌝ }
@@ -26,13 +21,13 @@ pub fn start_task(t: &mut [u32], keys: &[u32], c: Call)
     let i = TaskNo(c.target as usize);
     let x = moves::task_at(&*t, i);
     let state = x.state;
-    if state != 1 {
-        moves::give_answer(t, caller, FAIL, 0);
+    if state != rules::INACTIVE {
+        moves::give_answer(t, caller, rules::FAIL, 0);
         return;
     }
     moves::make_ready(t, i, 0, 0);
-    moves::join_ready(t, moves::TASK_SIZE, keys, i);
-    moves::give_answer(t, caller, OK, 0);
+    moves::join_ready(t, records::TASK_SIZE, keys, i);
+    moves::give_answer(t, caller, rules::OK, 0);
 }
 
 // "made inactive with all but state and priority 0"
@@ -44,7 +39,7 @@ fn make_inactive(t: &mut [u32], i: TaskNo, priority: u32)
         t,
         i,
         TaskRecord {
-            state: 1,
+            state: rules::INACTIVE,
             suspended: 0,
             priority,
             hub: 0,
@@ -67,17 +62,17 @@ pub fn stop_task(t: &mut [u32], c: Call)
     let i = TaskNo(c.target as usize);
     let x = moves::task_at(&*t, i);
     let state = x.state;
-    if state == 1 {
-        moves::give_answer(t, caller, FAIL, 0);
+    if state == rules::INACTIVE {
+        moves::give_answer(t, caller, rules::FAIL, 0);
         return;
     }
     if c.target == c.caller {
-        moves::give_answer(t, caller, FAIL, 0);
+        moves::give_answer(t, caller, rules::FAIL, 0);
         return;
     }
     moves::leave_list(t, i);
     make_inactive(t, i, x.priority);
-    moves::give_answer(t, caller, OK, 0);
+    moves::give_answer(t, caller, rules::OK, 0);
 }
 
 // The flag of task i, and nothing else.
@@ -113,20 +108,20 @@ pub fn suspend_task(t: &mut [u32], c: Call)
     let x = moves::task_at(&*t, i);
     let state = x.state;
     let suspended = x.suspended;
-    if state == 1 {
-        moves::give_answer(t, caller, FAIL, 0);
+    if state == rules::INACTIVE {
+        moves::give_answer(t, caller, rules::FAIL, 0);
         return;
     }
     if suspended != 0 {
-        moves::give_answer(t, caller, FAIL, 0);
+        moves::give_answer(t, caller, rules::FAIL, 0);
         return;
     }
     if c.target == c.caller {
-        moves::give_answer(t, caller, FAIL, 0);
+        moves::give_answer(t, caller, rules::FAIL, 0);
         return;
     }
     set_flag(t, i, 1);
-    moves::give_answer(t, caller, OK, 0);
+    moves::give_answer(t, caller, rules::OK, 0);
 }
 
 // "Resume a suspended task: flag cleared."
@@ -140,11 +135,11 @@ pub fn resume_task(t: &mut [u32], c: Call)
     let x = moves::task_at(&*t, i);
     let suspended = x.suspended;
     if suspended == 0 {
-        moves::give_answer(t, caller, FAIL, 0);
+        moves::give_answer(t, caller, rules::FAIL, 0);
         return;
     }
     set_flag(t, i, 0);
-    moves::give_answer(t, caller, OK, 0);
+    moves::give_answer(t, caller, rules::OK, 0);
 }
 
 // "Yield: caller goes behind its equals, answer 1."
@@ -155,8 +150,8 @@ pub fn yield_turn(t: &mut [u32], keys: &[u32], c: Call)
 {
     let caller = TaskNo(c.caller as usize);
     moves::leave_list(t, caller);
-    moves::give_answer(t, caller, OK, 0);
-    moves::join_ready(t, moves::TASK_SIZE, keys, caller);
+    moves::give_answer(t, caller, rules::OK, 0);
+    moves::join_ready(t, records::TASK_SIZE, keys, caller);
 }
 
 // "Sleep (ticks): state 4, these ticks, answer 0, out of the ready list."
@@ -172,7 +167,7 @@ pub fn sleep_task(t: &mut [u32], c: Call)
         t,
         caller,
         TaskRecord {
-            state: 4,
+            state: rules::SLEEPING,
             suspended: x.suspended,
             priority: x.priority,
             hub: 0,

@@ -1,6 +1,19 @@
 // Whether a table of words is well formed: refusals 1 and 2. One pass: contents, what is unused, the ready list, each hub
 // with its store and its list, and the task records last. A walk of a list marks the tasks that it meets, and the records
 // say which of them must have been met once.
+use records::HUB_SIZE;
+use records::HUBS;
+use records::HUBS_AT;
+use records::LIST_SIZE;
+use records::MOST_RECORDS;
+use records::READY_AT;
+use records::STORE_SIZE;
+use records::STORES_AT;
+use records::TABLE_SIZE;
+use records::TASK_SIZE;
+use records::TASKS;
+use records::TASKS_AT;
+use records::WAITS_AT;
 ghost use Prim.Native.Nat.{_<_, _≤_};
 ghost use Rattle.lists.specs.Lists.{numbers, occ};
 ghost use Rattle.rules.specs.Table.{Task, Waiting, one, read};
@@ -11,52 +24,14 @@ ghost use lib.ListN.{getD, length};
 ghost use mathlib.Core.Bool.{_&&_, _||_, true};
 ghost use mathlib.Core.Path.{_≡_};
 
-// Where each body starts, and how many words there are in all.
-const TASKS_AT: usize = 8;
-
-const HUBS_AT: usize = 136;
-
-const READY_AT: usize = 200;
-
-const WAITS_AT: usize = 216;
-
-const STORES_AT: usize = 472;
-
-const WORDS: usize = 600;
-
-// Kinds of hubs.
-const EVENT: u32 = 1;
-
-const SEMAPHORE: u32 = 2;
-
-const PORT: u32 = 3;
-
-const FIFO: u32 = 4;
-
-const RESOURCE: u32 = 5;
-
-// States of a task.
-const INACTIVE: u32 = 1;
-
-const READY: u32 = 2;
-
-const WAITING: u32 = 3;
-
-const SLEEPING: u32 = 4;
-
-// Sides.
-const PUT: u32 = 1;
-
-const GET: u32 = 2;
-
 // "contents: edition 1, tasks T, hubs H, then where each body starts"
 fn contents_right(t: &[u32]) -> bool
     requires { ⌜ length (now t) ≡ 600 ⌝ }
     ensures { λ r. ⌜ r ≡ contentsRight one (now (t .entry)) ⌝ }
 {
     (t[0] == 1)
-        & ((t[1] <= 16)
-            & ((t[2] <= 16)
+        & ((t[TASKS] <= MOST_RECORDS)
+            & ((t[HUBS] <= MOST_RECORDS)
                 & ((t[3] == 8)
                     & ((t[4] == 136) & ((t[5] == 200) & ((t[6] == 216) & (t[7] == 472)))))))
 }
@@ -74,11 +49,12 @@ fn unused_zero(t: &[u32]) -> bool
     requires { ⌜ Used (now t) ⌝ }
     ensures { λ r. ⌜ r ≡ unusedZero one (now (t .entry)) ⌝ }
 {
-    let n = t[1] as usize;
-    let m = t[2] as usize;
-    zero_from(t, TASKS_AT + n * 8, HUBS_AT)
-        & (zero_from(t, HUBS_AT + m * 4, READY_AT)
-            & (zero_from(t, WAITS_AT + m * 16, STORES_AT) & zero_from(t, STORES_AT + m * 8, WORDS)))
+    let n = t[TASKS] as usize;
+    let m = t[HUBS] as usize;
+    zero_from(t, TASKS_AT + n * TASK_SIZE, HUBS_AT)
+        & (zero_from(t, HUBS_AT + m * HUB_SIZE, READY_AT)
+            & (zero_from(t, WAITS_AT + m * LIST_SIZE, STORES_AT)
+                & zero_from(t, STORES_AT + m * STORE_SIZE, TABLE_SIZE)))
 }
 
 // Entry e of a list: a task in use, at this hub and on this side, not more urgent than the entry before it, and not the
@@ -88,10 +64,10 @@ fn entry_right(t: &[u32], e: u32, hub: u32, side: u32, owner: u32, last: u32) ->
     requires { ⌜ 0 < e ⌝ }
     ensures { λ r. ⌜ r ≡ meets (read one (now (t .entry))) hub side owner last e ⌝ }
 {
-    if e > t[1] {
+    if e > t[TASKS] {
         return false;
     }
-    let b = (e as usize) * 8;
+    let b = (e as usize) * TASK_SIZE;
     (t[b + 3] == hub) & ((t[b + 5] == side) & ((last <= t[b + 2]) & (e != owner)))
 }
 
@@ -105,7 +81,7 @@ fn walk(t: &[u32], list: &[u32], hub: u32, side: u32, owner: u32, marks: &mut [u
 {
     let mut last = 0;
     let mut k = 0;
-    while k < 16 {
+    while k < LIST_SIZE {
         let e = list[k];
         if e == 0 {
             return lists::zeros(&list[k..]);
@@ -115,7 +91,7 @@ fn walk(t: &[u32], list: &[u32], hub: u32, side: u32, owner: u32, marks: &mut [u
         }
         let i = e as usize;
         marks[i - 1] = marks[i - 1] + 1;
-        last = t[i * 8 + 2];
+        last = t[i * TASK_SIZE + 2];
         k += 1;
     }
     true
@@ -127,16 +103,18 @@ fn kind_right(t: &[u32], h: usize) -> bool
     requires { ⌜ h < getD (now t) 2 0 ⌝ }
     ensures { λ r. ⌜ r ≡ kindTest (now (t .entry)) h ⌝ }
 {
-    let b = HUBS_AT + h * 4;
+    let b = HUBS_AT + h * HUB_SIZE;
     let count = t[b + 1];
     let limit = t[b + 2];
     let start = t[b + 3];
     match t[b] {
-        EVENT => (count <= 1) & ((limit == 1) & (start == 0)),
-        SEMAPHORE => (count <= limit) & (((1 <= limit) & (limit <= 65535)) & (start <= limit)),
-        PORT => (count == 0) & ((limit == 0) & (start == 0)),
-        FIFO => (count <= limit) & (((1 <= limit) & (limit <= 8)) & (start == 0)),
-        RESOURCE => (count <= t[1]) & ((limit == 1) & (start == 0)),
+        rules::EVENT => (count <= 1) & ((limit == 1) & (start == 0)),
+        rules::SEMAPHORE => (count <= limit)
+            & (((1 <= limit) & (limit <= rules::MOST_COUNT)) & (start <= limit)),
+        rules::PORT => (count == 0) & ((limit == 0) & (start == 0)),
+        rules::FIFO => (count <= limit)
+            & (((1 <= limit) & (limit <= rules::MOST_HELD)) & (start == 0)),
+        rules::RESOURCE => (count <= t[TASKS]) & ((limit == 1) & (start == 0)),
         _ => false,
     }
 }
@@ -148,10 +126,10 @@ fn store_right(t: &[u32], h: usize) -> bool
     requires { ⌜ kindTest (now t) h ≡ true ⌝ }
     ensures { λ r. ⌜ r ≡ storeTest (now (t .entry)) h ⌝ }
 {
-    let at = STORES_AT + h * 8;
-    let store = &t[at..at + 8];
-    let b = HUBS_AT + h * 4;
-    if t[b] == FIFO {
+    let at = STORES_AT + h * STORE_SIZE;
+    let store = &t[at..at + STORE_SIZE];
+    let b = HUBS_AT + h * HUB_SIZE;
+    if t[b] == rules::FIFO {
         let n = t[b + 1] as usize;
         lists::zeros(&store[n..])
     } else {
@@ -163,16 +141,17 @@ fn store_right(t: &[u32], h: usize) -> bool
 fn may_wait(side: u32, kind: u32, count: u32, limit: u32) -> bool
     ensures { λ r. ⌜ r ≡ may side kind count limit ⌝ }
 {
-    ((side == PUT) & ((kind != RESOURCE) & (count == limit)))
-        | ((side == GET)
-            & (((kind == RESOURCE) & (count != 0)) | ((kind != RESOURCE) & (count == 0))))
+    ((side == rules::PUT) & ((kind != rules::RESOURCE) & (count == limit)))
+        | ((side == rules::GET)
+            & (((kind == rules::RESOURCE) & (count != 0))
+                | ((kind != rules::RESOURCE) & (count == 0))))
 }
 
 // The entry that may not stand in a hub's list.
 fn owner_of(kind: u32, count: u32) -> u32
     ensures { λ r. ⌜ r ≡ ownerOf kind count ⌝ }
 {
-    if kind == RESOURCE { count } else { 0 }
+    if kind == rules::RESOURCE { count } else { 0 }
 }
 
 // Hub h's list: the first entry's side may wait, and no entry is on the other.
@@ -182,17 +161,17 @@ fn queue_right(t: &[u32], h: usize, marks: &mut [u32; 16]) -> bool
     requires { ⌜ Marks 256 (now marks) ⌝ }
     ensures { λ r. ⌜ Marked r (queueTest (now (t .entry)) h) (waitsOf (now (t .entry)) h) (now (marks .entry)) (now (marks .exit)) ⌝ }
 {
-    let at = WAITS_AT + h * 16;
-    let list = &t[at..at + 16];
+    let at = WAITS_AT + h * LIST_SIZE;
+    let list = &t[at..at + LIST_SIZE];
     let e = list[0];
     if e == 0 {
         return lists::zeros(list);
     }
-    if e > t[1] {
+    if e > t[TASKS] {
         return false;
     }
-    let side = t[(e as usize) * 8 + 5];
-    let b = HUBS_AT + h * 4;
+    let side = t[(e as usize) * TASK_SIZE + 5];
+    let b = HUBS_AT + h * HUB_SIZE;
     let kind = t[b];
     let count = t[b + 1];
     if !may_wait(side, kind, count, t[b + 2]) {
@@ -224,7 +203,7 @@ fn hubs_right(t: &[u32], marks: &mut [u32; 16]) -> bool
     ensures { λ r. ⌜ Marked r (forAll (getD (now (t .entry)) 2 0) (hubRight (now (t .entry))))
         (metAt (read one (now (t .entry))) (getD (now (t .entry)) 2 0)) (now (marks .entry)) (now (marks .exit)) ⌝ }
 {
-    let m = t[2] as usize;
+    let m = t[HUBS] as usize;
     let mut h = 0;
     while h < m {
         if !hub_right(t, h, marks) {
@@ -247,7 +226,7 @@ fn inactive_right(suspended: u32, hub: u32, ticks: u32, side: u32, word: u32, an
 fn ready_right(hub: u32, ticks: u32, side: u32, word: u32, answer: u32) -> bool
     ensures { λ r. ⌜ r ≡ (eqb hub 0 && (eqb ticks 0 && (eqb side 0 && (eqb answer 1 || eqb word 0)))) ⌝ }
 {
-    (hub == 0) & ((ticks == 0) & ((side == 0) & ((answer == 1) | (word == 0))))
+    (hub == 0) & ((ticks == 0) & ((side == 0) & ((answer == rules::OK) | (word == 0))))
 }
 
 // "Sleeping: hub, side, word and answer 0, ticks at least 1."
@@ -266,13 +245,15 @@ fn waiting_right(t: &[u32], hub: u32, side: u32, word: u32, answer: u32) -> bool
     if hub == 0 {
         return false;
     }
-    if hub > t[2] {
+    if hub > t[HUBS] {
         return false;
     }
     // a hub's number plus 1 stands in the record, so its words are 4 before those of that number
     let kind = t[132 + (hub as usize) * 4];
-    ((1 <= side) & (side <= 2))
-        & ((answer == 0) & (((side == PUT) & ((kind == PORT) | (kind == FIFO))) | (word == 0)))
+    ((rules::PUT <= side) & (side <= rules::GET))
+        & ((answer == 0)
+            & (((side == rules::PUT) & ((kind == rules::PORT) | (kind == rules::FIFO)))
+                | (word == 0)))
 }
 
 // A task's record, by its state, and its mark: once if it is ready or waits, else not at all.
@@ -287,14 +268,16 @@ fn task_right(t: &[u32], x: &[u32], mark: u32) -> bool
     let side = x[5];
     let word = x[6];
     let answer = x[7];
-    if !((suspended <= 1) & ((x[2] <= 255) & ((ticks <= 1000000) & (answer <= 3)))) {
+    if !((suspended <= 1)
+        & ((x[2] <= rules::LAST_PRIORITY)
+            & ((ticks <= rules::MOST_TICKS) & (answer <= rules::TIMED_OUT)))) {
         return false;
     }
     match x[0] {
-        INACTIVE => inactive_right(suspended, hub, ticks, side, word, answer) & (mark == 0),
-        READY => ready_right(hub, ticks, side, word, answer) & (mark == 1),
-        WAITING => waiting_right(t, hub, side, word, answer) & (mark == 1),
-        SLEEPING => sleeping_right(hub, ticks, side, word, answer) & (mark == 0),
+        rules::INACTIVE => inactive_right(suspended, hub, ticks, side, word, answer) & (mark == 0),
+        rules::READY => ready_right(hub, ticks, side, word, answer) & (mark == 1),
+        rules::WAITING => waiting_right(t, hub, side, word, answer) & (mark == 1),
+        rules::SLEEPING => sleeping_right(hub, ticks, side, word, answer) & (mark == 0),
         _ => false,
     }
 }
@@ -304,11 +287,11 @@ fn tasks_right(t: &[u32], marks: &[u32; 16]) -> bool
     requires { ⌜ Used (now t) ⌝ }
     ensures { λ r. ⌜ r ≡ forAll (getD (now (t .entry)) 1 0) (λ i. taskRight (read one (now (t .entry))) i (getD (now (marks .entry)) i 0)) ⌝ }
 {
-    let n = t[1] as usize;
+    let n = t[TASKS] as usize;
     let mut i = 0;
     while i < n {
-        let b = TASKS_AT + i * 8;
-        if !task_right(t, &t[b..b + 8], marks[i]) {
+        let b = TASKS_AT + i * TASK_SIZE;
+        if !task_right(t, &t[b..b + TASK_SIZE], marks[i]) {
             return false;
         }
         i += 1;
@@ -320,7 +303,7 @@ fn tasks_right(t: &[u32], marks: &[u32; 16]) -> bool
 pub fn well_formed(t: &[u32]) -> bool
     ensures { λ r. ⌜ r ≡ wellFormed (now (t .entry)) ⌝ }
 {
-    if t.len() != WORDS {
+    if t.len() != TABLE_SIZE {
         return false;
     }
     if !contents_right(t) {
