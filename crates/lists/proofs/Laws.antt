@@ -3,18 +3,17 @@
 -- number stands in a list; a number leaves (`leave-entries`); a store's words (`push-padded`, `pop-padded`).
 -- Not here: laws of `take`, `drop`, `set`, `getD` and `length` alone (`lib.Seq`, `lib.ListN`).
 -- Lists and counts are explicit arguments, since each stands under a function that is stuck on it. Assumes nothing.
-use Prim.Native.Nat.{_+_, _<_, _≤_, pred, suc, suc-le-suc, zero, zero-le, ℕ}
-use Rattle.lists.specs.Lists.{allZero, bit, entries, foundAt, indexOf, insert, insertAt, numbers, occ, packed, padded, placeIn, placeOf, removeAt, shiftIn, without}
+use Prim.Native.Nat.{_<_, _≤_, pred, suc, suc-le-suc, zero, zero-le, ℕ}
+use Rattle.lists.specs.Lists.{allZero, entries, foundAt, indexOf, insert, insertAt, numbers, occ, packed, padded, placeIn, placeOf, removeAt, shiftIn, without}
 use Rattle.lists.specs.declared.Found.the-variants.{At, Nothing}
-use borrow.Author.Tests.{eq-eqb, eqb-false, eqb-true, le-ltb, lt-ltb, ltb-false, ne-eqb}
+use borrow.Author.Tests.{eq-eqb, le-ltb, lt-ltb, ltb-false, ne-eqb}
 use lib.Dec.{eqb, eqb·suc-suc, eqb·suc-zero, eqb·zero-suc, ltb}
-use lib.ListN.{drop, getD, length, length-append, length-map, set, take}
-use lib.Seq.{drop-cons, take-all}
-use mathlib.Core.Bool.{Bool, cond, false, false≢true, true}
+use lib.ListN.{drop, getD, length, length-map, set, take}
+use lib.Seq.{drop-cons, drop-nil, take-all}
+use mathlib.Core.Bool.{Bool, false, false≢true, true}
 use mathlib.Core.List.{List, [], _++_, _∷_, map}
 use mathlib.Core.Path.{_∙_, _≡_, ap, refl, sym}
-use native.Mathlib.Nat.{le-of-suc-le-suc, le-suc, le-trans, not-suc-le-zero, zero-add}
-use native.Mathlib.Numerals.{add-one}
+use native.Mathlib.Nat.{le-of-suc-le-suc, not-suc-le-zero}
 use native.Mathlib.Omega.{arith}
 
 -- ---- two steps of the proofs below: by cases on a test, with how it came out; and past an entry that both sides begin with
@@ -36,14 +35,6 @@ module _ (l : List ℕ) (i : ℕ) (h : i < length l) where
   pub indexOf-miss : (v : ℕ) → (getD l i 0 ≡ v → ⊥) → indexOf v (drop i l) ≡ suc (indexOf v (drop (suc i) l))
   unfolding indexOf
   indexOf-miss v n = rw (drop-cons l i 0 h, ne-eqb (getD l i 0) v n)
-
-  pub allZero-hit : getD l i 0 ≡ 0 → allZero (drop i l) ≡ allZero (drop (suc i) l)
-  unfolding allZero
-  allZero-hit e = rw (drop-cons l i 0 h, eq-eqb (getD l i 0) 0 e)
-
-  pub allZero-miss : (getD l i 0 ≡ 0 → ⊥) → allZero (drop i l) ≡ false
-  unfolding allZero
-  allZero-miss n = rw (drop-cons l i 0 h, ne-eqb (getD l i 0) 0 n)
 
   pub packed-hit : getD l i 0 ≡ 0 → packed (drop i l) ≡ allZero (drop i l)
   unfolding allZero packed
@@ -123,22 +114,6 @@ found-nowhere v l q =
 
 -- ---- lengths: what a caller owes of a part of the table that it lends, and what the limits of the paper ask of a list
 
-pub length-insertAt : (l : List ℕ) (i v : ℕ) → length (insertAt i v l) ≡ length l
-unfolding insertAt shiftIn
-length-insertAt l zero v = length-shiftIn l v
-  where
-    length-shiftIn : (l : List ℕ) (v : ℕ) → length (shiftIn v l) ≡ length l
-    length-shiftIn [] v = refl
-    length-shiftIn (x ∷ xs) v = ap suc (length-shiftIn xs x)
-length-insertAt [] (suc i) v = refl
-length-insertAt (x ∷ xs) (suc i) v = ap suc (length-insertAt xs i v)
-
-pub length-removeAt : (l : List ℕ) (i : ℕ) → length (removeAt i l) ≡ length l
-unfolding removeAt
-length-removeAt [] i = refl
-length-removeAt (x ∷ xs) zero = length-append xs (0 ∷ []) ∙ add-one (length xs)
-length-removeAt (x ∷ xs) (suc i) = ap suc (length-removeAt xs i)
-
 pub length-padded : (n : ℕ) (xs : List ℕ) → length (padded n xs) ≡ n
 unfolding padded
 length-padded zero xs = refl
@@ -159,19 +134,6 @@ pub length-numbers : (l : List ℕ) → length (numbers l) ≤ length l
 unfolding numbers
 length-numbers [] = zero-le
 length-numbers (x ∷ xs) = boolCase (eqb x 0) (λ b. rw b zero-le) (λ b. rw b (suc-le-suc (length-numbers xs)))
-
-pub length-insert : (key : ℕ → ℕ) (t : ℕ) (xs : List ℕ) → length (insert key t xs) ≡ suc (length xs)
-unfolding insert
-length-insert key t [] = refl
-length-insert key t (x ∷ xs) = boolCase (ltb (key t) (key x)) (λ b. rw b) (λ b. rw b (ap suc (length-insert key t xs)))
-
-pub length-without-le : (t : ℕ) (xs : List ℕ) → length (without t xs) ≤ length xs
-unfolding without
-length-without-le t [] = zero-le
-length-without-le t (x ∷ xs) =
-    boolCase (eqb x t)
-    (λ b. rw b (le-trans (length-without-le t xs) (le-suc (length xs))))
-    (λ b. rw b (suc-le-suc (length-without-le t xs)))
 
 -- ---- numbers in words, and back: the table as it is read and as it is written
 
@@ -195,6 +157,25 @@ entries-numbers (zero ∷ xs) e = cons 0 (entries-zero xs e)
     entries-zero (zero ∷ xs) e = cons 0 (entries-zero xs e)
     entries-zero (suc x ∷ xs) e = absurd (false≢true (rw (eqb·suc-zero x) at e))
 entries-numbers (suc x ∷ xs) e = rw (eqb·suc-zero x) (cons (suc x) (entries-numbers xs (rw (eqb·suc-zero x) at e)))
+
+-- ---- a list of numbers from place k on, by the word there
+
+-- a 0: the list has ended
+pub entries-none : (n : ℕ) (xs : List ℕ) (k : ℕ) → k < n → getD (entries n xs) k 0 ≡ 0 → drop k xs ≡ []
+unfolding entries
+entries-none zero xs k h e = absurd (not-suc-le-zero h)
+entries-none (suc n) [] k h e = drop-nil k
+entries-none (suc n) (x ∷ xs) zero h e = absurd (omega (arith, e))
+entries-none (suc n) (x ∷ xs) (suc k) h e = entries-none n xs k (le-of-suc-le-suc h) e
+
+-- any other word is an entry
+pub entries-some : (n : ℕ) (xs : List ℕ) (k i : ℕ) → k < n → getD (entries n xs) k 0 ≡ suc i → drop k xs ≡ i ∷ drop (suc k) xs
+unfolding entries
+entries-some zero xs k i h e = absurd (not-suc-le-zero h)
+entries-some (suc n) [] zero i h e = absurd (omega (arith, e))
+entries-some (suc n) [] (suc k) i h e = drop-nil (suc k) ∙ sym (drop-nil k) ∙ entries-some n [] k i (le-of-suc-le-suc h) e
+entries-some (suc n) (x ∷ xs) zero i h e = ap (λ (j : ℕ). j ∷ xs) (ap pred e)
+entries-some (suc n) (x ∷ xs) (suc k) i h e = entries-some n xs k i (le-of-suc-le-suc h) e
 
 -- ---- a number joins: what `place` and `join` say of a list of words is `placeOf` and `insert` of its numbers
 
@@ -232,35 +213,13 @@ join-entries ks i (suc n) (x ∷ xs) =
     (λ b. rw b (shiftIn-entries (suc n) i (x ∷ xs)))
     (λ b. rw b (cons (suc x) (join-entries ks i n xs))))
 
+-- what the place of a number that joins is: as many stand before it
 pub insert-place : (key : ℕ → ℕ) (t : ℕ) (xs : List ℕ)
     → insert key t xs ≡ take (placeOf key (key t) xs) xs ++ t ∷ drop (placeOf key (key t) xs) xs
 unfolding insert placeOf
 insert-place key t [] = refl
 insert-place key t (x ∷ xs) =
     boolCase (ltb (key t) (key x)) (λ b. rw b) (λ b. rw b (cons x (insert-place key t xs)))
-
--- the order is that of the keys alone
-pub insert-same : (f g : ℕ → ℕ) (t : ℕ) (xs : List ℕ) → ((j : ℕ) → f j ≡ g j) → insert f t xs ≡ insert g t xs
-unfolding insert
-insert-same f g t [] e = refl
-insert-same f g t (x ∷ xs) e = rw (e t, e x, insert-same f g t xs e)
-
--- ---- how often a number stands in a list: that each list has its tasks once stays so
-
-pub occ-insert : (key : ℕ → ℕ) (t i : ℕ) (xs : List ℕ) → occ i (insert key t xs) ≡ bit (eqb t i) + occ i xs
-unfolding insert occ
-occ-insert key t i [] = refl
-occ-insert key t i (x ∷ xs) = boolCase (ltb (key t) (key x)) (λ b. rw b) (λ b. rw b (omega (arith, occ-insert key t i xs)))
-
-pub occ-without : (t i : ℕ) (xs : List ℕ) → occ i (without t xs) ≡ cond (eqb t i) 0 (occ i xs)
-unfolding occ without
-occ-without t i [] = boolCase (eqb t i) (λ b. rw b) (λ b. rw b)
-occ-without t i (x ∷ xs) =
-    boolCase (eqb x t)
-    (λ b. rw (b, occ-without t i xs, eqb-true x t b)
-    (boolCase (eqb t i) (λ d. rw d) (λ d. rw d (sym (zero-add (occ i xs))))))
-    (λ b. rw (b, occ-without t i xs)
-    (boolCase (eqb t i) (λ d. rw (d, ne-eqb x i (λ e. eqb-false x t b (e ∙ sym (eqb-true t i d))))) (λ d. rw d)))
 
 -- ---- a number leaves: what `leave` says of a list of words is `without` of its numbers, where it stands there once at most
 

@@ -9,12 +9,19 @@ use Rattle.refusals.specs.declared.FoundTask.the-variants.{InUse as Task
 use lib.Dec.{ltb}
 use mathlib.Core.Bool.{false, true}
 use mathlib.Core.List.{List}
-use mathlib.Core.Path.{_≡_}
+use mathlib.Core.Path.{_≡_, ap}
 
 module _ (t : List ℕ) (n : ℕ) where
   pub hub-in-use : (h : HubNo) → HubInUse h ≡ foundHub t n → ltb n (hubsIn t) ≡ true
   unfolding foundHub
   hub-in-use h e = boolCase (ltb n (hubsIn t)) (λ b. b) (λ b. let r : HubInUse h ≡ HubUnused = rw b at e in cc)
+
+  pub hub-number : (h : HubNo) → HubInUse h ≡ foundHub t n → h .0 ≡ n
+  unfolding foundHub
+  hub-number h e =
+      let r : HubInUse h ≡ HubInUse (record { 0 = n }) = rw (hub-in-use h e) at e in
+      let same : h ≡ record { 0 = n } = cc in
+      ap (λ (k : HubNo). k .0) same
 
   pub hub-unused : HubUnused ≡ foundHub t n → ltb n (hubsIn t) ≡ false
   unfolding foundHub

@@ -1,28 +1,15 @@
--- The numbers of modes, kinds and services, by ranges: a number that names nothing, and numbers whose rows are alike.
+-- The numbers of modes and services, by ranges: numbers whose rows are alike, and a service that is none.
 -- Not here: a single number, of which the rules compute the row. Assumes nothing.
 use Prim.Native.Nat.{_<_, _≤_, suc, zero, ℕ}
 use Rattle.rules.specs.Calls.{AddHub, AddTask, Blank, HubRequest, Resume, Sleep, Start, Stop, Suspend, Tick, Unknown, Yield, serviceOf}
-use Rattle.rules.specs.Refusals.{NW, NoMode, W, WT, byRunning, goodWait, modeOf, onTask, refusalFor}
-use Rattle.rules.specs.Table.{Event, Fifo, NoKind, Port, Resource, Semaphore, State, kindOf}
+use Rattle.rules.specs.Refusals.{byRunning, goodWait, modeOf, onTask, refusalFor}
+use Rattle.rules.specs.Table.{State}
 use Rattle.rules.specs.declared.Call.{Call}
 use lib.Dec.{eqb}
-use lib.ListN.{List·getD-eq-default, getD, length}
-use mathlib.Core.List.{List, [], _∷_}
+use lib.ListN.{List·getD-eq-default}
+use mathlib.Core.List.{[], _∷_}
 use mathlib.Core.Path.{_≡_, refl}
 use native.Mathlib.Omega.{arith}
-
--- a table of names whose entry 0 is the default: only 1 to its length name anything
-unnamed : {A : Type 0} (d : A) (xs : List A) (n : ℕ) → (1 ≤ n → length xs < n) → getD (d ∷ xs) n d ≡ d
-unnamed d xs zero h = refl
-unnamed d xs (suc n) h = List·getD-eq-default xs d (omega (arith, h (omega arith)))
-
-pub no-kind : (n : ℕ) → (1 ≤ n → 5 < n) → kindOf n ≡ NoKind
-unfolding kindOf
-no-kind = unnamed NoKind (Event ∷ Semaphore ∷ Port ∷ Fifo ∷ Resource ∷ [])
-
-pub no-mode : (n : ℕ) → (1 ≤ n → 3 < n) → modeOf n ≡ NoMode
-unfolding modeOf
-no-mode = unnamed NoMode (W ∷ NW ∷ WT ∷ [])
 
 -- W and NW
 pub no-limit : (n ticks : ℕ) → 1 ≤ n → n < 3 → goodWait (modeOf n) ticks ≡ eqb ticks 0

@@ -8,7 +8,8 @@ use Rattle.hubtable.specs.declared.Meeting.{Meeting}
 use Rattle.hubtable.specs.declared.Store.the-variants.{Append, Keep, Take, TakeAppend}
 use Rattle.hubtable.specs.declared.Store.{Store}
 use Rattle.hubtable.specs.declared.Verdict.the-variants.{Met}
-use Rattle.lists.proofs.Laws.{length-padded, pop-padded, push-padded}
+use Rattle.lists.proofs.Counting.{occ-here}
+use Rattle.lists.proofs.Laws.{boolCase, length-padded, pop-padded, push-padded}
 use Rattle.lists.specs.Lists.{entries, occ, padded, removeAt}
 use Rattle.moves.specs.Moves.{Sound}
 use Rattle.records.specs.Records.{hubAt}
@@ -17,9 +18,10 @@ use Rattle.rules.proofs.Accepted.{Asked, request-tests}
 use Rattle.rules.proofs.Changes.{inUse, length-setHub}
 use Rattle.rules.proofs.Cut.{cut-part, cut-paste, cut-set}
 use Rattle.rules.proofs.Listed.{listed-answer, listed-hold}
+use Rattle.rules.proofs.Numbers.{bears-number}
 use Rattle.rules.proofs.Places.{cut-store, hub-word, one-sized, same-hub, store-word, wait-word}
 use Rattle.rules.proofs.Settled.{InUse, length-answer, partners, partners-in}
-use Rattle.rules.proofs.Standing.{first-waits, listed-waits, occ-here}
+use Rattle.rules.proofs.Standing.{first-waits, listed-waits}
 use Rattle.rules.proofs.Valid.{Held, Listed, Range, Valid}
 use Rattle.rules.proofs.Verdicts.{Each, held-side, hubAfter, range-side, waitersMet}
 use Rattle.rules.specs.Calls.{HubRequest, hold, kept, meetAll, serve, settle, wait}
@@ -27,13 +29,13 @@ use Rattle.rules.specs.HubTable.{Verdict, fail, notNow, verdict}
 use Rattle.rules.specs.Lists.{answer, firstWaiting, holding}
 use Rattle.rules.specs.Refusals.{refusalFor}
 use Rattle.rules.specs.Table.{Event, Fifo, Hub, Kind, NoKind, Port, Resource, Semaphore, State, hub, hubWords, kindOf, noHub, one, setHub, setTask, sideOf, task, words}
-use Rattle.rules.specs.WellFormed.{bearsWord}
 use Rattle.rules.specs.declared.Call.{Call}
-use borrow.Author.Tests.{eq-eqb, ne-eqb}
+use borrow.Author.Tests.{eq-eqb, eqb-false, ne-eqb}
 use borrow.Rule.Slice.PartMut.{midOf, putMid}
+use lib.Dec.{eqb}
 use lib.ListN.{drop, getD, length, length-append, length-drop, set}
 use lib.Seq.{getD-set-same, set-set}
-use mathlib.Core.Bool.{and-false, false, true}
+use mathlib.Core.Bool.{and-false}
 use mathlib.Core.List.{List, [], _++_, _∷_}
 use mathlib.Core.Option.{Option, none, some}
 use mathlib.Core.Path.{_∙_, _≡_, ap, refl, subst, sym}
@@ -142,10 +144,6 @@ module _ (s : State) (h : ℕ) (low : h < 16) (used : h < length (s .hubs)) wher
       unfold hold setHub holding in
       rw (getD-set-same (s .hubs) h (holding n ws (hub s h)) noHub used, set-set (s .hubs) h (holding n ws (hub s h)) _) refl
 
-  pub hold-same : hold h (hub s h .count) (hub s h .held) s ≡ s
-  unfolding hold holding
-  hold-same = same-hub s h
-
 -- ---- what a met request rests on
 
 module _ (k : Kind) (T n : ℕ) (x : Hub) where
@@ -241,25 +239,6 @@ told-in s c x s₁ e h = rw (length-answer s₁ (c .caller) 1 x, e) h
 
 -- ---- the word that is kept
 
-bears-not : (n : ℕ) → (n ≡ 3 → ⊥) → (n ≡ 4 → ⊥) → bearsWord (kindOf n) ≡ false
-unfolding bearsWord kindOf
-bears-not zero p q = refl
-bears-not (suc zero) p q = refl
-bears-not (suc (suc zero)) p q = refl
-bears-not (suc (suc (suc zero))) p q = absurd (p refl)
-bears-not (suc (suc (suc (suc zero)))) p q = absurd (q refl)
-bears-not (suc (suc (suc (suc (suc zero))))) p q = refl
-bears-not (suc (suc (suc (suc (suc (suc n)))))) p q = refl
-
-bears : (n : ℕ) → 3 ≤ n → n ≤ 4 → bearsWord (kindOf n) ≡ true
-unfolding bearsWord kindOf
-bears zero p q = absurd (omega arith)
-bears (suc zero) p q = absurd (omega arith)
-bears (suc (suc zero)) p q = absurd (omega arith)
-bears (suc (suc (suc zero))) p q = refl
-bears (suc (suc (suc (suc zero)))) p q = refl
-bears (suc (suc (suc (suc (suc n))))) p q = absurd (omega arith)
-
 module _ (h : Hub) (c : Call) where
   pub kept-get : (c .side ≡ 1 → ⊥) → 0 ≡ kept h c
   unfolding kept
@@ -267,11 +246,13 @@ module _ (h : Hub) (c : Call) where
 
   pub kept-put : 3 ≤ h .kind → h .kind ≤ 4 → c .side ≡ 1 → c .word ≡ kept h c
   unfolding kept
-  kept-put p q e = rw (eq-eqb (c .side) 1 e, bears (h .kind) p q) refl
+  kept-put p q e =
+      rw (eq-eqb (c .side) 1 e, bears-number (h .kind))
+      (boolCase (eqb (h .kind) 3) (λ b. rw b) (λ b. rw (b, eq-eqb (h .kind) 4 (omega (arith, eqb-false (h .kind) 3 b)))))
 
   pub kept-not : (h .kind ≡ 3 → ⊥) → (h .kind ≡ 4 → ⊥) → 0 ≡ kept h c
   unfolding kept
-  kept-not p q = rw (bears-not (h .kind) p q, and-false) refl
+  kept-not p q = rw (bears-number (h .kind), ne-eqb (h .kind) 3 p, ne-eqb (h .kind) 4 q, and-false)
 
 -- ---- what a verdict does to a store, case by case
 

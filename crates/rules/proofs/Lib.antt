@@ -8,6 +8,7 @@ pub mod Hubs
 pub mod Kept
 pub mod Lengths
 pub mod Listed
+pub mod Numbers
 pub mod Order
 pub mod Places
 pub mod Promise

@@ -1,7 +1,8 @@
 -- Calls keep the lists exact. In order: a task leaves all lists, changes, and joins one or none ("exact but for task i, who
 -- is nowhere" between); each service's part; each service. By any key.
 use Prim.Native.Nat.{_+_, _<_, _≤_, suc, zero, ℕ}
-use Rattle.lists.proofs.Laws.{boolCase, occ-insert, occ-without}
+use Rattle.lists.proofs.Counting.{occ-insert, occ-without}
+use Rattle.lists.proofs.Laws.{boolCase}
 use Rattle.lists.specs.Lists.{bit, insert, occ}
 use Rattle.rules.proofs.Accepted.{Asked, by-running, on-task, request-tests}
 use Rattle.rules.proofs.Cases.{condCase, sameOr}

@@ -2,11 +2,12 @@
 -- order by a fixed key, the priorities as they were), move by move; each service, where the key is each task's own
 -- priority, before the call and after.
 use Prim.Native.Nat.{_<_, _≤_, suc, zero, ℕ}
+use Rattle.lists.proofs.Counting.{occ-here}
 use Rattle.lists.proofs.Laws.{boolCase}
 use Rattle.lists.specs.Lists.{insert, occ, without}
 use Rattle.rules.proofs.Cases.{condCase, sameOr}
 use Rattle.rules.proofs.Changes.{added-other, hub-added-other, hub-added-same, hub-leave, hub-set-other, hub-set-same, past-end, set-keeps}
-use Rattle.rules.proofs.Standing.{listed-ready, listed-waits, occ-here}
+use Rattle.rules.proofs.Standing.{listed-ready, listed-waits}
 use Rattle.rules.proofs.Valid.{Below, Listed, Ordered, Sorted}
 use Rattle.rules.specs.Calls.{AddHub, AddTask, Blank, HubRequest, Resume, Service, Sleep, Start, Stop, Suspend, Tick, Unknown, Yield, addHub, addStarted, addTask, blank, flag, grant, hold, meetAll, newHub, serve, settle, slept, start, stop, tickAll, tickBy, tickOne, wait, yielded}
 use Rattle.rules.specs.HubTable.{Meeting, Verdict, fail, met, notNow, verdict}
@@ -26,7 +27,7 @@ use native.Mathlib.Omega.{arith}
 -- ---- sorted lists
 
 module _ (key : ℕ → ℕ) where
-  below-le : (n m : ℕ) (l : List ℕ) → n ≤ m → Below key m l → Below key n l
+  pub below-le : (n m : ℕ) (l : List ℕ) → n ≤ m → Below key m l → Below key n l
   unfolding Below
   below-le n m [] h b = tt
   below-le n m (x ∷ xs) h b = (omega (arith, b .0), below-le n m xs h (b .1))

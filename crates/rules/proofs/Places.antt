@@ -3,21 +3,20 @@
 -- Not here: a table that is read (Reading.antt). Assumes nothing.
 use Prim.Native.Nat.{_*_, _+_, _-_, _<_, _≤_, suc, zero, ℕ}
 use Rattle.lists.proofs.Laws.{length-entries, length-padded}
-use Rattle.lists.proofs.Padding.{allZero-replicate}
+use Rattle.lists.proofs.Padding.{allZero-replicate, zero-at}
 use Rattle.lists.specs.Lists.{entries}
-use Rattle.rules.proofs.Cut.{Cut, cut-along, cut-get, cut-here, cut-move, cut-part, cut-paste, cut-set, cut-sets, cut-within}
+use Rattle.rules.proofs.Cut.{Cut, cut-along, cut-get, cut-here, cut-move, cut-part, cut-set, cut-sets, cut-within}
 use Rattle.rules.specs.Calls.{addHub, addTask}
 use Rattle.rules.specs.Lists.{holding, queued}
 use Rattle.rules.specs.Table.{Hub, Layout, Sized, State, Task, contents, hub, hubWords, hubsAt, inactive, noHub, one, part, readyAt, rows, setHub, setReady, setTask, size, storeOf, storePart, storesAt, task, tasksAt, waitPart, waitWords, waitsAt, words}
 use Rattle.rules.specs.WellFormed.{unusedZero, zeroFrom}
-use borrow.Rule.Slice.PartMut.{putMid}
 use lib.ListN.{getD, length, length-append, length-replicate, length-set, replicate, replicate-append-replicate, set}
 use lib.Seq.{set-getD, sets}
 use mathlib.Core.Bool.{true}
 use mathlib.Core.List.{List, [], _++_, _∷_, append-assoc, append-nil}
 use mathlib.Core.Option.{Option, none, some}
 use mathlib.Core.Path.{_∙_, _≡_, ap, refl, sym}
-use native.Mathlib.Nat.{add-mul, add-sub-of-le, le-of-suc-le-suc, not-suc-le-zero, sub-zero, suc-mul, zero-mul}
+use native.Mathlib.Nat.{add-mul, add-sub-of-le, le-of-suc-le-suc, mul-le-mul-right, not-suc-le-zero, sub-zero, suc-mul, zero-mul}
 use native.Mathlib.Numerals.{add-one}
 use native.Mathlib.Omega.{arith}
 
@@ -233,16 +232,6 @@ module _ (L : Layout) (z : Sized L) (s : State) where
   unfolding setReady
   ready-part = cut-part cut-ready (s .ready) 16 (length-entries 16 (s .ready))
 
-  -- the record written whole; the list lent, and given back with another value
-  pub put-task : (i : ℕ) (y : Task) → i < 16 → i < length (s .tasks) → sets (words L s) (tasksAt + i * L .taskSize) (L .taskWords y) ≡ words L (setTask i y s)
-  put-task i y h hi =
-      ap (λ (x : State). sets (words L x) (tasksAt + i * L .taskSize) (L .taskWords y)) (sym (same-task s i))
-      ∙ cut-sets (cut-task i h hi) (task s i) y (z .task (task s i) ∙ sym (z .task y))
-
-  pub put-ready : (l : List ℕ) → putMid (readyAt L) 16 (words L s) (entries 16 l) ≡ words L (setReady l s)
-  unfolding setReady
-  put-ready l = cut-paste cut-ready (s .ready) l 16 (length-entries 16 (s .ready))
-
 -- ---- a hub's record, list and store, the other two kept: b's
 
 -- the four words of y's record, the list and the store of b
@@ -313,24 +302,6 @@ module _ (L : Layout) (z : Sized L) (s : State) (h : ℕ) (lt : h < 16) (used : 
   unfolding holding
   set-count m n ws b = cut-set (cut-hub-record (holding m ws b)) (holding m ws b) (holding n ws b) 1 n (omega arith) refl
 
-  pub put-waiters : (l : List ℕ) → putMid (waitsAt L + h * 16) 16 (words L s) (entries 16 l) ≡ words L (setHub h (queued l (hub s h)) s)
-  unfolding queued
-  put-waiters l =
-      ap (λ (x : State). putMid (waitsAt L + h * 16) 16 (words L x) (entries 16 l)) (sym (same-hub s h))
-      ∙ cut-paste (cut-waiters (hub s h)) (hub s h .waiters) l 16 (length-waitWords (hub s h))
-
-  pub put-store : (ws : List ℕ) → putMid (storesAt L + h * L .storeSize) (L .storeSize) (words L s) (L .storeWords ws) ≡ words L (setHub h (holding (hub s h .count) ws (hub s h)) s)
-  unfolding holding
-  put-store ws =
-      ap (λ (x : State). putMid (storesAt L + h * L .storeSize) (L .storeSize) (words L x) (L .storeWords ws)) (sym (same-hub s h))
-      ∙ cut-paste (cut-store (hub s h .count) (hub s h)) (hub s h .held) ws (L .storeSize) (z .store (hub s h .held))
-
-  pub set-count-here : (n : ℕ) → set (words L s) (hubsAt L + h * 4 + 1) n ≡ words L (setHub h (holding n (hub s h .held) (hub s h)) s)
-  unfolding holding
-  set-count-here n =
-      ap (λ (x : State). set (words L x) (hubsAt L + h * 4 + 1) n) (sym (same-hub s h))
-      ∙ set-count (hub s h .count) n (hub s h .held) (hub s h)
-
   pub hub-word : (k : ℕ) → k < 4 → getD (words L s) (hubsAt L + h * 4 + k) 0 ≡ getD (hubWords (hub s h)) k 0
   hub-word k hk =
       ap (λ (x : State). getD (words L x) (hubsAt L + h * 4 + k) 0) (sym (same-hub s h))
@@ -383,6 +354,24 @@ module _ (L : Layout) (z : Sized L) (s : State) (tasks : length (s .tasks) ≤ 1
         ap (zeroFrom (storesAt L + length (s .hubs) * L .storeSize) (size L)) atStores
             ∙ rest-zero (L .storeSize) (storeOf L) (λ h. z .store (h .held)) 16 (s .hubs) hubs (toStores L s) [] (storesAt L) (length-toStores L z s),
       )
+
+-- a word of a task record that is not in use
+module _ (L : Layout) (z : Sized L) (s : State) (few : length (s .tasks) ≤ 16) where
+  pub task-word-unused : (i k : ℕ) → length (s .tasks) ≤ i → i < 16 → k < L .taskSize → getD (words L s) (tasksAt + i * L .taskSize + k) 0 ≡ 0
+  unfolding contents words
+  task-word-unused i k unused h hk =
+      let w = L .taskSize in
+      let T = length (s .tasks) in
+      let upTo : T * w + (i - T) * w ≡ i * w = sym (add-mul T (i - T) w) ∙ ap (λ (n : ℕ). n * w) (add-sub-of-le unused) in
+      let all : T * w + (16 - T) * w ≡ 16 * w = sym (add-mul T (16 - T) w) ∙ ap (λ (n : ℕ). n * w) (add-sub-of-le few) in
+      let more : suc (i - T) * w ≤ (16 - T) * w = mul-le-mul-right w (omega arith) in
+      let place : tasksAt + i * w + k ≡ tasksAt + T * w + ((i - T) * w + k) = omega arith in
+      let inside : (i - T) * w + k < tasksAt + 16 * w - (tasksAt + T * w) = omega (arith, suc-mul (i - T) w) in
+      ap (λ (n : ℕ). getD (words L s) n 0) place
+      ∙ zero-at (words L s) (tasksAt + T * w) (tasksAt + 16 * w - (tasksAt + T * w)) ((i - T) * w + k) inside
+      (rest-zero w (L .taskWords) (z .task) 16 (s .tasks) few (contents L s)
+      (rows 4 hubWords 16 (s .hubs) ++ (entries 16 (s .ready) ++ (rows 16 waitWords 16 (s .hubs) ++ rows (L .storeSize) (storeOf L) 16 (s .hubs))))
+      tasksAt refl)
 
 -- ---- one more record
 

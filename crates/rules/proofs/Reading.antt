@@ -12,7 +12,7 @@ use Rattle.rules.proofs.Valid.{Fits, Held, Range, Room}
 use Rattle.rules.specs.Table.{Event, Fifo, Hub, Kind, Layout, NoKind, Port, Resource, Semaphore, Sized, State, Task, contents, heldIn, hub, hubAt, hubWordAt, hubWords, hubsAt, inactive, kindOf, noHub, one, part, read, readyAt, rows, size, storeOf, storePart, storesAt, tab, task, taskAt, tasksAt, waitPart, waitWords, waitsAt, words}
 use Rattle.rules.specs.WellFormed.{contentsRight, forAll, hubsRight, listsPacked, storeRight, storesRight, unusedZero, valid, written, zeroFrom}
 use borrow.Author.Tests.{eq-eqb, eqb-true, le-leb, leb-true}
-use lib.ListN.{List·getD-eq-default, drop, getD, length, length-drop, replicate, take, take-append-drop}
+use lib.ListN.{drop, getD, length, length-drop, replicate, take, take-append-drop}
 use lib.Seq.{drop-cons, drop-drop, length-take-le, take-add, take-all}
 use mathlib.Core.Bool.{Bool, and-eq-true-iff, true}
 use mathlib.Core.List.{List, [], _++_, _∷_}
@@ -64,15 +64,9 @@ module _ (L : Layout) (t : List ℕ) where
   unfolding read
   read-task i h = getD-tab (taskAt L t) (inactive 0) (getD t 1 0) 0 i h ∙ ap (taskAt L t) (zero-add i)
 
-  pub read-task-out : (i : ℕ) → getD t 1 0 ≤ i → task (read L t) i ≡ inactive 0
-  read-task-out i h = List·getD-eq-default (read L t .tasks) (inactive 0) (rw read-tasks h)
-
   pub read-hub : (h : ℕ) → h < getD t 2 0 → hub (read L t) h ≡ hubAt L t h
   unfolding read
   read-hub h used = getD-tab (hubAt L t) noHub (getD t 2 0) 0 h used ∙ ap (hubAt L t) (zero-add h)
-
-  pub read-hub-out : (h : ℕ) → getD t 2 0 ≤ h → hub (read L t) h ≡ noHub
-  read-hub-out h out = List·getD-eq-default (read L t .hubs) noHub (rw read-hubs out)
 
 -- ---- a layout whose words can be read
 

@@ -1,19 +1,18 @@
 -- A valid state has room in a table: a list in which each number stands at most once, and only numbers below T, has at most
 -- T entries; and a store holds at most 8 words.
-use Prim.Native.Nat.{_+_, _<_, _≤_, suc, zero, ℕ}
-use Rattle.lists.proofs.Laws.{boolCase, occ-without}
-use Rattle.lists.specs.Lists.{bit, occ, without}
+use Prim.Native.Nat.{_≤_, ℕ}
+use Rattle.lists.proofs.Counting.{length-below}
+use Rattle.lists.proofs.Laws.{boolCase}
+use Rattle.lists.specs.Lists.{bit, occ}
 use Rattle.rules.proofs.Changes.{inUse}
-use Rattle.rules.proofs.Standing.{listed-ready, listed-waits, occ-here}
+use Rattle.rules.proofs.Standing.{listed-ready, listed-waits}
 use Rattle.rules.proofs.Valid.{Held, Listed, Range, Room, Valid}
 use Rattle.rules.specs.Table.{Event, Fifo, Hub, Kind, NoKind, Port, Resource, Semaphore, State, hub, kindOf, noHub}
 use Rattle.rules.specs.WellFormed.{isReady, waitsFor}
-use borrow.Author.Tests.{eqb-false, ltb-false, ltb-true}
-use lib.Dec.{eqb, ltb}
+use borrow.Author.Tests.{ltb-false, ltb-true}
+use lib.Dec.{ltb}
 use lib.ListN.{List·getD-eq-default, length}
 use mathlib.Core.Bool.{Bool, false, true}
-use mathlib.Core.List.{List, [], _∷_}
-use mathlib.Core.Path.{_≡_, refl}
 use native.Mathlib.Omega.{arith}
 
 -- ---- any list
@@ -21,30 +20,6 @@ use native.Mathlib.Omega.{arith}
 bit-le : (b : Bool) → bit b ≤ 1
 bit-le true = omega arith
 bit-le false = omega arith
-
--- all of a number's occurrences taken out are as many as they were
-length-without : (t : ℕ) (l : List ℕ) → length l ≡ occ t l + length (without t l)
-unfolding occ without
-length-without t [] = refl
-length-without t (x ∷ xs) = boolCase (eqb x t) (λ b. rw b (omega (arith, length-without t xs))) (λ b. rw b (omega (arith, length-without t xs)))
-
-pub length-below : (T : ℕ) (l : List ℕ) → ((i : ℕ) → occ i l ≤ 1) → ((i : ℕ) → 1 ≤ occ i l → i < T) → length l ≤ T
-length-below zero [] once below = omega arith
-length-below zero (x ∷ xs) once below = absurd (omega (arith, below x (occ-here x xs)))
-length-below (suc T) l once below =
-    omega (arith, once T, length-without T l, length-below T (without T l) less under)
-  where
-    kept : (i : ℕ) → occ i (without T l) ≤ occ i l
-    kept i = boolCase (eqb T i) (λ b. omega (arith, rw b at (occ-without T i l))) (λ b. omega (arith, rw b at (occ-without T i l)))
-
-    less : (i : ℕ) → occ i (without T l) ≤ 1
-    less i = omega (arith, kept i, once i)
-
-    under : (i : ℕ) → 1 ≤ occ i (without T l) → i < T
-    under i h =
-        boolCase (eqb T i)
-        (λ b. absurd (omega (arith, rw b at (occ-without T i l))))
-        (λ b. let n : T ≡ i → ⊥ = eqb-false T i b in omega (arith, kept i, below i (omega (arith, kept i))))
 
 -- ---- lists that hold exactly the tasks that their records say have room for them all
 

@@ -1,5 +1,6 @@
 -- Who stands in a list that is exact: the running task, the first that waits on a side, and what their records say.
-use Prim.Native.Nat.{_+_, _<_, _≤_, suc, ℕ}
+use Prim.Native.Nat.{_<_, _≤_, suc, ℕ}
+use Rattle.lists.proofs.Counting.{occ-tail}
 use Rattle.lists.proofs.Laws.{boolCase}
 use Rattle.lists.specs.Lists.{bit, occ}
 use Rattle.rules.proofs.Cases.{and-l, and-r, bit-pos, sameOr}
@@ -7,25 +8,17 @@ use Rattle.rules.proofs.Valid.{Listed}
 use Rattle.rules.specs.Lists.{firstFree, firstWaiting, next}
 use Rattle.rules.specs.Table.{Hub, State, hub, isSuspended, noHub, task}
 use Rattle.rules.specs.WellFormed.{isReady, waitsFor}
-use borrow.Author.Tests.{eq-eqb, eqb-false, eqb-true, ltb-false, ltb-true, ne-eqb}
+use borrow.Author.Tests.{eq-eqb, eqb-false, eqb-true, ltb-false, ltb-true}
 use lib.Dec.{eqb, ltb}
 use lib.ListN.{List·getD-eq-default, length}
 use mathlib.Core.Bool.{false≢true, true}
 use mathlib.Core.List.{List, [], _∷_}
 use mathlib.Core.Logic.{_≢_}
 use mathlib.Core.Option.{none, some}
-use mathlib.Core.Path.{_∙_, _≡_, ap, refl}
+use mathlib.Core.Path.{_∙_, _≡_, ap}
 use native.Mathlib.Omega.{arith}
 
 -- ---- lists, whatever they hold
-
-pub occ-here : (i : ℕ) (l : List ℕ) → 1 ≤ occ i (i ∷ l)
-unfolding occ
-occ-here i l = rw (eq-eqb i i refl) (omega arith)
-
-pub occ-tail : (i x : ℕ) (l : List ℕ) → x ≢ i → 1 ≤ occ i (x ∷ l) → 1 ≤ occ i l
-unfolding occ
-occ-tail i x l n h = let k : 1 ≤ 0 + occ i l = rw (ne-eqb x i n) at h in omega arith
 
 first-listed : (s : State) (l : List ℕ) (i : ℕ) → firstFree s l ≡ suc i → 1 ≤ occ i l
 unfolding firstFree occ

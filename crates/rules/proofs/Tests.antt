@@ -1,11 +1,12 @@
 -- The tests of specs/WellFormed.antt say what Valid.antt states: a test and what it tests (`Tests`), put together by and,
 -- or, not, for all; then each clause in the order of the definitions; then the whole, in both directions.
 use Prim.Native.Nat.{_<_, _≤_, pred, suc, zero, ℕ}
+use Rattle.lists.proofs.Counting.{occ-here, occ-tail}
 use Rattle.lists.proofs.Laws.{boolCase}
 use Rattle.lists.specs.Lists.{bit, occ}
 use Rattle.rules.proofs.Cases.{and-l, and-r, sameOr}
 use Rattle.rules.proofs.Shapes.{ok-inactive, shape-at}
-use Rattle.rules.proofs.Standing.{listed-waiting, occ-here, occ-tail, waiting-listed, waiting-used}
+use Rattle.rules.proofs.Standing.{listed-waiting, waiting-listed, waiting-used}
 use Rattle.rules.proofs.Valid.{Below, Fits, GetWaits, Listed, MayWait, Ordered, PutWaits, Range, Records, Shape, Sorted, TaskOk, Valid, Waits}
 use Rattle.rules.specs.Table.{Event, Fifo, Get, Hub, Inactive, Kind, NoKind, NoSide, NoStage, Port, Put, Ready, Resource, Semaphore, Side, Sleeping, Stage, State, Task, Waiting, hub, inactive, kindOf, noHub, sideOf, stageOf, task}
 use Rattle.rules.specs.WellFormed.{bearsWord, every, exactly, fieldsRight, forAll, hubsRight, inOrder, isReady, kindRight, listsExact, mayWait, oneSide, rising, stageRight, tasksRight, urgency, valid, waitersRight, waitsFor, within}
@@ -29,10 +30,6 @@ t-iff b t f g = record { yes = λ e. f (t .yes e); conv = λ q. t .conv (g q) }
 
 pub t-and : {P Q : Type 0} (a b : Bool) → Tests a P → Tests b Q → Tests (a && b) (P × Q)
 t-and a b s t = record { yes = λ e. (s .yes (and-l a b e), t .yes (and-r a b e)); conv = λ p. rw (s .conv (p .0), t .conv (p .1)) refl }
-
-pub t-imp : {P Q : Type 0} (a b : Bool) → Tests a P → Tests b Q → Tests (not a || b) (P → Q)
-t-imp true b s t = record { yes = λ e p. t .yes e; conv = λ f. t .conv (f (s .yes refl)) }
-t-imp false b s t = record { yes = λ e p. absurd (false≢true (s .conv p)); conv = λ f. refl }
 
 pub t-not : {P : Type 0} (a : Bool) → Tests a P → Tests (not a) (P → ⊥)
 t-not true s = record { yes = λ e. absurd (false≢true e); conv = λ f. absurd (f (s .yes refl)) }

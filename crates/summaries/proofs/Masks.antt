@@ -2,17 +2,19 @@
 -- numbers that pass a test stand, once each; the size and the digits of a mask; the waiting list of a hub that is found.
 -- Not here: what a summary promises (Promise.antt). Assumes nothing.
 use Prim.Native.Nat.{_%_, _*_, _+_, _-_, _/_, _<_, _^_, _≤_, suc, zero, ℕ}
-use Rattle.lists.proofs.Laws.{boolCase, occ-without}
-use Rattle.lists.specs.Lists.{allZero, bit, numbers, occ, packed, without}
+use Rattle.lists.proofs.Counting.{occ-here, occ-without}
+use Rattle.lists.proofs.Laws.{boolCase}
+use Rattle.lists.proofs.Padding.{allZero-numbers, packed-tail}
+use Rattle.lists.specs.Lists.{bit, numbers, occ, packed, without}
 use Rattle.records.specs.declared.HubNo.{HubNo}
-use Rattle.refusals.proofs.Found.{hub-in-use}
+use Rattle.refusals.proofs.Found.{hub-in-use, hub-number}
 use Rattle.refusals.specs.Lookup.{foundHub}
 use Rattle.refusals.specs.declared.FoundHub.the-variants.{InUse}
 use Rattle.rules.proofs.After.{read-valid, well-formed-long}
 use Rattle.rules.proofs.Cases.{and-l}
 use Rattle.rules.proofs.Changes.{inUse}
 use Rattle.rules.proofs.Reading.{read-hub, read-hubs, written-says}
-use Rattle.rules.proofs.Standing.{listed-waits, occ-here}
+use Rattle.rules.proofs.Standing.{listed-waits}
 use Rattle.rules.proofs.Valid.{Valid}
 use Rattle.rules.specs.Reply.{maskBelow}
 use Rattle.rules.specs.Table.{Hub, State, hub, hubAt, one, read, waitPart}
@@ -23,7 +25,7 @@ use lib.Dec.{eqb, lit<, ltb}
 use lib.ListN.{drop, getD, length}
 use lib.Pow.{field, high, low, mod-mod-pow, pow-mono, shl-exact}
 use lib.Seq.{drop-cons}
-use mathlib.Core.Bool.{Bool, false, false≢true, true}
+use mathlib.Core.Bool.{Bool, false, true}
 use mathlib.Core.List.{List, [], _∷_}
 use mathlib.Core.Path.{_∙_, _≡_, ap, refl, sym}
 use native.Mathlib.Nat.{add-mul, mul-div-cancel, one-mul, pow-suc, zero-mul}
@@ -44,20 +46,6 @@ bit-entry zero h = omega arith
 bit-entry (suc i) h = boolCase (ltb i 16) (λ b. omega (arith, ltb-true i 16 b)) (λ b. let k : 2 ^ 16 ≤ 2 ^ i = pow-mono (ltb-false i 16 b) in absurd (omega arith))
 
 -- ---- a turn of a loop over a list of words
-
-allZero-packed : (l : List ℕ) → allZero l ≡ true → packed l ≡ true
-unfolding allZero packed
-allZero-packed [] e = refl
-allZero-packed (x ∷ xs) e = boolCase (eqb x 0) (λ b. rw b (rw b at e)) (λ b. absurd (false≢true (rw b at e)))
-
-allZero-numbers : (l : List ℕ) → allZero l ≡ true → numbers l ≡ []
-unfolding allZero numbers
-allZero-numbers [] e = refl
-allZero-numbers (x ∷ xs) e = boolCase (eqb x 0) (λ b. rw b) (λ b. absurd (false≢true (rw b at e)))
-
-packed-tail : (x : ℕ) (xs : List ℕ) → packed (x ∷ xs) ≡ true → packed xs ≡ true
-unfolding packed
-packed-tail x xs e = boolCase (eqb x 0) (λ b. allZero-packed xs (rw b at e)) (λ b. rw b at e)
 
 mask-cons : (x : ℕ) (xs : List ℕ) → packed (x ∷ xs) ≡ true → maskOf (numbers (x ∷ xs)) ≡ bitOf x + maskOf (numbers xs)
 unfolding bitOf maskOf numbers packed
@@ -167,8 +155,7 @@ pub found-in : (t : List ℕ) (n : ℕ) (h : HubNo) → wellFormed t ≡ true �
 unfolding foundHub hubAt wellFormed
 found-in t n h w e =
     let b = hub-in-use t n h e in
-    let found : InUse h ≡ InUse (record { 0 = n }) = rw b at e in
-    let same : h ≡ record { 0 = n } = cc in
+    let same = hub-number t n h e in
     let used : n < getD t 2 0 = ltb-true n (getD t 2 0) b in
     record {
       used = used;

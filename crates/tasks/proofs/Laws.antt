@@ -1,12 +1,13 @@
 -- Services 2 to 5 by their condition: the state that each leaves where it holds and where it doesn't; and how many tasks each
 -- move leaves. Assumes nothing.
 use Prim.Native.Nat.{ℕ}
+use Rattle.rules.proofs.Changes.{length-setTask}
 use Rattle.rules.specs.Calls.{Resume, Start, Stop, Suspend, flag, grant, serve, start, stop}
 use Rattle.rules.specs.Lists.{answer, joinReady, leave}
-use Rattle.rules.specs.Table.{State, Task, setReady, setTask, task}
+use Rattle.rules.specs.Table.{State, setReady, task}
 use Rattle.rules.specs.declared.Call.{Call}
 use borrow.Author.Tests.{eq-eqb, ne-eqb}
-use lib.ListN.{length, length-set}
+use lib.ListN.{length}
 use mathlib.Core.Path.{_≡_}
 
 module _ (key : ℕ → ℕ) (s : State) (c : Call) where
@@ -61,21 +62,16 @@ module _ (key : ℕ → ℕ) (s : State) (c : Call) where
   unfolding grant serve
   resume-grants n = rw (ne-eqb (task s (c .target) .suspended) 0 n)
 
--- a record written keeps the number of tasks
-pub length-setTask : (i : ℕ) (t : Task) (s : State) → length (setTask i t s .tasks) ≡ length (s .tasks)
-unfolding setTask
-length-setTask i t s = length-set (s .tasks) i t
-
 -- and so do the moves of these services
 module _ (key : ℕ → ℕ) (i : ℕ) (s : State) where
   pub tasks-start : length (start key i s .tasks) ≡ length (s .tasks)
   unfolding joinReady setReady start
-  tasks-start = length-setTask i _ s
+  tasks-start = length-setTask s i _
 
   pub tasks-stop : length (stop i s .tasks) ≡ length (s .tasks)
   unfolding leave stop
-  tasks-stop = length-setTask i _ (leave i s)
+  tasks-stop = length-setTask (leave i s) i _
 
   pub tasks-flag : (f : ℕ) → length (flag f i s .tasks) ≡ length (s .tasks)
   unfolding flag
-  tasks-flag f = length-setTask i _ s
+  tasks-flag f = length-setTask s i _

@@ -35,6 +35,22 @@ module _ {test : Bool} {met : ℕ → ℕ} {m : List ℕ} where
   marked-as : {other : Bool} {with : ℕ → ℕ} {r : Bool} {n : List ℕ} → other ≡ test → ((j : ℕ) → with j ≡ met j) → Marked r other with m n → Marked r test met m n
   marked-as e q w = record { right = w .right ∙ e; long = w .long; marks = λ f j. rw (q j) at (w .marks f j) }
 
+-- ---- a store by the number of its hub's kind: a FIFO's, and any other
+
+pub store-fifo : (n count : ℕ) (store : List ℕ) → n ≡ 4 → storeRight one (kindOf n) count store ≡ allZero (drop count store)
+unfolding kindOf storeRight
+store-fifo n count store e = rw e
+
+pub store-other : (n count : ℕ) (store : List ℕ) → (n ≡ 4 → ⊥) → storeRight one (kindOf n) count store ≡ allZero store
+unfolding kindOf storeRight
+store-other zero count store d = refl
+store-other (suc zero) count store d = refl
+store-other (suc (suc zero)) count store d = refl
+store-other (suc (suc (suc zero))) count store d = refl
+store-other (suc (suc (suc (suc zero)))) count store d = absurd (d refl)
+store-other (suc (suc (suc (suc (suc zero))))) count store d = refl
+store-other (suc (suc (suc (suc (suc (suc n)))))) count store d = refl
+
 -- ---- the words of a hub's record
 
 module _ (t : List ℕ) (h : ℕ) (u : h < getD t 2 0) where

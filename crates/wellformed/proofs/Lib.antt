@@ -1,6 +1,5 @@
 pub mod Hubs
 pub mod Marks
-pub mod Numbers
 pub mod Parts
 pub mod Queues
 pub mod Turns

@@ -1,10 +1,12 @@
 -- What the walk of a list says, both ways: of any list (`Queue`), and of a hub's list, whose first entry's side may wait
 -- (`Line`). Not here: that each task stands in the list that its record says (Marks.antt). Assumes nothing.
 use Prim.Native.Nat.{_<_, _≤_, pred, suc, zero, zero-le, ℕ}
+use Rattle.lists.proofs.Counting.{occ-here, occ-tail}
 use Rattle.lists.proofs.Laws.{boolCase}
-use Rattle.lists.specs.Lists.{allZero, numbers, occ, packed}
+use Rattle.lists.proofs.Padding.{zeros-packed}
+use Rattle.lists.specs.Lists.{numbers, occ, packed}
 use Rattle.rules.proofs.Cases.{and-l, and-r, sameOr}
-use Rattle.rules.proofs.Standing.{occ-here, occ-tail}
+use Rattle.rules.proofs.Order.{below-le}
 use Rattle.rules.proofs.Tests.{Tests, t-and, t-eq, t-le, t-not}
 use Rattle.rules.proofs.Valid.{Below, Range, Sorted}
 use Rattle.rules.specs.Table.{Hub, State, kindOf, sideOf, task}
@@ -17,11 +19,6 @@ use mathlib.Core.Bool.{_&&_, and-true, false, not, or-false, true}
 use mathlib.Core.List.{List, [], _∷_}
 use mathlib.Core.Path.{_∙_, _≡_, refl, subst, sym}
 use native.Mathlib.Omega.{arith}
-
-below-le : (key : ℕ → ℕ) (n m : ℕ) (l : List ℕ) → n ≤ m → Below key m l → Below key n l
-unfolding Below
-below-le key n m [] h b = tt
-below-le key n m (x ∷ xs) h b = (omega (arith, b .0), below-le key n m xs h (b .1))
 
 -- ---- a list
 
@@ -126,11 +123,6 @@ pub first-none : (l : List ℕ) → getD l 0 0 ≡ 0 → (i : ℕ) → 1 ≤ occ
 unfolding numbers occ
 first-none [] e i o = omega arith
 first-none (x ∷ xs) e i o = omega (arith, rw (eq-eqb x 0 e) at o)
-
-zeros-packed : (l : List ℕ) → getD l 0 0 ≡ 0 → packed l ≡ allZero l
-unfolding allZero packed
-zeros-packed [] e = refl
-zeros-packed (x ∷ xs) e = rw (eq-eqb x 0 e)
 
 -- a list with nobody in it
 empty-queue : (s : State) (a d owner : ℕ) (l : List ℕ) → getD l 0 0 ≡ 0 → packed l ≡ true → Queue s a d owner 0 l

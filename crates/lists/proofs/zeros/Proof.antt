@@ -11,7 +11,7 @@ use lib.Bits.{and-le-r, bitOr, or-add-and, or-zero-l}
 use lib.Dec.{eqb}
 use lib.ListN.{drop, drop-of-length-le, getD, length}
 use lib.Seq.{drop-cons}
-use mathlib.Core.Bool.{_&&_, and-true, cond, false}
+use mathlib.Core.Bool.{_&&_, and-true}
 use mathlib.Core.List.{List}
 use mathlib.Core.Path.{_∙_, _≡_, refl, sym}
 use native.Mathlib.Numerals.{add-one}

@@ -1,7 +1,7 @@
 -- `refusals::good_hub` meets its contract: each number's row of the kinds table computes. Assumes nothing.
-use Rattle.refusals.proofs.Numbers.{no-kind}
 use Rattle.refusals.proofs.good_hub.Statement.{statement}
 use Rattle.refusals.proofs.good_hub.Tie as tie
+use Rattle.rules.proofs.Numbers.{no-kind}
 use Rattle.rules.specs.Refusals.{goodHub}
 use Rattle.rules.specs.Table.{kindOf}
 use mathlib.Core.Logic.{inl, inr, ⊎-elim}

@@ -1,7 +1,8 @@
 -- `refusals::good_wait` meets its contract, by the mode's number. Assumes nothing.
-use Rattle.refusals.proofs.Numbers.{no-limit, no-mode}
+use Rattle.refusals.proofs.Numbers.{no-limit}
 use Rattle.refusals.proofs.good_wait.Statement.{statement}
 use Rattle.refusals.proofs.good_wait.Tie as tie
+use Rattle.rules.proofs.Numbers.{no-mode}
 use Rattle.rules.specs.Refusals.{goodWait, modeOf}
 use borrow.Author.Needs.{needs}
 use mathlib.Core.Path.{sym}

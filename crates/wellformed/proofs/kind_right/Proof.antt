@@ -1,12 +1,15 @@
 -- `wellformed::kind_right` meets its contract: an arm for each kind of the kinds table. Assumes nothing.
+use Prim.Native.Nat.{_*_, _+_}
+use Rattle.rules.proofs.Numbers.{no-kind}
 use Rattle.rules.specs.Table.{hubAt, kindOf}
 use Rattle.rules.specs.WellFormed.{kindRight}
 use Rattle.wellformed.proofs.Hubs.{kind-arm}
-use Rattle.wellformed.proofs.Numbers.{no-kind}
 use Rattle.wellformed.proofs.kind_right.Statement.{statement}
 use Rattle.wellformed.proofs.kind_right.Tie as tie
 use borrow.Author.Needs.{needs}
+use lib.ListN.{getD}
 use mathlib.Core.Path.{_∙_, refl, sym}
+use native.Mathlib.Omega.{arith}
 
 mul-b : tie.Need-mul-b
 mul-b c = search needs
@@ -75,7 +78,7 @@ unfolding kindRight
 returns-6 c =
     let b = c .before .before .before .before .before in
     let n = c .match .rest in
-    sym (kind-arm (b .args .t .now) (b .args .h) (b .pre .1) _ refl ∙ rw (no-kind _ (n .0 .0 .0 .0 .1) (n .0 .0 .0 .1) (n .0 .0 .1) (n .0 .1) (n .1)))
+    sym (kind-arm (b .args .t .now) (b .args .h) (b .pre .1) _ refl ∙ rw (no-kind (getD (b .args .t .now) (136 + b .args .h * 4) 0) (λ h. omega (arith, n .0 .0 .0 .0 .1, n .0 .0 .0 .1, n .0 .0 .1, n .0 .1, n .1))))
 
 pub kind-right-spec : {M : Type 1} → statement M
 kind-right-spec =

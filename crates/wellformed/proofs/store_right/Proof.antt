@@ -1,8 +1,7 @@
 -- `wellformed::store_right` meets its contract: a FIFO's store from its count on, and other stores whole. Assumes nothing.
 use Prim.Native.Nat.{_*_, _+_}
 use Rattle.lists.specs.Lists.{allZero}
-use Rattle.wellformed.proofs.Hubs.{fifo-fits, store-as}
-use Rattle.wellformed.proofs.Numbers.{store-fifo, store-other}
+use Rattle.wellformed.proofs.Hubs.{fifo-fits, store-as, store-fifo, store-other}
 use Rattle.wellformed.proofs.Parts.{row-long, to-end}
 use Rattle.wellformed.proofs.store_right.Statement.{statement}
 use Rattle.wellformed.proofs.store_right.Tie as tie

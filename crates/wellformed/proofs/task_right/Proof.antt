@@ -1,8 +1,8 @@
 -- `wellformed::task_right` meets its contract: the ranges, then an arm for each state. Assumes nothing.
 use Prim.Native.Nat.{ℕ}
+use Rattle.rules.proofs.Numbers.{no-stage}
 use Rattle.rules.specs.Table.{one, read, stageOf}
 use Rattle.rules.specs.WellFormed.{fieldsRight, stageRight}
-use Rattle.wellformed.proofs.Numbers.{no-stage}
 use Rattle.wellformed.proofs.Turns.{record-range, record-stage}
 use Rattle.wellformed.proofs.task_right.Statement.{statement}
 use Rattle.wellformed.proofs.task_right.Tie as tie
@@ -13,6 +13,7 @@ use lib.Dec.{eqb}
 use lib.ListN.{getD}
 use mathlib.Core.Bool.{_&&_}
 use mathlib.Core.Path.{_∙_, _≡_, refl, sym}
+use native.Mathlib.Omega.{arith}
 
 staged : (c : tie.After-shared-slice-known10) (n : ℕ) → getD (c .before .before .before .before .before .before .before .before .before .before .before .args .x .now) 0 0 ≡ n → recordRight (read one (c .before .before .before .before .before .before .before .before .before .before .before .args .t .now)) (recordOf (c .before .before .before .before .before .before .before .before .before .before .before .args .x .now)) (c .before .before .before .before .before .before .before .before .before .before .before .args .mark) ≡ (stageRight (stageOf n) (read one (c .before .before .before .before .before .before .before .before .before .before .before .args .t .now)) (recordOf (c .before .before .before .before .before .before .before .before .before .before .before .args .x .now)) && eqb (c .before .before .before .before .before .before .before .before .before .before .before .args .mark) (listed n))
 unfolding fieldsRight
@@ -82,7 +83,8 @@ returns-6 : tie.Need-returns-6
 unfolding stageRight
 returns-6 c =
     let n = c .match .rest in
-    sym (staged (c .before) _ refl ∙ rw (no-stage _ (n .0 .0 .0 .1) (n .0 .0 .1) (n .0 .1) (n .1)))
+    let a = c .before .before .before .before .before .before .before .before .before .before .before .before .args in
+    sym (staged (c .before) _ refl ∙ rw (no-stage (getD (a .x .now) 0 0) (λ h. omega (arith, n .0 .0 .0 .1, n .0 .0 .1, n .0 .1, n .1))))
 
 pub task-right-spec : {M : Type 1} → statement M
 task-right-spec =

@@ -1,10 +1,10 @@
 -- `wellformed::waiting_right` meets its contract: the hub that a waiting task names is in use before its kind is read.
 -- Assumes nothing.
 use Prim.Native.Nat.{_*_, _+_}
+use Rattle.rules.proofs.Numbers.{bears-number}
 use Rattle.rules.proofs.Reading.{read-hubs}
 use Rattle.rules.specs.Table.{one}
 use Rattle.rules.specs.WellFormed.{stageRight}
-use Rattle.wellformed.proofs.Numbers.{bears-number}
 use Rattle.wellformed.proofs.Turns.{hub-kind}
 use Rattle.wellformed.proofs.waiting_right.Statement.{statement}
 use Rattle.wellformed.proofs.waiting_right.Tie as tie
