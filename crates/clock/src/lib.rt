@@ -13,7 +13,8 @@ ghost use mathlib.Core.Path.{_≡_};
 // Task i has n ticks left.
 fn set_ticks(t: &mut [u32], i: TaskNo, n: u32)
     requires { ⌜ i .0 < 16 ⌝ }
-    ensures { λ _. ⌜ ((s : State) → length (s .tasks) ≤ 16 → i .0 < length (s .tasks) → now (t .entry) ≡ words one s → now (t .exit) ≡ words one (setTask (i .0) (counted n (task s (i .0))) s)) ⌝ }
+    ensures { λ _. ⌜ ((s : State) → length (s .tasks) ≤ 16 → i .0 < length (s .tasks) → now (t .entry) ≡ words one s
+        → now (t .exit) ≡ words one (setTask (i .0) (counted n (task s (i .0))) s)) ⌝ }
 {
     let x = moves::task_at(&*t, i);
     moves::set_task(
@@ -43,7 +44,8 @@ fn counts_down(x: TaskRecord) -> bool
 fn tick_one(t: &mut [u32], keys: &[u32], i: TaskNo)
     requires { ⌜ i .0 < 16 ⌝ }
     requires { ⌜ length (now t) ≡ 600 ⌝ }
-    ensures { λ _. ⌜ ((s : State) → Sound s → i .0 < length (s .tasks) → now (t .entry) ≡ words one s → now (t .exit) ≡ words one (tickOne (keyOf (now (keys .entry))) (i .0) s)) ⌝ }
+    ensures { λ _. ⌜ ((s : State) → Sound s → i .0 < length (s .tasks) → now (t .entry) ≡ words one s
+        → now (t .exit) ≡ words one (tickOne (keyOf (now (keys .entry))) (i .0) s)) ⌝ }
 {
     let x = moves::task_at(&*t, i);
     let ticks = x.ticks;
@@ -64,7 +66,8 @@ fn tick_one(t: &mut [u32], keys: &[u32], i: TaskNo)
 pub fn tick(t: &mut [u32], keys: &[u32])
     requires { ⌜ length (now t) ≡ 600 ⌝ }
     requires { ⌜ getD (now t) 1 0 ≤ 16 ⌝ }
-    ensures { λ _. ⌜ ((s : State) → Sound s → now (t .entry) ≡ words one s → now (t .exit) ≡ words one (tickAll (keyOf (now (keys .entry))) (length (s .tasks)) s)) ⌝ }
+    ensures { λ _. ⌜ ((s : State) → Sound s → now (t .entry) ≡ words one s
+        → now (t .exit) ≡ words one (tickAll (keyOf (now (keys .entry))) (length (s .tasks)) s)) ⌝ }
 {
     let n = t[records::TASKS] as usize;
     let mut i = 0;

@@ -51,7 +51,8 @@ fn alone(count: u32, store: Store, word: u32) -> Verdict
 
 // Met together with a waiter.
 fn pair(count: u32, store: Store, word: u32, waiter: u32, its: u32) -> Verdict
-    ensures { λ r. ⌜ ((held : List ℕ) → says held r ≡ met count (storeAfter store held) word (metWith (first waiter) its)) ⌝ }
+    ensures { λ r. ⌜ ((held : List ℕ)
+        → says held r ≡ met count (storeAfter store held) word (metWith (first waiter) its)) ⌝ }
 {
     Verdict::Met(Meeting {
         count,
@@ -192,7 +193,8 @@ pub fn on_put(h: HubRecord, waiter: u32, caller: u32, word: u32) -> Verdict
 // A get by the caller, where waiter is the first putter that waits, its is that putter's word and oldest the first word held.
 pub fn on_get(h: HubRecord, waiter: u32, its: u32, oldest: u32, caller: u32) -> Verdict
     requires { ⌜ caller < 4294967295 ⌝ }
-    ensures { λ r. ⌜ ((x : Hub) (s : State) (T : ℕ) → RecordOf h x → Range (kindOf (x .kind)) T x → Held (kindOf (x .kind)) x
+    ensures { λ r. ⌜ ((x : Hub) (s : State) (T : ℕ) → RecordOf h x → Range (kindOf (x .kind)) T x
+        → Held (kindOf (x .kind)) x
         → ((w : ℕ) → first waiter ≡ some w → its ≡ task s w .word) → oldest ≡ getD (x .held) 0 0
         → says (x .held) r ≡ onGet (kindOf (x .kind)) s (first waiter) x caller) ⌝ }
 {

@@ -38,7 +38,9 @@ fn serve_target(t: &mut [u32], keys: &[u32], c: Call)
     requires { ⌜ c .caller < 16 ⌝ }
     requires { ⌜ c .target < 16 ⌝ }
     requires { ⌜ length (now t) ≡ 600 ⌝ }
-    ensures { λ _. ⌜ ((s : State) → Valid s → refusal s c ≡ 0 → 1 ≤ c .service → c .service ≤ 5 → now (t .entry) ≡ words one s → now (t .exit) ≡ words one (serve (keyOf (now (keys .entry))) (serviceOf (c .service)) s c)) ⌝ }
+    ensures { λ _. ⌜ ((s : State) → Valid s → refusal s c ≡ 0 → 1 ≤ c .service → c .service ≤ 5
+        → now (t .entry) ≡ words one s
+        → now (t .exit) ≡ words one (serve (keyOf (now (keys .entry))) (serviceOf (c .service)) s c)) ⌝ }
 {
     let service = c.service;
     match service {
@@ -54,7 +56,9 @@ fn serve_target(t: &mut [u32], keys: &[u32], c: Call)
 fn serve_caller(t: &mut [u32], keys: &[u32], c: Call)
     requires { ⌜ c .caller < 16 ⌝ }
     requires { ⌜ length (now t) ≡ 600 ⌝ }
-    ensures { λ _. ⌜ ((s : State) → Valid s → refusal s c ≡ 0 → 6 ≤ c .service → c .service ≤ 7 → now (t .entry) ≡ words one s → now (t .exit) ≡ words one (serve (keyOf (now (keys .entry))) (serviceOf (c .service)) s c)) ⌝ }
+    ensures { λ _. ⌜ ((s : State) → Valid s → refusal s c ≡ 0 → 6 ≤ c .service → c .service ≤ 7
+        → now (t .entry) ≡ words one s
+        → now (t .exit) ≡ words one (serve (keyOf (now (keys .entry))) (serviceOf (c .service)) s c)) ⌝ }
 {
     if c.service == rules::YIELD {
         tasks::yield_turn(t, keys, c);
@@ -67,7 +71,8 @@ fn serve_caller(t: &mut [u32], keys: &[u32], c: Call)
 fn add_started(t: &mut [u32], priority: u32)
     requires { ⌜ length (now t) ≡ 600 ⌝ }
     requires { ⌜ getD (now t) 1 0 < 16 ⌝ }
-    ensures { λ _. ⌜ ((s : State) → length (s .tasks) < 16 → now (t .entry) ≡ words one s → now (t .exit) ≡ words one (addStarted priority s)) ⌝ }
+    ensures { λ _. ⌜ ((s : State) → length (s .tasks) < 16 → now (t .entry) ≡ words one s
+        → now (t .exit) ≡ words one (addStarted priority s)) ⌝ }
 {
     let i = TaskNo(t[records::TASKS] as usize);
     setup::add_task(t, priority);
@@ -80,7 +85,8 @@ fn add_started(t: &mut [u32], priority: u32)
 fn serve_add_task(t: &mut [u32], c: Call)
     requires { ⌜ length (now t) ≡ 600 ⌝ }
     requires { ⌜ getD (now t) 1 0 < 16 ⌝ }
-    ensures { λ _. ⌜ ((key : ℕ → ℕ) (s : State) → length (s .tasks) < 16 → now (t .entry) ≡ words one s → now (t .exit) ≡ words one (serve key AddTask s c)) ⌝ }
+    ensures { λ _. ⌜ ((key : ℕ → ℕ) (s : State) → length (s .tasks) < 16 → now (t .entry) ≡ words one s
+        → now (t .exit) ≡ words one (serve key AddTask s c)) ⌝ }
 {
     if c.side == 1 {
         add_started(t, c.target);
@@ -121,7 +127,8 @@ fn serve_call(t: &mut [u32], c: Call)
 
 // "For services 1 to 7 the answer is the caller's answer word after the call; for 0, 8, 9 and 10 it is 0."
 fn outcome_of(t: &[u32], c: Call) -> Outcome
-    ensures { λ r. ⌜ ((s : State) → length (s .tasks) ≤ 16 → (1 ≤ c .service → c .service ≤ 7 → c .caller < length (s .tasks)) → now (t .entry) ≡ words one s → r ≡ outcome s c) ⌝ }
+    ensures { λ r. ⌜ ((s : State) → length (s .tasks) ≤ 16 → (1 ≤ c .service → c .service ≤ 7
+        → c .caller < length (s .tasks)) → now (t .entry) ≡ words one s → r ≡ outcome s c) ⌝ }
 {
     if c.service < rules::HUB_REQUEST {
         return Outcome::NothingYet;

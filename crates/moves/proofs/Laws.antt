@@ -27,55 +27,59 @@ use native.Mathlib.Omega.{arith}
 -- ---- a list of the table takes another value
 
 -- f is what a leaf does to the lent part: it takes the entries of xs to those of xs′
-pub list-put : {whole : List ℕ → List ℕ} {at : ℕ} → Cut whole (entries 16) at → (f : List ℕ → List ℕ) (xs xs′ t ys : List ℕ) (a n : ℕ) → a ≡ at → n ≡ 16 → t ≡ whole xs → ys ≡ f (midOf a n t) → f (entries 16 xs) ≡ entries 16 xs′ → putMid a n t ys ≡ whole xs′
+list-put : {whole : List ℕ → List ℕ} {at : ℕ} → Cut whole (entries 16) at → (f : List ℕ → List ℕ) (xs xs′ t ys : List ℕ) (a n : ℕ) → a ≡ at → n ≡ 16 → t ≡ whole xs → ys ≡ f (midOf a n t) → f (entries 16 xs) ≡ entries 16 xs′ → putMid a n t ys ≡ whole xs′
 list-put {whole = whole} {at = at} c f xs xs′ t ys a n ea en et ey ef =
     let part : midOf at 16 (whole xs) ≡ entries 16 xs = cut-part c xs 16 (length-entries 16 xs) in
     let new : ys ≡ entries 16 xs′ = ey ∙ rw (ea, en, et, part) ef in
     rw (ea, en, et, new) (cut-paste c xs xs′ 16 (length-entries 16 xs))
 
 -- the place that a lent list gives is the place among the numbers that it holds
-pub list-place : {whole : List ℕ → List ℕ} {at : ℕ} → Cut whole (entries 16) at → (ks xs t : List ℕ) (p a n : ℕ) → a ≡ at → n ≡ 16 → length xs ≤ 16 → t ≡ whole xs → placeIn ks p (midOf a n t) ≡ placeOf (keyOf ks) p xs
+list-place : {whole : List ℕ → List ℕ} {at : ℕ} → Cut whole (entries 16) at → (ks xs t : List ℕ) (p a n : ℕ) → a ≡ at → n ≡ 16 → length xs ≤ 16 → t ≡ whole xs → placeIn ks p (midOf a n t) ≡ placeOf (keyOf ks) p xs
 list-place {whole = whole} {at = at} c ks xs t p a n ea en fits et =
     let part : midOf at 16 (whole xs) ≡ entries 16 xs = cut-part c xs 16 (length-entries 16 xs) in
     rw (ea, en, et, part) (place-entries ks p 16 xs fits)
 
-module _ (L : Layout) (s : State) (z : Sized L) (t ys : List ℕ) (ts n : ℕ) (size : ts ≡ L .taskSize) (many : n ≡ 16) (w : t ≡ words L s) where
-  at-ready : 8 + 16 * ts + 64 ≡ readyAt L
-  at-ready = rw size refl
+module _ (L : Layout) (s : State) (z : Sized L) (t ys : List ℕ) (a n : ℕ) (many : n ≡ 16) (w : t ≡ words L s) where
+  module _ (at : a ≡ readyAt L) where
+    pub join-ready : (ks : List ℕ) (i : ℕ) → ys ≡ insertAt (placeIn ks (getD ks i 0) (midOf a n t)) (suc i) (midOf a n t)
+        → putMid a n t ys ≡ words L (joinReady (keyOf ks) i s)
+    unfolding joinReady setReady
+    join-ready ks i e =
+        list-put (cut-ready L z s) (λ l. insertAt (placeIn ks (getD ks i 0) l) (suc i) l) (s .ready) _ t ys a n at many w e
+        (join-entries ks i 16 (s .ready))
 
-  pub join-ready : (ks : List ℕ) (i : ℕ) → ys ≡ insertAt (placeIn ks (getD ks i 0) (midOf (8 + 16 * ts + 64) n t)) (suc i) (midOf (8 + 16 * ts + 64) n t) → putMid (8 + 16 * ts + 64) n t ys ≡ words L (joinReady (keyOf ks) i s)
-  unfolding joinReady setReady
-  join-ready ks i e =
-      list-put (cut-ready L z s) (λ l. insertAt (placeIn ks (getD ks i 0) l) (suc i) l) (s .ready) _ t ys _ n at-ready many w e (join-entries ks i 16 (s .ready))
+    pub place-ready : (ks : List ℕ) (p : ℕ) → length (s .ready) ≤ 16 → placeIn ks p (midOf a n t) ≡ placeOf (keyOf ks) p (s .ready)
+    unfolding setReady
+    place-ready ks p fits = list-place (cut-ready L z s) ks (s .ready) t p a n at many fits w
 
-  pub place-ready : (ks : List ℕ) (p : ℕ) → length (s .ready) ≤ 16 → placeIn ks p (midOf (8 + 16 * ts + 64) n t) ≡ placeOf (keyOf ks) p (s .ready)
-  unfolding setReady
-  place-ready ks p fits = list-place (cut-ready L z s) ks (s .ready) t p _ n at-ready many fits w
+    pub leave-ready : (i : ℕ) → length (s .ready) ≤ 16 → occ i (s .ready) ≤ 1
+        → ys ≡ removeAt (indexOf (suc i) (midOf a n t)) (midOf a n t) → putMid a n t ys ≡ words L (setReady (without i (s .ready)) s)
+    unfolding setReady
+    leave-ready i room once e =
+        list-put (cut-ready L z s) (λ l. removeAt (indexOf (suc i) l) l) (s .ready) _ t ys a n at many w e
+        (leave-entries i 16 (s .ready) room once)
 
-  pub leave-ready : (i : ℕ) → length (s .ready) ≤ 16 → occ i (s .ready) ≤ 1 → ys ≡ removeAt (indexOf (suc i) (midOf (8 + 16 * ts + 64) n t)) (midOf (8 + 16 * ts + 64) n t) → putMid (8 + 16 * ts + 64) n t ys ≡ words L (setReady (without i (s .ready)) s)
-  unfolding setReady
-  leave-ready i room once e =
-      list-put (cut-ready L z s) (λ l. removeAt (indexOf (suc i) l) l) (s .ready) _ t ys _ n at-ready many w e (leave-entries i 16 (s .ready) room once)
-
-  module _ (h : ℕ) (low : h < 16) (used : h < length (s .hubs)) where
-    at-hub : 8 + 16 * ts + 80 + h * 16 ≡ waitsAt L + h * 16
-    at-hub = rw size (omega arith)
-
+  module _ (h : ℕ) (low : h < 16) (used : h < length (s .hubs)) (at : a ≡ waitsAt L + h * 16) where
     same : t ≡ words L (setHub h (queued (hub s h .waiters) (hub s h)) s)
     unfolding queued
     same = w ∙ ap (words L) (sym (same-hub s h))
 
-    pub join-hub : (ks : List ℕ) (i : ℕ) → ys ≡ insertAt (placeIn ks (getD ks i 0) (midOf (8 + 16 * ts + 80 + h * 16) n t)) (suc i) (midOf (8 + 16 * ts + 80 + h * 16) n t) → putMid (8 + 16 * ts + 80 + h * 16) n t ys ≡ words L (joinHub (keyOf ks) h i s)
+    pub join-hub : (ks : List ℕ) (i : ℕ) → ys ≡ insertAt (placeIn ks (getD ks i 0) (midOf a n t)) (suc i) (midOf a n t)
+        → putMid a n t ys ≡ words L (joinHub (keyOf ks) h i s)
     unfolding joinHub
     join-hub ks i e =
-        list-put (cut-waiters L z s h low used (hub s h)) (λ l. insertAt (placeIn ks (getD ks i 0) l) (suc i) l) (hub s h .waiters) _ t ys _ n at-hub many same e (join-entries ks i 16 (hub s h .waiters))
+        list-put (cut-waiters L z s h low used (hub s h)) (λ l. insertAt (placeIn ks (getD ks i 0) l) (suc i) l) (hub s h .waiters) _ t ys a n at many same e
+        (join-entries ks i 16 (hub s h .waiters))
 
-    pub place-hub : (ks : List ℕ) (p : ℕ) → length (hub s h .waiters) ≤ 16 → placeIn ks p (midOf (8 + 16 * ts + 80 + h * 16) n t) ≡ placeOf (keyOf ks) p (hub s h .waiters)
-    place-hub ks p fits = list-place (cut-waiters L z s h low used (hub s h)) ks (hub s h .waiters) t p _ n at-hub many fits same
+    pub place-hub : (ks : List ℕ) (p : ℕ) → length (hub s h .waiters) ≤ 16 → placeIn ks p (midOf a n t) ≡ placeOf (keyOf ks) p (hub s h .waiters)
+    place-hub ks p fits = list-place (cut-waiters L z s h low used (hub s h)) ks (hub s h .waiters) t p a n at many fits same
 
-    pub leave-hub : (i : ℕ) → length (hub s h .waiters) ≤ 16 → occ i (hub s h .waiters) ≤ 1 → ys ≡ removeAt (indexOf (suc i) (midOf (8 + 16 * ts + 80 + h * 16) n t)) (midOf (8 + 16 * ts + 80 + h * 16) n t) → putMid (8 + 16 * ts + 80 + h * 16) n t ys ≡ words L (setHub h (queued (without i (hub s h .waiters)) (hub s h)) s)
+    pub leave-hub : (i : ℕ) → length (hub s h .waiters) ≤ 16 → occ i (hub s h .waiters) ≤ 1
+        → ys ≡ removeAt (indexOf (suc i) (midOf a n t)) (midOf a n t)
+        → putMid a n t ys ≡ words L (setHub h (queued (without i (hub s h .waiters)) (hub s h)) s)
     leave-hub i room once e =
-        list-put (cut-waiters L z s h low used (hub s h)) (λ l. removeAt (indexOf (suc i) l) l) (hub s h .waiters) _ t ys _ n at-hub many same e (leave-entries i 16 (hub s h .waiters) room once)
+        list-put (cut-waiters L z s h low used (hub s h)) (λ l. removeAt (indexOf (suc i) l) l) (hub s h .waiters) _ t ys a n at many same e
+        (leave-entries i 16 (hub s h .waiters) room once)
 
 -- ---- a task record is read and written
 

@@ -20,8 +20,8 @@ pub fn join_ready(t: &mut [u32], ts: usize, keys: &[u32], i: TaskNo) -> usize
     ensures { λ r. ⌜ JoinsReady ts (now (keys .entry)) (i .0) (now (t .entry)) r (now (t .exit)) ⌝ }
 {
     let n = i.0;
-    let a = 8 + 16 * ts + 64;
-    lists::join(&mut t[a..a + 16], keys, n)
+    let a = records::ready_at(ts);
+    lists::join(&mut t[a..a + records::LIST_SIZE], keys, n)
 }
 
 // Task i joins hub h's list by its key, and its place is what comes back.
@@ -33,9 +33,8 @@ pub fn join_hub(t: &mut [u32], ts: usize, keys: &[u32], h: HubNo, i: TaskNo) -> 
     ensures { λ r. ⌜ JoinsHub ts (now (keys .entry)) (h .0) (i .0) (now (t .entry)) r (now (t .exit)) ⌝ }
 {
     let n = i.0;
-    let k = h.0;
-    let a = 8 + 16 * ts + 80 + k * 16;
-    lists::join(&mut t[a..a + 16], keys, n)
+    let a = records::waits_at(ts, h);
+    lists::join(&mut t[a..a + records::LIST_SIZE], keys, n)
 }
 
 // Task i leaves the ready list, in which it stands at most once.
@@ -43,11 +42,13 @@ pub fn leave_ready(t: &mut [u32], ts: usize, i: TaskNo)
     requires { ⌜ ts ≤ 9 ⌝ }
     requires { ⌜ i .0 < 16 ⌝ }
     requires { ⌜ 8 + 16 * ts + 80 ≤ length (now t) ⌝ }
-    ensures { λ _. ⌜ ((L : Layout) (s : State) → Sized L → ts ≡ L .taskSize → length (s .ready) ≤ 16 → occ (i .0) (s .ready) ≤ 1 → now (t .entry) ≡ words L s → now (t .exit) ≡ words L (setReady (without (i .0) (s .ready)) s)) ⌝ }
+    ensures { λ _. ⌜ ((L : Layout) (s : State) → Sized L → ts ≡ L .taskSize → length (s .ready) ≤ 16
+        → occ (i .0) (s .ready) ≤ 1 → now (t .entry) ≡ words L s
+        → now (t .exit) ≡ words L (setReady (without (i .0) (s .ready)) s)) ⌝ }
 {
     let n = i.0;
-    let a = 8 + 16 * ts + 64;
-    lists::leave(&mut t[a..a + 16], n);
+    let a = records::ready_at(ts);
+    lists::leave(&mut t[a..a + records::LIST_SIZE], n);
 }
 
 // Task i leaves hub h's list, in which it stands at most once.
@@ -56,18 +57,20 @@ pub fn leave_hub(t: &mut [u32], ts: usize, h: HubNo, i: TaskNo)
     requires { ⌜ h .0 < 16 ⌝ }
     requires { ⌜ i .0 < 16 ⌝ }
     requires { ⌜ 8 + 16 * ts + 336 ≤ length (now t) ⌝ }
-    ensures { λ _. ⌜ ((L : Layout) (s : State) → Sized L → ts ≡ L .taskSize → h .0 < length (s .hubs) → length (hub s (h .0) .waiters) ≤ 16 → occ (i .0) (hub s (h .0) .waiters) ≤ 1 → now (t .entry) ≡ words L s → now (t .exit) ≡ words L (setHub (h .0) (queued (without (i .0) (hub s (h .0) .waiters)) (hub s (h .0))) s)) ⌝ }
+    ensures { λ _. ⌜ ((L : Layout) (s : State) → Sized L → ts ≡ L .taskSize → h .0 < length (s .hubs)
+        → length (hub s (h .0) .waiters) ≤ 16 → occ (i .0) (hub s (h .0) .waiters) ≤ 1 → now (t .entry) ≡ words L s
+        → now (t .exit) ≡ words L (setHub (h .0) (queued (without (i .0) (hub s (h .0) .waiters)) (hub s (h .0))) s)) ⌝ }
 {
     let n = i.0;
-    let k = h.0;
-    let a = 8 + 16 * ts + 80 + k * 16;
-    lists::leave(&mut t[a..a + 16], n);
+    let a = records::waits_at(ts, h);
+    lists::leave(&mut t[a..a + records::LIST_SIZE], n);
 }
 
 // The record of task i.
 pub fn task_at(t: &[u32], i: TaskNo) -> TaskRecord
     requires { ⌜ i .0 ≤ 4294967295 ⌝ }
-    ensures { λ r. ⌜ ((s : State) → length (s .tasks) ≤ 16 → i .0 < length (s .tasks) → now (t .entry) ≡ words one s → taskOf r ≡ task s (i .0)) ⌝ }
+    ensures { λ r. ⌜ ((s : State) → length (s .tasks) ≤ 16 → i .0 < length (s .tasks) → now (t .entry) ≡ words one s
+        → taskOf r ≡ task s (i .0)) ⌝ }
 {
     records::task(t, records::TASK_SIZE, i)
 }
@@ -75,7 +78,8 @@ pub fn task_at(t: &[u32], i: TaskNo) -> TaskRecord
 // The record of task i, written.
 pub fn set_task(t: &mut [u32], i: TaskNo, x: TaskRecord)
     requires { ⌜ i .0 ≤ 4294967295 ⌝ }
-    ensures { λ _. ⌜ ((s : State) → length (s .tasks) ≤ 16 → i .0 < length (s .tasks) → now (t .entry) ≡ words one s → now (t .exit) ≡ words one (setTask (i .0) (taskOf x) s)) ⌝ }
+    ensures { λ _. ⌜ ((s : State) → length (s .tasks) ≤ 16 → i .0 < length (s .tasks) → now (t .entry) ≡ words one s
+        → now (t .exit) ≡ words one (setTask (i .0) (taskOf x) s)) ⌝ }
 {
     records::set_task(t, records::TASK_SIZE, i, x);
 }
@@ -84,7 +88,8 @@ pub fn set_task(t: &mut [u32], i: TaskNo, x: TaskRecord)
 pub fn leave_list(t: &mut [u32], i: TaskNo)
     requires { ⌜ i .0 < 16 ⌝ }
     requires { ⌜ length (now t) ≡ 600 ⌝ }
-    ensures { λ _. ⌜ ((s : State) → Sound s → i .0 < length (s .tasks) → now (t .entry) ≡ words one s → now (t .exit) ≡ words one (leave (i .0) s)) ⌝ }
+    ensures { λ _. ⌜ ((s : State) → Sound s → i .0 < length (s .tasks) → now (t .entry) ≡ words one s
+        → now (t .exit) ≡ words one (leave (i .0) s)) ⌝ }
 {
     let x = task_at(&*t, i);
     let state = x.state;
@@ -105,7 +110,8 @@ pub fn leave_list(t: &mut [u32], i: TaskNo)
 // Task i gets an answer and a word.
 pub fn give_answer(t: &mut [u32], i: TaskNo, a: u32, w: u32)
     requires { ⌜ i .0 < 16 ⌝ }
-    ensures { λ _. ⌜ ((s : State) → length (s .tasks) ≤ 16 → i .0 < length (s .tasks) → now (t .entry) ≡ words one s → now (t .exit) ≡ words one (answer (i .0) a w s)) ⌝ }
+    ensures { λ _. ⌜ ((s : State) → length (s .tasks) ≤ 16 → i .0 < length (s .tasks) → now (t .entry) ≡ words one s
+        → now (t .exit) ≡ words one (answer (i .0) a w s)) ⌝ }
 {
     let x = task_at(&*t, i);
     set_task(
@@ -127,7 +133,8 @@ pub fn give_answer(t: &mut [u32], i: TaskNo, a: u32, w: u32)
 // Task i's record becomes a ready one. It does not stand in the ready list yet.
 pub fn make_ready(t: &mut [u32], i: TaskNo, a: u32, w: u32)
     requires { ⌜ i .0 < 16 ⌝ }
-    ensures { λ _. ⌜ ((s : State) → length (s .tasks) ≤ 16 → i .0 < length (s .tasks) → now (t .entry) ≡ words one s → now (t .exit) ≡ words one (setTask (i .0) (readied a w (task s (i .0))) s)) ⌝ }
+    ensures { λ _. ⌜ ((s : State) → length (s .tasks) ≤ 16 → i .0 < length (s .tasks) → now (t .entry) ≡ words one s
+        → now (t .exit) ≡ words one (setTask (i .0) (readied a w (task s (i .0))) s)) ⌝ }
 {
     let x = task_at(&*t, i);
     set_task(
@@ -150,7 +157,8 @@ pub fn make_ready(t: &mut [u32], i: TaskNo, a: u32, w: u32)
 pub fn wake_task(t: &mut [u32], keys: &[u32], i: TaskNo, a: u32, w: u32)
     requires { ⌜ i .0 < 16 ⌝ }
     requires { ⌜ length (now t) ≡ 600 ⌝ }
-    ensures { λ _. ⌜ ((s : State) → Sound s → i .0 < length (s .tasks) → now (t .entry) ≡ words one s → now (t .exit) ≡ words one (wake (keyOf (now (keys .entry))) (i .0) a w s)) ⌝ }
+    ensures { λ _. ⌜ ((s : State) → Sound s → i .0 < length (s .tasks) → now (t .entry) ≡ words one s
+        → now (t .exit) ≡ words one (wake (keyOf (now (keys .entry))) (i .0) a w s)) ⌝ }
 {
     leave_list(t, i);
     make_ready(t, i, a, w);

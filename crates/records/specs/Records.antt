@@ -39,3 +39,7 @@ hubAt at t h = record {
   limit = getD t (at + h * 4 + 2) 0;
   start = getD t (at + h * 4 + 3) 0;
 }
+
+-- its words, in the paper's order
+unfoldable pub hubWords : HubRecord → List ℕ
+hubWords x = x .kind ∷ x .count ∷ x .limit ∷ x .start ∷ []

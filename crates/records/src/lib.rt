@@ -3,7 +3,7 @@
 // and what lies past the end reads as 0 and is not written.
 // Not here: what the words of a record mean (crate rules), and which records are in use.
 ghost use Prim.Native.Nat.{_*_, _+_, _≤_};
-ghost use Rattle.records.specs.Records.{RecordAt, hubAt, taskAt, taskWords};
+ghost use Rattle.records.specs.Records.{RecordAt, hubAt, hubWords, taskAt, taskWords};
 ghost use lib.ListN.{getD, set};
 ghost use lib.Seq.{sets};
 ghost use mathlib.Core.Path.{_≡_};
@@ -38,6 +38,32 @@ pub const STORE_SIZE: usize = 8;
 
 // "16 task records", and as many hub records
 pub const MOST_RECORDS: u32 = 16;
+
+// The words of a task record, in the paper's order.
+pub const STATE: usize = 0;
+
+pub const SUSPENDED: usize = 1;
+
+pub const PRIORITY: usize = 2;
+
+pub const HUB: usize = 3;
+
+pub const TICKS: usize = 4;
+
+pub const SIDE: usize = 5;
+
+pub const WORD: usize = 6;
+
+pub const ANSWER: usize = 7;
+
+// And those of a hub record.
+pub const KIND: usize = 0;
+
+pub const COUNT: usize = 1;
+
+pub const LIMIT: usize = 2;
+
+pub const START: usize = 3;
 
 // "A task number and a hub number are two kinds of number and are never taken for each other."
 pub struct TaskNo(pub usize);
@@ -95,6 +121,24 @@ fn record_at(at: usize, size: usize, i: usize) -> usize
     at + i * size
 }
 
+// Where the ready list starts, behind the contents, 16 task records of `size` words and 16 hub records.
+pub fn ready_at(size: usize) -> usize
+    requires { ⌜ size ≤ 65535 ⌝ }
+    ensures { λ r. ⌜ r ≡ 8 + 16 * size + 64 ⌝ }
+{
+    TASKS_AT + 16 * size + 16 * HUB_SIZE
+}
+
+// Where hub h's waiting list starts: they follow the ready list.
+pub fn waits_at(size: usize, h: HubNo) -> usize
+    requires { ⌜ size ≤ 65535 ⌝ }
+    requires { ⌜ h .0 ≤ 4294967295 ⌝ }
+    ensures { λ r. ⌜ r ≡ 8 + 16 * size + 80 + h .0 * 16 ⌝ }
+{
+    let n = h.0;
+    ready_at(size) + LIST_SIZE + n * LIST_SIZE
+}
+
 // Word f of the i-th record of `size` words, where the records start at word `at`.
 pub fn field(t: &[u32], at: usize, size: usize, i: usize, f: usize) -> u32
     requires { ⌜ at ≤ 65535 ⌝ }
@@ -107,18 +151,6 @@ pub fn field(t: &[u32], at: usize, size: usize, i: usize, f: usize) -> u32
     lists::word(t, p)
 }
 
-// The same word, written.
-pub fn set_field(t: &mut [u32], at: usize, size: usize, i: usize, f: usize, v: u32)
-    requires { ⌜ at ≤ 65535 ⌝ }
-    requires { ⌜ size ≤ 65535 ⌝ }
-    requires { ⌜ i ≤ 4294967295 ⌝ }
-    requires { ⌜ f ≤ 65535 ⌝ }
-    ensures { λ _. ⌜ now (t .exit) ≡ set (now (t .entry)) (at + i * size + f) v ⌝ }
-{
-    let p = record_at(at, size, i) + f;
-    set_word(t, p, v);
-}
-
 // The record of task i, where a task record has `size` words.
 pub fn task(t: &[u32], size: usize, i: TaskNo) -> TaskRecord
     requires { ⌜ size ≤ 65535 ⌝ }
@@ -127,14 +159,14 @@ pub fn task(t: &[u32], size: usize, i: TaskNo) -> TaskRecord
 {
     let n = i.0;
     TaskRecord {
-        state: field(t, TASKS_AT, size, n, 0),
-        suspended: field(t, TASKS_AT, size, n, 1),
-        priority: field(t, TASKS_AT, size, n, 2),
-        hub: field(t, TASKS_AT, size, n, 3),
-        ticks: field(t, TASKS_AT, size, n, 4),
-        side: field(t, TASKS_AT, size, n, 5),
-        word: field(t, TASKS_AT, size, n, 6),
-        answer: field(t, TASKS_AT, size, n, 7),
+        state: field(t, TASKS_AT, size, n, STATE),
+        suspended: field(t, TASKS_AT, size, n, SUSPENDED),
+        priority: field(t, TASKS_AT, size, n, PRIORITY),
+        hub: field(t, TASKS_AT, size, n, HUB),
+        ticks: field(t, TASKS_AT, size, n, TICKS),
+        side: field(t, TASKS_AT, size, n, SIDE),
+        word: field(t, TASKS_AT, size, n, WORD),
+        answer: field(t, TASKS_AT, size, n, ANSWER),
     }
 }
 
@@ -167,11 +199,23 @@ pub fn hub(t: &[u32], at: usize, h: HubNo) -> HubRecord
 {
     let n = h.0;
     HubRecord {
-        kind: field(t, at, HUB_SIZE, n, 0),
-        count: field(t, at, HUB_SIZE, n, 1),
-        limit: field(t, at, HUB_SIZE, n, 2),
-        start: field(t, at, HUB_SIZE, n, 3),
+        kind: field(t, at, HUB_SIZE, n, KIND),
+        count: field(t, at, HUB_SIZE, n, COUNT),
+        limit: field(t, at, HUB_SIZE, n, LIMIT),
+        start: field(t, at, HUB_SIZE, n, START),
     }
+}
+
+// The record of hub h, written whole.
+pub fn set_hub(t: &mut [u32], at: usize, h: HubNo, x: HubRecord)
+    requires { ⌜ at ≤ 65535 ⌝ }
+    requires { ⌜ h .0 ≤ 4294967295 ⌝ }
+    ensures { λ _. ⌜ now (t .exit) ≡ sets (now (t .entry)) (at + h .0 * 4) (hubWords x) ⌝ }
+{
+    let n = h.0;
+    let words = [x.kind, x.count, x.limit, x.start];
+    let p = record_at(at, HUB_SIZE, n);
+    set_words(t, p, &words);
 }
 
 // The count of hub h: the one word of a hub record that a request changes.
@@ -181,5 +225,6 @@ pub fn set_count(t: &mut [u32], at: usize, h: HubNo, count: u32)
     ensures { λ _. ⌜ now (t .exit) ≡ set (now (t .entry)) (at + h .0 * 4 + 1) count ⌝ }
 {
     let n = h.0;
-    set_field(t, at, HUB_SIZE, n, 1, count);
+    let p = record_at(at, HUB_SIZE, n) + COUNT;
+    set_word(t, p, count);
 }

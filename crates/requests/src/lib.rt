@@ -28,7 +28,8 @@ ghost use mathlib.Core.Path.{_≡_};
 // The record of hub h.
 fn hub_at(t: &[u32], h: HubNo) -> HubRecord
     requires { ⌜ h .0 ≤ 4294967295 ⌝ }
-    ensures { λ r. ⌜ ((s : State) → length (s .hubs) ≤ 16 → h .0 < length (s .hubs) → now (t .entry) ≡ words one s → RecordOf r (hub s (h .0))) ⌝ }
+    ensures { λ r. ⌜ ((s : State) → length (s .hubs) ≤ 16 → h .0 < length (s .hubs) → now (t .entry) ≡ words one s
+        → RecordOf r (hub s (h .0))) ⌝ }
 {
     records::hub(t, records::HUBS_AT, h)
 }
@@ -36,7 +37,8 @@ fn hub_at(t: &[u32], h: HubNo) -> HubRecord
 // The first task that waits at hub h on this side, plus 1, or 0. One list holds one side only, so its first entry tells.
 fn first_waiter(t: &[u32], h: HubNo, side: u32) -> u32
     requires { ⌜ h .0 < 16 ⌝ }
-    ensures { λ r. ⌜ ((s : State) → Valid s → h .0 < length (s .hubs) → now (t .entry) ≡ words one s → first r ≡ firstWaiting s side (hub s (h .0) .waiters)) ⌝ }
+    ensures { λ r. ⌜ ((s : State) → Valid s → h .0 < length (s .hubs) → now (t .entry) ≡ words one s
+        → first r ≡ firstWaiting s side (hub s (h .0) .waiters)) ⌝ }
 {
     let k = h.0;
     let e = lists::word(t, records::WAITS_AT + k * records::LIST_SIZE);
@@ -49,7 +51,8 @@ fn first_waiter(t: &[u32], h: HubNo, side: u32) -> u32
 
 // The word of the task that a list's entry names.
 fn word_of(t: &[u32], e: u32) -> u32
-    ensures { λ r. ⌜ ((s : State) (w : ℕ) → length (s .tasks) ≤ 16 → now (t .entry) ≡ words one s → first e ≡ some w → w < length (s .tasks) → r ≡ task s w .word) ⌝ }
+    ensures { λ r. ⌜ ((s : State) (w : ℕ) → length (s .tasks) ≤ 16 → now (t .entry) ≡ words one s → first e ≡ some w
+        → w < length (s .tasks) → r ≡ task s w .word) ⌝ }
 {
     if e == 0 {
         return 0;
@@ -62,7 +65,8 @@ fn word_of(t: &[u32], e: u32) -> u32
 fn judge(t: &[u32], c: Call) -> Verdict
     requires { ⌜ c .target < 16 ⌝ }
     requires { ⌜ c .caller < 16 ⌝ }
-    ensures { λ r. ⌜ ((s : State) → Valid s → refusalFor HubRequest s c ≡ 0 → now (t .entry) ≡ words one s → says (hub s (c .target) .held) r ≡ verdict s c) ⌝ }
+    ensures { λ r. ⌜ ((s : State) → Valid s → refusalFor HubRequest s c ≡ 0 → now (t .entry) ≡ words one s
+        → says (hub s (c .target) .held) r ≡ verdict s c) ⌝ }
 {
     let h = HubNo(c.target as usize);
     let x = hub_at(t, h);
@@ -81,7 +85,9 @@ fn judge(t: &[u32], c: Call) -> Verdict
 fn take_oldest(t: &mut [u32], h: HubNo)
     requires { ⌜ h .0 < 16 ⌝ }
     requires { ⌜ length (now t) ≡ 600 ⌝ }
-    ensures { λ _. ⌜ ((s : State) → h .0 < length (s .hubs) → length (hub s (h .0) .held) ≤ 8 → now (t .entry) ≡ words one s → now (t .exit) ≡ words one (hold (h .0) (hub s (h .0) .count) (drop 1 (hub s (h .0) .held)) s)) ⌝ }
+    ensures { λ _. ⌜ ((s : State) → h .0 < length (s .hubs) → length (hub s (h .0) .held) ≤ 8
+        → now (t .entry) ≡ words one s
+        → now (t .exit) ≡ words one (hold (h .0) (hub s (h .0) .count) (drop 1 (hub s (h .0) .held)) s)) ⌝ }
 {
     let k = h.0;
     let a = records::STORES_AT + k * records::STORE_SIZE;
@@ -92,7 +98,9 @@ fn take_oldest(t: &mut [u32], h: HubNo)
 fn append_word(t: &mut [u32], h: HubNo, n: usize, w: u32)
     requires { ⌜ h .0 < 16 ⌝ }
     requires { ⌜ length (now t) ≡ 600 ⌝ }
-    ensures { λ _. ⌜ ((s : State) → h .0 < length (s .hubs) → n ≡ length (hub s (h .0) .held) → n < 8 → now (t .entry) ≡ words one s → now (t .exit) ≡ words one (hold (h .0) (hub s (h .0) .count) (hub s (h .0) .held ++ w ∷ []) s)) ⌝ }
+    ensures { λ _. ⌜ ((s : State) → h .0 < length (s .hubs) → n ≡ length (hub s (h .0) .held) → n < 8
+        → now (t .entry) ≡ words one s
+        → now (t .exit) ≡ words one (hold (h .0) (hub s (h .0) .count) (hub s (h .0) .held ++ w ∷ []) s)) ⌝ }
 {
     let k = h.0;
     if n < records::STORE_SIZE {
@@ -111,7 +119,9 @@ fn less_one(n: usize) -> usize
 fn change_store(t: &mut [u32], h: HubNo, n: usize, store: Store)
     requires { ⌜ h .0 < 16 ⌝ }
     requires { ⌜ length (now t) ≡ 600 ⌝ }
-    ensures { λ _. ⌜ ((s : State) → h .0 < length (s .hubs) → StoreFits store n (hub s (h .0) .held) → now (t .entry) ≡ words one s → now (t .exit) ≡ words one (hold (h .0) (hub s (h .0) .count) (storeAfter store (hub s (h .0) .held)) s)) ⌝ }
+    ensures { λ _. ⌜ ((s : State) → h .0 < length (s .hubs) → StoreFits store n (hub s (h .0) .held)
+        → now (t .entry) ≡ words one s
+        → now (t .exit) ≡ words one (hold (h .0) (hub s (h .0) .count) (storeAfter store (hub s (h .0) .held)) s)) ⌝ }
 {
     match store {
         Store::Keep => {}
@@ -132,7 +142,9 @@ fn change_store(t: &mut [u32], h: HubNo, n: usize, store: Store)
 fn hold_hub(t: &mut [u32], h: HubNo, m: Meeting)
     requires { ⌜ h .0 < 16 ⌝ }
     requires { ⌜ length (now t) ≡ 600 ⌝ }
-    ensures { λ _. ⌜ ((s : State) → length (s .hubs) ≤ 16 → h .0 < length (s .hubs) → StoreFits (m .store) (hub s (h .0) .count) (hub s (h .0) .held) → now (t .entry) ≡ words one s → now (t .exit) ≡ words one (hold (h .0) (m .count) (storeAfter (m .store) (hub s (h .0) .held)) s)) ⌝ }
+    ensures { λ _. ⌜ ((s : State) → length (s .hubs) ≤ 16 → h .0 < length (s .hubs)
+        → StoreFits (m .store) (hub s (h .0) .count) (hub s (h .0) .held) → now (t .entry) ≡ words one s
+        → now (t .exit) ≡ words one (hold (h .0) (m .count) (storeAfter (m .store) (hub s (h .0) .held)) s)) ⌝ }
 {
     let x = hub_at(&*t, h);
     let n = x.count as usize;
@@ -146,7 +158,9 @@ fn meet(t: &mut [u32], keys: &[u32], c: Call, m: Meeting)
     requires { ⌜ c .caller < 16 ⌝ }
     requires { ⌜ c .target < 16 ⌝ }
     requires { ⌜ length (now t) ≡ 600 ⌝ }
-    ensures { λ _. ⌜ ((s : State) → Valid s → refusalFor HubRequest s c ≡ 0 → says (hub s (c .target) .held) (Met m) ≡ verdict s c → now (t .entry) ≡ words one s → now (t .exit) ≡ words one (serve (keyOf (now (keys .entry))) HubRequest s c)) ⌝ }
+    ensures { λ _. ⌜ ((s : State) → Valid s → refusalFor HubRequest s c ≡ 0
+        → says (hub s (c .target) .held) (Met m) ≡ verdict s c → now (t .entry) ≡ words one s
+        → now (t .exit) ≡ words one (serve (keyOf (now (keys .entry))) HubRequest s c)) ⌝ }
 {
     let caller = TaskNo(c.caller as usize);
     let h = HubNo(c.target as usize);
@@ -177,7 +191,9 @@ fn kept_word(kind: u32, side: u32, word: u32) -> u32
 fn make_waiting(t: &mut [u32], c: Call, word: u32)
     requires { ⌜ c .caller < 16 ⌝ }
     requires { ⌜ c .target < 16 ⌝ }
-    ensures { λ _. ⌜ ((s : State) → length (s .tasks) ≤ 16 → c .caller < length (s .tasks) → now (t .entry) ≡ words one s → now (t .exit) ≡ words one (setTask (c .caller) (waits (c .target) (c .ticks) (c .side) word (task s (c .caller))) s)) ⌝ }
+    ensures { λ _. ⌜ ((s : State) → length (s .tasks) ≤ 16 → c .caller < length (s .tasks)
+        → now (t .entry) ≡ words one s
+        → now (t .exit) ≡ words one (setTask (c .caller) (waits (c .target) (c .ticks) (c .side) word (task s (c .caller))) s)) ⌝ }
 {
     let caller = TaskNo(c.caller as usize);
     let x = moves::task_at(&*t, caller);
@@ -202,7 +218,8 @@ fn wait_there(t: &mut [u32], keys: &[u32], c: Call)
     requires { ⌜ c .caller < 16 ⌝ }
     requires { ⌜ c .target < 16 ⌝ }
     requires { ⌜ length (now t) ≡ 600 ⌝ }
-    ensures { λ _. ⌜ ((s : State) → Sound s → c .caller < length (s .tasks) → c .target < length (s .hubs) → now (t .entry) ≡ words one s → now (t .exit) ≡ words one (wait (keyOf (now (keys .entry))) s c)) ⌝ }
+    ensures { λ _. ⌜ ((s : State) → Sound s → c .caller < length (s .tasks) → c .target < length (s .hubs)
+        → now (t .entry) ≡ words one s → now (t .exit) ≡ words one (wait (keyOf (now (keys .entry))) s c)) ⌝ }
 {
     let caller = TaskNo(c.caller as usize);
     let h = HubNo(c.target as usize);
@@ -218,7 +235,8 @@ pub fn request(t: &mut [u32], keys: &[u32], c: Call)
     requires { ⌜ c .caller < 16 ⌝ }
     requires { ⌜ c .target < 16 ⌝ }
     requires { ⌜ length (now t) ≡ 600 ⌝ }
-    ensures { λ _. ⌜ ((s : State) → Valid s → refusalFor HubRequest s c ≡ 0 → now (t .entry) ≡ words one s → now (t .exit) ≡ words one (serve (keyOf (now (keys .entry))) HubRequest s c)) ⌝ }
+    ensures { λ _. ⌜ ((s : State) → Valid s → refusalFor HubRequest s c ≡ 0 → now (t .entry) ≡ words one s
+        → now (t .exit) ≡ words one (serve (keyOf (now (keys .entry))) HubRequest s c)) ⌝ }
 {
     let caller = TaskNo(c.caller as usize);
     let v = judge(&*t, c);

@@ -58,20 +58,27 @@ unfoldable pub grant : Bool → State → State → Call → State
 grant true s′ s c = answer (c .caller) 1 0 s′
 grant false s′ s c = answer (c .caller) 2 0 s
 
+abbrev pub isInactive : Task → Bool
+isInactive t = eqb (t .state) 1
+
 -- 2 Start "an inactive task: ready, behind its equals"
 unfoldable pub start : (ℕ → ℕ) → ℕ → State → State
 start key i s = joinReady key i (setTask i (readied 0 0 (task s i)) s)
 
 -- 3 Stop "a task neither inactive nor the caller: taken from any list, made inactive with all but state and priority 0"
+abbrev pub mayStop : Task → Call → Bool
+mayStop t c = not (isInactive t) && not (eqb (c .target) (c .caller))
+
 unfoldable pub stop : ℕ → State → State
 stop i s = setTask i (inactive (task s i .priority)) (leave i s)
 
--- 4 Suspend, 5 Resume: "flag set, state and lists kept", "flag cleared"
+-- 4 Suspend "a task that is neither inactive, suspended nor the caller: flag set, state and lists kept"
+abbrev pub maySuspend : Task → Call → Bool
+maySuspend t c = not (isInactive t) && (not (isSuspended t) && not (eqb (c .target) (c .caller)))
+
+-- and 5 Resume "a suspended task: flag cleared"
 unfoldable pub flag : ℕ → ℕ → State → State
 flag f i s = setTask i (flagged f (task s i)) s
-
-abbrev pub isInactive : Task → Bool
-isInactive t = eqb (t .state) 1
 
 -- ---- 6 Yield: "caller goes behind its equals, answer 1"
 
@@ -123,11 +130,8 @@ unfoldable pub serve : (ℕ → ℕ) → Service → State → Call → State
 serve key Blank s c = blank
 serve key HubRequest s c = settle key (verdict s c) s c
 serve key Start s c = grant (isInactive (task s (c .target))) (start key (c .target) s) s c
-serve key Stop s c =
-    grant (not (isInactive (task s (c .target))) && not (eqb (c .target) (c .caller))) (stop (c .target) s) s c
-serve key Suspend s c =
-    grant (not (isInactive (task s (c .target))) && (not (isSuspended (task s (c .target))) && not (eqb (c .target) (c .caller))))
-    (flag 1 (c .target) s) s c
+serve key Stop s c = grant (mayStop (task s (c .target)) c) (stop (c .target) s) s c
+serve key Suspend s c = grant (maySuspend (task s (c .target)) c) (flag 1 (c .target) s) s c
 serve key Resume s c = grant (isSuspended (task s (c .target))) (flag 0 (c .target) s) s c
 serve key Yield s c = yielded key (c .caller) s
 serve key Sleep s c = slept (c .ticks) (c .caller) s

@@ -7,14 +7,13 @@ ghost use Rattle.rules.specs.WellFormed.{urgency};
 ghost use lib.ListN.{getD, length, replicate};
 ghost use mathlib.Core.List.{[]};
 ghost use mathlib.Core.Path.{_≡_};
+use records::HubNo;
+use records::HubRecord;
 use records::TaskNo;
 use records::TaskRecord;
 
 // "contents: edition 1"
 const EDITION: u32 = 1;
-
-// Which word of a task record is its priority.
-const PRIORITY: usize = 2;
 
 fn clear(t: &mut [u32])
     ensures { λ _. ⌜ now (t .exit) ≡ replicate (length (now (t .entry))) 0 ⌝ }
@@ -75,10 +74,17 @@ pub fn add_hub(t: &mut [u32], kind: u32, limit: u32, start: u32)
         ≡ words one (addHub record { kind = kind; count = start; limit = limit; start = start; waiters = []; held = [] } s)) ⌝ }
 {
     let n = t[records::HUBS] as usize;
-    records::set_field(t, records::HUBS_AT, records::HUB_SIZE, n, 0, kind);
-    records::set_field(t, records::HUBS_AT, records::HUB_SIZE, n, 1, start);
-    records::set_field(t, records::HUBS_AT, records::HUB_SIZE, n, 2, limit);
-    records::set_field(t, records::HUBS_AT, records::HUB_SIZE, n, 3, start);
+    records::set_hub(
+        t,
+        records::HUBS_AT,
+        HubNo(n),
+        HubRecord {
+            kind,
+            count: start,
+            limit,
+            start,
+        },
+    );
     t[records::HUBS] = (n + 1) as u32;
 }
 
@@ -90,7 +96,13 @@ pub fn keys(t: &[u32]) -> [u32; 16]
     let mut ks = [0u32; 16];
     let mut i = 0;
     while i < 16 {
-        ks[i] = records::field(t, records::TASKS_AT, records::TASK_SIZE, i, PRIORITY);
+        ks[i] = records::field(
+            t,
+            records::TASKS_AT,
+            records::TASK_SIZE,
+            i,
+            records::PRIORITY,
+        );
         i += 1;
     }
     ks

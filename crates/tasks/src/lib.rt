@@ -4,8 +4,8 @@ use records::TaskNo;
 use records::TaskRecord;
 use rules::Call;
 ghost use Prim.Native.Nat.{_<_, _≤_, ℕ};
-ghost use Rattle.moves.specs.Moves.{Sound, keyOf};
-ghost use Rattle.rules.specs.Calls.{Resume, Sleep, Start, Stop, Suspend, Yield, flag, serve};
+ghost use Rattle.moves.specs.Moves.{Sound, keyOf, taskOf};
+ghost use Rattle.rules.specs.Calls.{Resume, Sleep, Start, Stop, Suspend, Yield, flag, mayStop, maySuspend, serve};
 ghost use Rattle.rules.specs.Table.{State, inactive, one, setTask, words};
 ghost use lib.ListN.{length};
 ghost use mathlib.Core.Path.{_≡_};
@@ -15,7 +15,8 @@ pub fn start_task(t: &mut [u32], keys: &[u32], c: Call)
     requires { ⌜ c .caller < 16 ⌝ }
     requires { ⌜ c .target < 16 ⌝ }
     requires { ⌜ length (now t) ≡ 600 ⌝ }
-    ensures { λ _. ⌜ ((s : State) → Sound s → c .caller < length (s .tasks) → c .target < length (s .tasks) → now (t .entry) ≡ words one s → now (t .exit) ≡ words one (serve (keyOf (now (keys .entry))) Start s c)) ⌝ }
+    ensures { λ _. ⌜ ((s : State) → Sound s → c .caller < length (s .tasks) → c .target < length (s .tasks)
+        → now (t .entry) ≡ words one s → now (t .exit) ≡ words one (serve (keyOf (now (keys .entry))) Start s c)) ⌝ }
 {
     let caller = TaskNo(c.caller as usize);
     let i = TaskNo(c.target as usize);
@@ -33,7 +34,8 @@ pub fn start_task(t: &mut [u32], keys: &[u32], c: Call)
 // "made inactive with all but state and priority 0"
 fn make_inactive(t: &mut [u32], i: TaskNo, priority: u32)
     requires { ⌜ i .0 < 16 ⌝ }
-    ensures { λ _. ⌜ ((s : State) → length (s .tasks) ≤ 16 → i .0 < length (s .tasks) → now (t .entry) ≡ words one s → now (t .exit) ≡ words one (setTask (i .0) (inactive priority) s)) ⌝ }
+    ensures { λ _. ⌜ ((s : State) → length (s .tasks) ≤ 16 → i .0 < length (s .tasks) → now (t .entry) ≡ words one s
+        → now (t .exit) ≡ words one (setTask (i .0) (inactive priority) s)) ⌝ }
 {
     moves::set_task(
         t,
@@ -51,22 +53,26 @@ fn make_inactive(t: &mut [u32], i: TaskNo, priority: u32)
     );
 }
 
-// "Stop a task neither inactive nor the caller: taken from any list".
+// "a task neither inactive nor the caller"
+fn may_stop(x: TaskRecord, c: Call) -> bool
+    ensures { λ r. ⌜ r ≡ mayStop (taskOf x) c ⌝ }
+{
+    (x.state != rules::INACTIVE) & (c.target != c.caller)
+}
+
+// Stop: "taken from any list, made inactive".
 pub fn stop_task(t: &mut [u32], c: Call)
     requires { ⌜ c .caller < 16 ⌝ }
     requires { ⌜ c .target < 16 ⌝ }
     requires { ⌜ length (now t) ≡ 600 ⌝ }
-    ensures { λ _. ⌜ ((key : ℕ → ℕ) (s : State) → Sound s → c .caller < length (s .tasks) → c .target < length (s .tasks) → now (t .entry) ≡ words one s → now (t .exit) ≡ words one (serve key Stop s c)) ⌝ }
+    ensures { λ _. ⌜ ((key : ℕ → ℕ) (s : State) → Sound s → c .caller < length (s .tasks)
+        → c .target < length (s .tasks) → now (t .entry) ≡ words one s
+        → now (t .exit) ≡ words one (serve key Stop s c)) ⌝ }
 {
     let caller = TaskNo(c.caller as usize);
     let i = TaskNo(c.target as usize);
     let x = moves::task_at(&*t, i);
-    let state = x.state;
-    if state == rules::INACTIVE {
-        moves::give_answer(t, caller, rules::FAIL, 0);
-        return;
-    }
-    if c.target == c.caller {
+    if !may_stop(x, c) {
         moves::give_answer(t, caller, rules::FAIL, 0);
         return;
     }
@@ -78,7 +84,8 @@ pub fn stop_task(t: &mut [u32], c: Call)
 // The flag of task i, and nothing else.
 fn set_flag(t: &mut [u32], i: TaskNo, f: u32)
     requires { ⌜ i .0 < 16 ⌝ }
-    ensures { λ _. ⌜ ((s : State) → length (s .tasks) ≤ 16 → i .0 < length (s .tasks) → now (t .entry) ≡ words one s → now (t .exit) ≡ words one (flag f (i .0) s)) ⌝ }
+    ensures { λ _. ⌜ ((s : State) → length (s .tasks) ≤ 16 → i .0 < length (s .tasks) → now (t .entry) ≡ words one s
+        → now (t .exit) ≡ words one (flag f (i .0) s)) ⌝ }
 {
     let x = moves::task_at(&*t, i);
     moves::set_task(
@@ -97,26 +104,25 @@ fn set_flag(t: &mut [u32], i: TaskNo, f: u32)
     );
 }
 
-// "Suspend a task that is neither inactive, suspended nor the caller: flag set, state and lists kept."
+// "a task that is neither inactive, suspended nor the caller"
+fn may_suspend(x: TaskRecord, c: Call) -> bool
+    ensures { λ r. ⌜ r ≡ maySuspend (taskOf x) c ⌝ }
+{
+    (x.state != rules::INACTIVE) & ((x.suspended == 0) & (c.target != c.caller))
+}
+
+// Suspend: "flag set, state and lists kept".
 pub fn suspend_task(t: &mut [u32], c: Call)
     requires { ⌜ c .caller < 16 ⌝ }
     requires { ⌜ c .target < 16 ⌝ }
-    ensures { λ _. ⌜ ((key : ℕ → ℕ) (s : State) → Sound s → c .caller < length (s .tasks) → c .target < length (s .tasks) → now (t .entry) ≡ words one s → now (t .exit) ≡ words one (serve key Suspend s c)) ⌝ }
+    ensures { λ _. ⌜ ((key : ℕ → ℕ) (s : State) → Sound s → c .caller < length (s .tasks)
+        → c .target < length (s .tasks) → now (t .entry) ≡ words one s
+        → now (t .exit) ≡ words one (serve key Suspend s c)) ⌝ }
 {
     let caller = TaskNo(c.caller as usize);
     let i = TaskNo(c.target as usize);
     let x = moves::task_at(&*t, i);
-    let state = x.state;
-    let suspended = x.suspended;
-    if state == rules::INACTIVE {
-        moves::give_answer(t, caller, rules::FAIL, 0);
-        return;
-    }
-    if suspended != 0 {
-        moves::give_answer(t, caller, rules::FAIL, 0);
-        return;
-    }
-    if c.target == c.caller {
+    if !may_suspend(x, c) {
         moves::give_answer(t, caller, rules::FAIL, 0);
         return;
     }
@@ -128,7 +134,9 @@ pub fn suspend_task(t: &mut [u32], c: Call)
 pub fn resume_task(t: &mut [u32], c: Call)
     requires { ⌜ c .caller < 16 ⌝ }
     requires { ⌜ c .target < 16 ⌝ }
-    ensures { λ _. ⌜ ((key : ℕ → ℕ) (s : State) → Sound s → c .caller < length (s .tasks) → c .target < length (s .tasks) → now (t .entry) ≡ words one s → now (t .exit) ≡ words one (serve key Resume s c)) ⌝ }
+    ensures { λ _. ⌜ ((key : ℕ → ℕ) (s : State) → Sound s → c .caller < length (s .tasks)
+        → c .target < length (s .tasks) → now (t .entry) ≡ words one s
+        → now (t .exit) ≡ words one (serve key Resume s c)) ⌝ }
 {
     let caller = TaskNo(c.caller as usize);
     let i = TaskNo(c.target as usize);
@@ -146,7 +154,8 @@ pub fn resume_task(t: &mut [u32], c: Call)
 pub fn yield_turn(t: &mut [u32], keys: &[u32], c: Call)
     requires { ⌜ c .caller < 16 ⌝ }
     requires { ⌜ length (now t) ≡ 600 ⌝ }
-    ensures { λ _. ⌜ ((s : State) → Sound s → c .caller < length (s .tasks) → now (t .entry) ≡ words one s → now (t .exit) ≡ words one (serve (keyOf (now (keys .entry))) Yield s c)) ⌝ }
+    ensures { λ _. ⌜ ((s : State) → Sound s → c .caller < length (s .tasks) → now (t .entry) ≡ words one s
+        → now (t .exit) ≡ words one (serve (keyOf (now (keys .entry))) Yield s c)) ⌝ }
 {
     let caller = TaskNo(c.caller as usize);
     moves::leave_list(t, caller);
@@ -158,7 +167,8 @@ pub fn yield_turn(t: &mut [u32], keys: &[u32], c: Call)
 pub fn sleep_task(t: &mut [u32], c: Call)
     requires { ⌜ c .caller < 16 ⌝ }
     requires { ⌜ length (now t) ≡ 600 ⌝ }
-    ensures { λ _. ⌜ ((key : ℕ → ℕ) (s : State) → Sound s → c .caller < length (s .tasks) → now (t .entry) ≡ words one s → now (t .exit) ≡ words one (serve key Sleep s c)) ⌝ }
+    ensures { λ _. ⌜ ((key : ℕ → ℕ) (s : State) → Sound s → c .caller < length (s .tasks) → now (t .entry) ≡ words one s
+        → now (t .exit) ≡ words one (serve key Sleep s c)) ⌝ }
 {
     let caller = TaskNo(c.caller as usize);
     moves::leave_list(t, caller);

@@ -1,19 +1,30 @@
 // Whether a table of words is well formed: refusals 1 and 2. One pass: contents, what is unused, the ready list, each hub
 // with its store and its list, and the task records last. A walk of a list marks the tasks that it meets, and the records
 // say which of them must have been met once.
+use records::ANSWER;
+use records::COUNT;
+use records::HUB;
 use records::HUB_SIZE;
 use records::HUBS;
 use records::HUBS_AT;
+use records::LIMIT;
 use records::LIST_SIZE;
 use records::MOST_RECORDS;
+use records::PRIORITY;
 use records::READY_AT;
+use records::SIDE;
+use records::START;
+use records::STATE;
 use records::STORE_SIZE;
 use records::STORES_AT;
+use records::SUSPENDED;
 use records::TABLE_SIZE;
 use records::TASK_SIZE;
 use records::TASKS;
 use records::TASKS_AT;
+use records::TICKS;
 use records::WAITS_AT;
+use records::WORD;
 ghost use Prim.Native.Nat.{_<_, _≤_};
 ghost use Rattle.lists.specs.Lists.{numbers, occ};
 ghost use Rattle.rules.specs.Table.{Task, Waiting, one, read};
@@ -67,8 +78,9 @@ fn entry_right(t: &[u32], e: u32, hub: u32, side: u32, owner: u32, last: u32) ->
     if e > t[TASKS] {
         return false;
     }
+    // entry e is task e - 1, and the contents are as long as a task record
     let b = (e as usize) * TASK_SIZE;
-    (t[b + 3] == hub) & ((t[b + 5] == side) & ((last <= t[b + 2]) & (e != owner)))
+    (t[b + HUB] == hub) & ((t[b + SIDE] == side) & ((last <= t[b + PRIORITY]) & (e != owner)))
 }
 
 // A list in one walk: entries by rising priority number, then zeros, each entry's task marked.
@@ -91,7 +103,7 @@ fn walk(t: &[u32], list: &[u32], hub: u32, side: u32, owner: u32, marks: &mut [u
         }
         let i = e as usize;
         marks[i - 1] = marks[i - 1] + 1;
-        last = t[i * TASK_SIZE + 2];
+        last = t[i * TASK_SIZE + PRIORITY];
         k += 1;
     }
     true
@@ -104,9 +116,9 @@ fn kind_right(t: &[u32], h: usize) -> bool
     ensures { λ r. ⌜ r ≡ kindTest (now (t .entry)) h ⌝ }
 {
     let b = HUBS_AT + h * HUB_SIZE;
-    let count = t[b + 1];
-    let limit = t[b + 2];
-    let start = t[b + 3];
+    let count = t[b + COUNT];
+    let limit = t[b + LIMIT];
+    let start = t[b + START];
     match t[b] {
         rules::EVENT => (count <= 1) & ((limit == 1) & (start == 0)),
         rules::SEMAPHORE => (count <= limit)
@@ -130,7 +142,7 @@ fn store_right(t: &[u32], h: usize) -> bool
     let store = &t[at..at + STORE_SIZE];
     let b = HUBS_AT + h * HUB_SIZE;
     if t[b] == rules::FIFO {
-        let n = t[b + 1] as usize;
+        let n = t[b + COUNT] as usize;
         lists::zeros(&store[n..])
     } else {
         lists::zeros(store)
@@ -170,11 +182,11 @@ fn queue_right(t: &[u32], h: usize, marks: &mut [u32; 16]) -> bool
     if e > t[TASKS] {
         return false;
     }
-    let side = t[(e as usize) * TASK_SIZE + 5];
+    let side = t[(e as usize) * TASK_SIZE + SIDE];
     let b = HUBS_AT + h * HUB_SIZE;
     let kind = t[b];
-    let count = t[b + 1];
-    if !may_wait(side, kind, count, t[b + 2]) {
+    let count = t[b + COUNT];
+    if !may_wait(side, kind, count, t[b + LIMIT]) {
         return false;
     }
     walk(t, list, (h + 1) as u32, side, owner_of(kind, count), marks)
@@ -248,8 +260,8 @@ fn waiting_right(t: &[u32], hub: u32, side: u32, word: u32, answer: u32) -> bool
     if hub > t[HUBS] {
         return false;
     }
-    // a hub's number plus 1 stands in the record, so its words are 4 before those of that number
-    let kind = t[132 + (hub as usize) * 4];
+    // a hub's number plus 1 stands in the record
+    let kind = t[HUBS_AT - HUB_SIZE + (hub as usize) * HUB_SIZE];
     ((rules::PUT <= side) & (side <= rules::GET))
         & ((answer == 0)
             & (((side == rules::PUT) & ((kind == rules::PORT) | (kind == rules::FIFO)))
@@ -262,18 +274,18 @@ fn task_right(t: &[u32], x: &[u32], mark: u32) -> bool
     requires { ⌜ length (now x) ≡ 8 ⌝ }
     ensures { λ r. ⌜ r ≡ recordRight (read one (now (t .entry))) (recordOf (now (x .entry))) mark ⌝ }
 {
-    let suspended = x[1];
-    let hub = x[3];
-    let ticks = x[4];
-    let side = x[5];
-    let word = x[6];
-    let answer = x[7];
+    let suspended = x[SUSPENDED];
+    let hub = x[HUB];
+    let ticks = x[TICKS];
+    let side = x[SIDE];
+    let word = x[WORD];
+    let answer = x[ANSWER];
     if !((suspended <= 1)
-        & ((x[2] <= rules::LAST_PRIORITY)
+        & ((x[PRIORITY] <= rules::LAST_PRIORITY)
             & ((ticks <= rules::MOST_TICKS) & (answer <= rules::TIMED_OUT)))) {
         return false;
     }
-    match x[0] {
+    match x[STATE] {
         rules::INACTIVE => inactive_right(suspended, hub, ticks, side, word, answer) & (mark == 0),
         rules::READY => ready_right(hub, ticks, side, word, answer) & (mark == 1),
         rules::WAITING => waiting_right(t, hub, side, word, answer) & (mark == 1),

@@ -1,5 +1,5 @@
 -- `moves::join_hub` meets its contract. Assumes nothing.
-use Prim.Native.Nat.{_*_, _+_, _-_, _<_, ℕ}
+use Prim.Native.Nat.{_+_, _-_, ℕ}
 use Rattle.moves.proofs.Laws as Laws
 use Rattle.moves.proofs.join_hub.Statement.{statement}
 use Rattle.moves.proofs.join_hub.Tie as tie
@@ -7,20 +7,8 @@ use borrow.Author.Needs.{needs}
 use mathlib.Core.Path.{_∙_, _≡_}
 use native.Mathlib.Omega.{arith}
 
-mul-a : tie.Need-mul-a
-mul-a c = search needs
-
-add-a : tie.Need-add-a
-add-a c = search needs
-
-add-a-2 : tie.Need-add-a-2
-add-a-2 c = search needs
-
-mul-a-2 : tie.Need-mul-a-2
-mul-a-2 c = search needs
-
-add-a-3 : tie.Need-add-a-3
-add-a-3 c = search needs
+waits-at-requires : tie.Need-waits-at-requires
+waits-at-requires c κs = search needs
 
 add-join : tie.Need-add-join
 add-join c = search needs
@@ -45,25 +33,21 @@ same-length c = search needs
 
 returns : tie.Need-returns
 returns c =
-    let a = c .before .before .before .before .before .before .args in
-    let n : ℕ = 8 + 16 * a .ts + 80 + a .h .0 * 16 + 16 - (8 + 16 * a .ts + 80 + a .h .0 * 16) in
+    let a = c .before .before .before .before .before .before .before .args in
+    let r = c .before .before .before .before .waits-at in
+    let n : ℕ = r .result + 16 - r .result in
     let many : n ≡ 16 = omega arith in
-    let low : a .h .0 < 16 = omega arith in
     let joined = c .before .before .join .ensures in
     record {
-      table = λ L s z size used e. Laws.join-hub L s z (a .t .now) _ (a .ts) n size many e (a .h .0) low used (a .keys .now) (a .i .0) (joined .list);
-      place = λ L s z size used fits e. joined .place ∙ Laws.place-hub L s z (a .t .now) (a .t .now) (a .ts) n size many e (a .h .0) low used (a .keys .now) _ fits;
+      table = λ L s z size used e. Laws.join-hub L s z (a .t .now) _ (r .result) n many e (a .h .0) (omega arith) used (omega (arith, r .ensures, size)) (a .keys .now) (a .i .0) (joined .list);
+      place = λ L s z size used fits e. joined .place ∙ Laws.place-hub L s z (a .t .now) (a .t .now) (r .result) n many e (a .h .0) (omega arith) used (omega (arith, r .ensures, size)) (a .keys .now) _ fits;
     }
 
 pub join-hub-spec : {M : Type 1} → statement M
 join-hub-spec =
     tie.close
     (tie.spec
-    mul-a
-    add-a
-    add-a-2
-    mul-a-2
-    add-a-3
+    waits-at-requires
     add-join
     mul-join
     sub-join

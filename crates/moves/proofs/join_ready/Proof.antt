@@ -1,5 +1,5 @@
 -- `moves::join_ready` meets its contract. Assumes nothing.
-use Prim.Native.Nat.{_*_, _+_, _-_, ℕ}
+use Prim.Native.Nat.{_+_, _-_, ℕ}
 use Rattle.moves.proofs.Laws as Laws
 use Rattle.moves.proofs.join_ready.Statement.{statement}
 use Rattle.moves.proofs.join_ready.Tie as tie
@@ -7,14 +7,8 @@ use borrow.Author.Needs.{needs}
 use mathlib.Core.Path.{_∙_, _≡_}
 use native.Mathlib.Omega.{arith}
 
-mul-a : tie.Need-mul-a
-mul-a c = search needs
-
-add-a : tie.Need-add-a
-add-a c = search needs
-
-add-a-2 : tie.Need-add-a-2
-add-a-2 c = search needs
+ready-at-requires : tie.Need-ready-at-requires
+ready-at-requires c κs = search needs
 
 add-join : tie.Need-add-join
 add-join c = search needs
@@ -39,22 +33,21 @@ same-length c = search needs
 
 returns : tie.Need-returns
 returns c =
-    let a = c .before .before .before .before .before .before .args in
-    let n : ℕ = 8 + 16 * a .ts + 64 + 16 - (8 + 16 * a .ts + 64) in
+    let a = c .before .before .before .before .before .before .before .args in
+    let r = c .before .before .before .before .ready-at in
+    let n : ℕ = r .result + 16 - r .result in
     let many : n ≡ 16 = omega arith in
     let joined = c .before .before .join .ensures in
     record {
-      table = λ L s z size e. Laws.join-ready L s z (a .t .now) _ (a .ts) n size many e (a .keys .now) (a .i .0) (joined .list);
-      place = λ L s z size fits e. joined .place ∙ Laws.place-ready L s z (a .t .now) (a .t .now) (a .ts) n size many e (a .keys .now) _ fits;
+      table = λ L s z size e. Laws.join-ready L s z (a .t .now) _ (r .result) n many e (omega (arith, r .ensures, size)) (a .keys .now) (a .i .0) (joined .list);
+      place = λ L s z size fits e. joined .place ∙ Laws.place-ready L s z (a .t .now) (a .t .now) (r .result) n many e (omega (arith, r .ensures, size)) (a .keys .now) _ fits;
     }
 
 pub join-ready-spec : {M : Type 1} → statement M
 join-ready-spec =
     tie.close
     (tie.spec
-    mul-a
-    add-a
-    add-a-2
+    ready-at-requires
     add-join
     mul-join
     sub-join

@@ -1,5 +1,5 @@
 -- `moves::leave_hub` meets its contract. Assumes nothing.
-use Prim.Native.Nat.{_*_, _+_, _-_, ℕ}
+use Prim.Native.Nat.{_+_, _-_, ℕ}
 use Rattle.moves.proofs.Laws as Laws
 use Rattle.moves.proofs.leave_hub.Statement.{statement}
 use Rattle.moves.proofs.leave_hub.Tie as tie
@@ -7,20 +7,8 @@ use borrow.Author.Needs.{needs}
 use mathlib.Core.Path.{_≡_}
 use native.Mathlib.Omega.{arith}
 
-mul-a : tie.Need-mul-a
-mul-a c = search needs
-
-add-a : tie.Need-add-a
-add-a c = search needs
-
-add-a-2 : tie.Need-add-a-2
-add-a-2 c = search needs
-
-mul-a-2 : tie.Need-mul-a-2
-mul-a-2 c = search needs
-
-add-a-3 : tie.Need-add-a-3
-add-a-3 c = search needs
+waits-at-requires : tie.Need-waits-at-requires
+waits-at-requires c κs = search needs
 
 add-leave : tie.Need-add-leave
 add-leave c = search needs
@@ -45,20 +33,17 @@ same-length c = search needs
 
 returns : tie.Need-returns
 returns c = λ L s z size used room once e.
-    let a = c .before .before .before .before .before .args in
-    let n : ℕ = 8 + 16 * a .ts + 80 + a .h .0 * 16 + 16 - (8 + 16 * a .ts + 80 + a .h .0 * 16) in
+    let a = c .before .before .before .before .before .before .args in
+    let r = c .before .before .before .before .waits-at in
+    let n : ℕ = r .result + 16 - r .result in
     let many : n ≡ 16 = omega arith in
-    Laws.leave-hub L s z (a .t .now) _ (a .ts) n size many e (a .h .0) (omega arith) used (a .i .0) room once (c .before .before .leave .ensures)
+    Laws.leave-hub L s z (a .t .now) _ (r .result) n many e (a .h .0) (omega arith) used (omega (arith, r .ensures, size)) (a .i .0) room once (c .before .before .leave .ensures)
 
 pub leave-hub-spec : {M : Type 1} → statement M
 leave-hub-spec =
     tie.close
     (tie.spec
-    mul-a
-    add-a
-    add-a-2
-    mul-a-2
-    add-a-3
+    waits-at-requires
     add-leave
     mul-leave
     sub-leave

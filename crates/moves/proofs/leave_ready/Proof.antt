@@ -1,5 +1,5 @@
 -- `moves::leave_ready` meets its contract. Assumes nothing.
-use Prim.Native.Nat.{_*_, _+_, _-_, ℕ}
+use Prim.Native.Nat.{_+_, _-_, ℕ}
 use Rattle.moves.proofs.Laws as Laws
 use Rattle.moves.proofs.leave_ready.Statement.{statement}
 use Rattle.moves.proofs.leave_ready.Tie as tie
@@ -7,14 +7,8 @@ use borrow.Author.Needs.{needs}
 use mathlib.Core.Path.{_≡_}
 use native.Mathlib.Omega.{arith}
 
-mul-a : tie.Need-mul-a
-mul-a c = search needs
-
-add-a : tie.Need-add-a
-add-a c = search needs
-
-add-a-2 : tie.Need-add-a-2
-add-a-2 c = search needs
+ready-at-requires : tie.Need-ready-at-requires
+ready-at-requires c κs = search needs
 
 add-leave : tie.Need-add-leave
 add-leave c = search needs
@@ -39,18 +33,17 @@ same-length c = search needs
 
 returns : tie.Need-returns
 returns c = λ L s z size room once e.
-    let a = c .before .before .before .before .before .args in
-    let n : ℕ = 8 + 16 * a .ts + 64 + 16 - (8 + 16 * a .ts + 64) in
+    let a = c .before .before .before .before .before .before .args in
+    let r = c .before .before .before .before .ready-at in
+    let n : ℕ = r .result + 16 - r .result in
     let many : n ≡ 16 = omega arith in
-    Laws.leave-ready L s z (a .t .now) _ (a .ts) n size many e (a .i .0) room once (c .before .before .leave .ensures)
+    Laws.leave-ready L s z (a .t .now) _ (r .result) n many e (omega (arith, r .ensures, size)) (a .i .0) room once (c .before .before .leave .ensures)
 
 pub leave-ready-spec : {M : Type 1} → statement M
 leave-ready-spec =
     tie.close
     (tie.spec
-    mul-a
-    add-a
-    add-a-2
+    ready-at-requires
     add-leave
     mul-leave
     sub-leave

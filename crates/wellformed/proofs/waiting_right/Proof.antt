@@ -27,6 +27,9 @@ returns-2 c x eh es ew ea =
     let a = c .before .before .before .args in
     rw (eh, read-hubs one (a .t .now), lt-leb (a .hub) (getD (a .t .now) 2 0) (c .if2 .taken), and-false)
 
+sub-kind : tie.Need-sub-kind
+sub-kind c = search needs
+
 mul-kind : tie.Need-mul-kind
 mul-kind c = search needs
 
@@ -66,6 +69,7 @@ waiting-right-spec =
     returns
     shared-slice-read-if2
     returns-2
+    sub-kind
     mul-kind
     add-kind
     mul-kind-2
