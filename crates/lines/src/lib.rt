@@ -159,7 +159,7 @@ impl Scan {
     }
 
     // One byte more of the line, which is no newline.
-    pub fn step(self, byte: u8) -> Scan
+    fn step(self, byte: u8) -> Scan
         ensures { λ r. ⌜ r ≡ byteStep self byte ⌝ }
     {
         if self.bad {
@@ -195,7 +195,7 @@ impl Scan {
     }
 
     // The state before the next line. Line 18,446,744,073,709,551,615 is followed by lines of the same number.
-    pub fn next(self) -> Scan
+    fn next(self) -> Scan
         ensures { λ r. ⌜ r ≡ nextOf self ⌝ }
     {
         if self.line < LAST_LINE {

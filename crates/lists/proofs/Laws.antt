@@ -1,7 +1,8 @@
 -- Laws of the definitions of specs/Lists.antt. In order: a turn of each loop of this crate, and its end; what a find says;
--- lengths; numbers in words and back (`numbers-entries`, `entries-numbers`); a number joins (`join-entries`); how often a
--- number stands in a list; a number leaves (`leave-entries`); a store's words (`push-padded`, `pop-padded`).
--- Not here: laws of `take`, `drop`, `set`, `getD` and `length` alone (`lib.Seq`, `lib.ListN`).
+-- lengths; numbers in words and back (`numbers-entries`, `entries-numbers`); a number joins (`join-entries`); a number leaves
+-- (`leave-entries`); a store's words (`push-padded`, `pop-padded`).
+-- Not here: how often a number stands in a list (Counting.antt), the zeros behind a list (Padding.antt), and laws of `take`,
+-- `drop`, `set`, `getD` and `length` alone (`lib.Seq`, `lib.ListN`).
 -- Lists and counts are explicit arguments, since each stands under a function that is stuck on it. Assumes nothing.
 use Prim.Native.Nat.{_<_, _≤_, pred, suc, suc-le-suc, zero, zero-le, ℕ}
 use Rattle.lists.specs.Lists.{allZero, entries, foundAt, indexOf, insert, insertAt, numbers, occ, packed, padded, placeIn, placeOf, removeAt, shiftIn, without}
@@ -35,14 +36,6 @@ module _ (l : List ℕ) (i : ℕ) (h : i < length l) where
   pub indexOf-miss : (v : ℕ) → (getD l i 0 ≡ v → ⊥) → indexOf v (drop i l) ≡ suc (indexOf v (drop (suc i) l))
   unfolding indexOf
   indexOf-miss v n = rw (drop-cons l i 0 h, ne-eqb (getD l i 0) v n)
-
-  pub packed-hit : getD l i 0 ≡ 0 → packed (drop i l) ≡ allZero (drop i l)
-  unfolding allZero packed
-  packed-hit e = rw (drop-cons l i 0 h, eq-eqb (getD l i 0) 0 e)
-
-  pub packed-miss : (getD l i 0 ≡ 0 → ⊥) → packed (drop i l) ≡ packed (drop (suc i) l)
-  unfolding packed
-  packed-miss n = rw (drop-cons l i 0 h, ne-eqb (getD l i 0) 0 n)
 
   -- the place of a key: at the first word that is no entry or whose key is less urgent
   module _ (ks : List ℕ) (p : ℕ) where

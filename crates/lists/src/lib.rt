@@ -1,12 +1,12 @@
 // Lists of entries in a lent slice of words: an entry is a number plus 1, first entry first, and what is unused is 0.
 // Any length, any words; no table in sight, and nothing is required but that a number plus 1 is a word.
 ghost use Prim.Native.Nat.{_<_, suc};
-ghost use Rattle.lists.specs.Lists.{Joined, allZero, foundAt, indexOf, insertAt, packed, placeIn, removeAt};
+ghost use Rattle.lists.specs.Lists.{Joined, allZero, foundAt, indexOf, insertAt, placeIn, removeAt};
 ghost use lib.ListN.{getD};
 ghost use mathlib.Core.Path.{_≡_};
 
 // What a search answers: the first place, or that there is none.
-pub enum Found {
+enum Found {
     At(usize),
     Nothing,
 }
@@ -19,7 +19,7 @@ pub fn word(s: &[u32], i: usize) -> u32
 }
 
 // The first place that holds v.
-pub fn find(list: &[u32], v: u32) -> Found
+fn find(list: &[u32], v: u32) -> Found
     ensures { λ r. ⌜ r ≡ foundAt v (now (list .entry)) ⌝ }
 {
     let mut i = 0;
@@ -33,7 +33,7 @@ pub fn find(list: &[u32], v: u32) -> Found
 }
 
 // v at place `at`, all from there on one place further, the last one lost.
-pub fn insert_at(list: &mut [u32], at: usize, v: u32)
+fn insert_at(list: &mut [u32], at: usize, v: u32)
     ensures { λ _. ⌜ now (list .exit) ≡ insertAt at v (now (list .entry)) ⌝ }
 {
     let mut carry = v;
@@ -71,23 +71,9 @@ pub fn zeros(s: &[u32]) -> bool
     any == 0
 }
 
-// Entries that are not 0, and then nothing but zeros.
-pub fn is_packed(s: &[u32]) -> bool
-    ensures { λ r. ⌜ r ≡ packed (now (s .entry)) ⌝ }
-{
-    let mut i = 0;
-    while i < s.len() {
-        if s[i] == 0 {
-            return zeros(&s[i..]);
-        }
-        i += 1;
-    }
-    true
-}
-
 // "behind all entries of its own or a more urgent priority": the place of one with this key. keys gives each number its
 // key, the smaller the more urgent.
-pub fn place(list: &[u32], keys: &[u32], key: u32) -> usize
+fn place(list: &[u32], keys: &[u32], key: u32) -> usize
     ensures { λ r. ⌜ r ≡ placeIn (now (keys .entry)) key (now (list .entry)) ⌝ }
 {
     let mut i = 0;

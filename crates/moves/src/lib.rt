@@ -38,7 +38,7 @@ pub fn join_hub(t: &mut [u32], ts: usize, keys: &[u32], h: HubNo, i: TaskNo) -> 
 }
 
 // Task i leaves the ready list, in which it stands at most once.
-pub fn leave_ready(t: &mut [u32], ts: usize, i: TaskNo)
+fn leave_ready(t: &mut [u32], ts: usize, i: TaskNo)
     requires { ⌜ ts ≤ 9 ⌝ }
     requires { ⌜ i .0 < 16 ⌝ }
     requires { ⌜ 8 + 16 * ts + 80 ≤ length (now t) ⌝ }
@@ -52,7 +52,7 @@ pub fn leave_ready(t: &mut [u32], ts: usize, i: TaskNo)
 }
 
 // Task i leaves hub h's list, in which it stands at most once.
-pub fn leave_hub(t: &mut [u32], ts: usize, h: HubNo, i: TaskNo)
+fn leave_hub(t: &mut [u32], ts: usize, h: HubNo, i: TaskNo)
     requires { ⌜ ts ≤ 9 ⌝ }
     requires { ⌜ h .0 < 16 ⌝ }
     requires { ⌜ i .0 < 16 ⌝ }

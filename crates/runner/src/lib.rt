@@ -52,7 +52,7 @@ fn answer_call(t: &mut [u32], out: &mut [u8], at: usize, x: Numbers) -> usize
 }
 
 // Answers one line: a bad one leaves the table alone. The place behind its text.
-pub fn answer_line(t: &mut [u32], out: &mut [u8], at: usize, line: Line) -> usize
+fn answer_line(t: &mut [u32], out: &mut [u8], at: usize, line: Line) -> usize
     requires { ⌜ at + printRoom ≤ length (now out) ⌝ }
     ensures { λ r. ⌜ Lines (now (t .entry)) (line ∷ []) (now (out .entry)) at r (now (t .exit)) (now (out .exit)) ⌝ }
 {

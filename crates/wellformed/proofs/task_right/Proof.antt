@@ -12,12 +12,26 @@ use borrow.Author.Tests.{not-false, not-true}
 use lib.Dec.{eqb}
 use lib.ListN.{getD}
 use mathlib.Core.Bool.{_&&_}
+use mathlib.Core.List.{List}
 use mathlib.Core.Path.{_∙_, _≡_, refl, sym}
 use native.Mathlib.Omega.{arith}
 
-staged : (c : tie.After-shared-slice-known10) (n : ℕ) → getD (c .before .before .before .before .before .before .before .before .before .before .before .args .x .now) 0 0 ≡ n → recordRight (read one (c .before .before .before .before .before .before .before .before .before .before .before .args .t .now)) (recordOf (c .before .before .before .before .before .before .before .before .before .before .before .args .x .now)) (c .before .before .before .before .before .before .before .before .before .before .before .args .mark) ≡ (stageRight (stageOf n) (read one (c .before .before .before .before .before .before .before .before .before .before .before .args .t .now)) (recordOf (c .before .before .before .before .before .before .before .before .before .before .before .args .x .now)) && eqb (c .before .before .before .before .before .before .before .before .before .before .before .args .mark) (listed n))
+-- the table, the record and the mark, read where the record's state is matched
+abbrev table : tie.After-shared-slice-known10 → List ℕ
+table c = c .before .before .before .before .before .before .before .before .before .before .before .args .t .now
+
+abbrev words : tie.After-shared-slice-known10 → List ℕ
+words c = c .before .before .before .before .before .before .before .before .before .before .before .args .x .now
+
+abbrev mark : tie.After-shared-slice-known10 → ℕ
+mark c = c .before .before .before .before .before .before .before .before .before .before .before .args .mark
+
+-- the ranges are right, so what is left of the test goes by the state
+staged : (c : tie.After-shared-slice-known10) (n : ℕ) → getD (words c) 0 0 ≡ n
+    → recordRight (read one (table c)) (recordOf (words c)) (mark c)
+    ≡ (stageRight (stageOf n) (read one (table c)) (recordOf (words c)) && eqb (mark c) (listed n))
 unfolding fieldsRight
-staged c n q = let a = c .before .before .before .before .before .before .before .before .before .before .before .args in record-stage (read one (a .t .now)) (recordOf (a .x .now)) (a .mark) (not-false _ (c .before .if1 .left)) n q
+staged c n q = record-stage (read one (table c)) (recordOf (words c)) (mark c) (not-false _ (c .before .if1 .left)) n q
 
 shared-slice-read-suspended : tie.Need-shared-slice-read-suspended
 shared-slice-read-suspended c = search needs
@@ -70,9 +84,8 @@ returns-3 c = rw (c .ready-right .ensures) (sym (staged (c .before .before) 2 (c
 returns-4 : tie.Need-returns-4
 unfolding stageOf
 returns-4 c =
-    let a = c .before .before .before .before .before .before .before .before .before .before .before .before .before .args in
     rw
-    (c .waiting-right .ensures (recordOf (a .x .now)) refl refl refl refl)
+    (c .waiting-right .ensures (recordOf (words (c .before .before))) refl refl refl refl)
     (sym (staged (c .before .before) 3 (c .before .match .keys3)))
 
 returns-5 : tie.Need-returns-5
@@ -83,8 +96,7 @@ returns-6 : tie.Need-returns-6
 unfolding stageRight
 returns-6 c =
     let n = c .match .rest in
-    let a = c .before .before .before .before .before .before .before .before .before .before .before .before .args in
-    sym (staged (c .before) _ refl ∙ rw (no-stage (getD (a .x .now) 0 0) (λ h. omega (arith, n .0 .0 .0 .1, n .0 .0 .1, n .0 .1, n .1))))
+    sym (staged (c .before) _ refl ∙ rw (no-stage (getD (words (c .before)) 0 0) (λ h. omega (arith, n .0 .0 .0 .1, n .0 .0 .1, n .0 .1, n .1))))
 
 pub task-right-spec : {M : Type 1} → statement M
 task-right-spec =
