@@ -1,25 +1,23 @@
 -- What the functions of this crate read off a table and write into it, in the terms of the rules. In order: a hub's record;
--- the first waiter of a side; the store, word by word; a hub that is told to hold twice; what a met request rests on; the
--- word that is kept.
--- Not here: where a state's parts stand (rules, Places), the moves (moves, Laws). Assumes nothing.
-use Prim.Native.Nat.{_*_, _+_, _-_, _<_, _≤_, pred, suc, zero, ℕ}
+-- the first waiter of a side; what a met request rests on; the word that is kept; a verdict that meets nobody.
+-- Not here: the store (Stores.antt), where a state's parts stand (rules, Places), the moves (moves, Laws). Assumes nothing.
+use Prim.Native.Nat.{_*_, _+_, _-_, _<_, _≤_, suc, zero, ℕ}
 use Rattle.hubtable.specs.Says.{RecordOf, first, metWith, says, storeAfter}
 use Rattle.hubtable.specs.declared.Meeting.{Meeting}
 use Rattle.hubtable.specs.declared.Store.the-variants.{Append, Keep, Take, TakeAppend}
 use Rattle.hubtable.specs.declared.Store.{Store}
 use Rattle.hubtable.specs.declared.Verdict.the-variants.{Met}
 use Rattle.lists.proofs.Counting.{occ-here}
-use Rattle.lists.proofs.Laws.{boolCase, length-padded, pop-padded, push-padded}
-use Rattle.lists.specs.Lists.{entries, occ, padded, removeAt}
+use Rattle.lists.proofs.Laws.{boolCase}
+use Rattle.lists.specs.Lists.{entries, occ, padded}
 use Rattle.moves.specs.Moves.{Sound}
 use Rattle.records.specs.Records.{hubAt}
 use Rattle.requests.specs.Requests.{StoreFits}
 use Rattle.rules.proofs.Accepted.{Asked, request-tests}
 use Rattle.rules.proofs.Changes.{inUse, length-setHub}
-use Rattle.rules.proofs.Cut.{cut-part, cut-paste, cut-set}
 use Rattle.rules.proofs.Listed.{listed-answer, listed-hold}
 use Rattle.rules.proofs.Numbers.{bears-number}
-use Rattle.rules.proofs.Places.{cut-store, hub-word, one-sized, same-hub, store-word, wait-word}
+use Rattle.rules.proofs.Places.{hub-word, one-sized, store-word, wait-word}
 use Rattle.rules.proofs.Settled.{InUse, length-answer, partners, partners-in}
 use Rattle.rules.proofs.Standing.{first-waits, listed-waits}
 use Rattle.rules.proofs.Valid.{Held, Listed, Range, Valid}
@@ -28,13 +26,11 @@ use Rattle.rules.specs.Calls.{HubRequest, hold, kept, meetAll, serve, settle, w
 use Rattle.rules.specs.HubTable.{Verdict, fail, notNow, verdict}
 use Rattle.rules.specs.Lists.{answer, firstWaiting, holding}
 use Rattle.rules.specs.Refusals.{refusalFor}
-use Rattle.rules.specs.Table.{Event, Fifo, Hub, Kind, NoKind, Port, Resource, Semaphore, State, hub, hubWords, kindOf, noHub, one, setHub, setTask, sideOf, task, words}
+use Rattle.rules.specs.Table.{Event, Fifo, Hub, Kind, NoKind, Port, Resource, Semaphore, State, hub, hubWords, kindOf, one, setHub, setTask, sideOf, task, words}
 use Rattle.rules.specs.declared.Call.{Call}
 use borrow.Author.Tests.{eq-eqb, eqb-false, ne-eqb}
-use borrow.Rule.Slice.PartMut.{midOf, putMid}
 use lib.Dec.{eqb}
-use lib.ListN.{drop, getD, length, length-append, length-drop, set}
-use lib.Seq.{getD-set-same, set-set}
+use lib.ListN.{drop, getD, length, length-append}
 use mathlib.Core.Bool.{and-false}
 use mathlib.Core.List.{List, [], _++_, _∷_}
 use mathlib.Core.Option.{Option, none, some}
@@ -107,42 +103,6 @@ pub first-is : (e w : ℕ) → (e ≡ 0 → ⊥) → first e ≡ some w → e - 
 unfolding first
 first-is zero w n q = absurd (n refl)
 first-is (suc e) w n q = let z : e ≡ w = cc in omega (arith, z)
-
--- ---- the store
-
--- the oldest word goes; a word comes behind those held
-pub pop-store : (l : List ℕ) → length l ≤ 8 → removeAt 0 (padded 8 l) ≡ padded 8 (drop 1 l)
-pop-store [] h = unfold padded removeAt in refl
-pop-store (x ∷ xs) h = pop-padded 8 x xs h
-
-module _ (s : State) (h : ℕ) (low : h < 16) (used : h < length (s .hubs)) where
-  as-held : words one s ≡ words one (setHub h (holding (hub s h .count) (hub s h .held) (hub s h)) s)
-  unfolding holding
-  as-held = ap (words one) (sym (same-hub s h))
-
-  pub store-taken : (t ys : List ℕ) (n : ℕ) → n ≡ 8 → t ≡ words one s → length (hub s h .held) ≤ 8 → ys ≡ removeAt 0 (midOf (472 + h * 8) n t) → putMid (472 + h * 8) n t ys ≡ words one (hold h (hub s h .count) (drop 1 (hub s h .held)) s)
-  unfolding hold
-  store-taken t ys n many w room e =
-      let c = cut-store one one-sized s h low used (hub s h .count) (hub s h) in
-      let here = length-padded 8 (hub s h .held) in
-      let new : ys ≡ padded 8 (drop 1 (hub s h .held)) = e ∙ rw (many, w ∙ as-held, cut-part c (hub s h .held) 8 here) (pop-store (hub s h .held) room) in
-      rw (many, w ∙ as-held, new) (cut-paste c (hub s h .held) (drop 1 (hub s h .held)) 8 here)
-
-  pub store-grown : (t : List ℕ) (n w : ℕ) → n ≡ length (hub s h .held) → n < 8 → t ≡ words one s → set t (472 + h * 8 + n) w ≡ words one (hold h (hub s h .count) (hub s h .held ++ w ∷ []) s)
-  unfolding hold
-  store-grown t n w many room e =
-      let c = cut-store one one-sized s h low used (hub s h .count) (hub s h) in
-      rw (e ∙ as-held) (cut-set c (hub s h .held) (hub s h .held ++ w ∷ []) n w (rw (length-padded 8 (hub s h .held)) room) (rw many (push-padded 8 (hub s h .held) w)))
-
-  -- a hub that is told to hold twice holds what it was told last
-  pub held-hub : (n : ℕ) (ws : List ℕ) → hub (hold h n ws s) h ≡ holding n ws (hub s h)
-  unfolding hold setHub
-  held-hub n ws = getD-set-same (s .hubs) h (holding n ws (hub s h)) noHub used
-
-  pub hold-hold : (n m : ℕ) (ws vs : List ℕ) → hold h m vs (hold h n ws s) ≡ hold h m vs s
-  hold-hold n m ws vs =
-      unfold hold setHub holding in
-      rw (getD-set-same (s .hubs) h (holding n ws (hub s h)) noHub used, set-set (s .hubs) h (holding n ws (hub s h)) _) refl
 
 -- ---- what a met request rests on
 
@@ -253,63 +213,6 @@ module _ (h : Hub) (c : Call) where
   pub kept-not : (h .kind ≡ 3 → ⊥) → (h .kind ≡ 4 → ⊥) → 0 ≡ kept h c
   unfolding kept
   kept-not p q = rw (bears-number (h .kind), ne-eqb (h .kind) 3 p, ne-eqb (h .kind) 4 q, and-false)
-
--- ---- what a verdict does to a store, case by case
-
-module _ (n : ℕ) (held : List ℕ) where
-  pub fits-append : {st : Store} {w : ℕ} → st ≡ Append w → StoreFits st n held → (n ≡ length held) × (n < 8)
-  unfolding StoreFits
-  fits-append e f = subst (λ (z : Store). StoreFits z n held) e f
-
-  pub fits-take : {st : Store} → st ≡ Take → StoreFits st n held → length held ≤ 8
-  unfolding StoreFits
-  fits-take e f = subst (λ (z : Store). StoreFits z n held) e f
-
-  pub fits-pass : {st : Store} {w : ℕ} → st ≡ TakeAppend w → StoreFits st n held → (n ≡ length held) × (length held ≤ 8)
-  unfolding StoreFits
-  fits-pass e f = subst (λ (z : Store). StoreFits z n held) e f
-
-module _ (s : State) (h : ℕ) (st : Store) where
-  abbrev pub After : List ℕ → List ℕ
-  After ws = words one (hold h (hub s h .count) ws s)
-
-  pub after-keep : st ≡ Keep → words one s ≡ After (storeAfter st (hub s h .held))
-  unfolding hold holding storeAfter
-  after-keep e = ap (words one) (sym (same-hub s h)) ∙ ap (λ (z : Store). After (storeAfter z (hub s h .held))) (sym e)
-
-  pub after-append : (w : ℕ) → st ≡ Append w → After (hub s h .held ++ w ∷ []) ≡ After (storeAfter st (hub s h .held))
-  unfolding storeAfter
-  after-append w e = ap (λ (z : Store). After (storeAfter z (hub s h .held))) (sym e)
-
-  pub after-take : st ≡ Take → After (drop 1 (hub s h .held)) ≡ After (storeAfter st (hub s h .held))
-  unfolding storeAfter
-  after-take e = ap (λ (z : Store). After (storeAfter z (hub s h .held))) (sym e)
-
-  pub after-pass : (w : ℕ) → st ≡ TakeAppend w → After (drop 1 (hub s h .held) ++ w ∷ []) ≡ After (storeAfter st (hub s h .held))
-  unfolding storeAfter
-  after-pass w e = ap (λ (z : Store). After (storeAfter z (hub s h .held))) (sym e)
-
--- the hub once its oldest word is taken: what the word that comes behind rests on, and what it leaves
-module _ (s : State) (h : ℕ) (low : h < 16) (used : h < length (s .hubs)) where
-  abbrev pub taken : State
-  taken = hold h (hub s h .count) (drop 1 (hub s h .held)) s
-
-  pub taken-used : h < length (taken .hubs)
-  unfolding hold
-  taken-used = rw (length-setHub s h (holding (hub s h .count) (drop 1 (hub s h .held)) (hub s h))) used
-
-  hub-taken : hub taken h ≡ holding (hub s h .count) (drop 1 (hub s h .held)) (hub s h)
-  hub-taken = held-hub s h low used (hub s h .count) (drop 1 (hub s h .held))
-
-  pub taken-many : (n : ℕ) → n ≡ length (hub s h .held) → pred n ≡ length (hub taken h .held)
-  unfolding holding
-  taken-many n e = rw hub-taken (omega (arith, e, length-drop 1 (hub s h .held)))
-
-  pub taken-grown : (w : ℕ) → words one (hold h (hub taken h .count) (hub taken h .held ++ w ∷ []) taken) ≡ words one (hold h (hub s h .count) (drop 1 (hub s h .held) ++ w ∷ []) s)
-  unfolding holding
-  taken-grown w =
-      ap (λ (x : Hub). words one (hold h (x .count) (x .held ++ w ∷ []) taken)) hub-taken
-      ∙ ap (words one) (hold-hold s h low used (hub s h .count) (hub s h .count) (drop 1 (hub s h .held)) (drop 1 (hub s h .held) ++ w ∷ []))
 
 -- ---- a verdict that meets nobody
 

@@ -7,10 +7,11 @@ use Rattle.rules.proofs.Accepted.{need-zero}
 use Rattle.rules.proofs.Answers.{answer-word}
 use Rattle.rules.proofs.Kept.{valid-blank, valid-served}
 use Rattle.rules.proofs.Places.{length-words, one-sized}
-use Rattle.rules.proofs.Reading.{read-fits, read-words, words-read, written-words}
+use Rattle.rules.proofs.Reading.{read-words, written-words}
 use Rattle.rules.proofs.Room.{valid-room}
 use Rattle.rules.proofs.Tests.{t-all, t-is, test-valid, tested}
 use Rattle.rules.proofs.Valid.{Valid}
+use Rattle.rules.proofs.Written.{read-fits, words-read}
 use Rattle.rules.specs.Calls.{AddHub, AddTask, Blank, HubRequest, Resume, Service, Sleep, Start, Stop, Suspend, Tick, Unknown, Yield, serve, served, serviceOf}
 use Rattle.rules.specs.Refusals.{byRunning, isBlank, need, onTask, refusal, refusalFor, refusalOf}
 use Rattle.rules.specs.Reply.{bearsAnswer, outcome, outcomeNumber}

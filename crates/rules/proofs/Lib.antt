@@ -15,6 +15,7 @@ pub mod Promise
 pub mod Quiet
 pub mod Reading
 pub mod Room
+pub mod Rows
 pub mod Settled
 pub mod Shapes
 pub mod Standing
@@ -22,3 +23,4 @@ pub mod Tests
 pub mod Valid
 pub mod Verdicts
 pub mod Waiting
+pub mod Written

@@ -75,6 +75,10 @@ t-all P p t (suc n) =
     (λ q i h. sameOr i n (λ e. subst P (sym e) (q .0)) (λ d. q .1 i (omega arith)))
     (λ f. (f n (omega arith), λ i h. f i (omega arith)))
 
+-- every number below n passes
+pub t-below-all : (p : ℕ → Bool) (n : ℕ) → Tests (forAll n p) ((i : ℕ) → i < n → p i ≡ true)
+t-below-all p n = t-all (λ i. p i ≡ true) p (λ i. t-is (p i)) n
+
 -- every entry of a list
 pub t-each : (P : ℕ → Type 0) (p : ℕ → Bool) → ((i : ℕ) → Tests (p i) (P i)) → (l : List ℕ) → Tests (every p l) ((i : ℕ) → 1 ≤ occ i l → P i)
 unfolding every occ

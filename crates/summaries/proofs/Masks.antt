@@ -13,9 +13,10 @@ use Rattle.refusals.specs.declared.FoundHub.the-variants.{InUse}
 use Rattle.rules.proofs.After.{read-valid, well-formed-long}
 use Rattle.rules.proofs.Cases.{and-l}
 use Rattle.rules.proofs.Changes.{inUse}
-use Rattle.rules.proofs.Reading.{read-hub, read-hubs, written-says}
+use Rattle.rules.proofs.Reading.{read-hub, read-hubs}
 use Rattle.rules.proofs.Standing.{listed-waits}
 use Rattle.rules.proofs.Valid.{Valid}
+use Rattle.rules.proofs.Written.{written-says}
 use Rattle.rules.specs.Reply.{maskBelow}
 use Rattle.rules.specs.Table.{Hub, State, hub, hubAt, one, read, waitPart}
 use Rattle.rules.specs.WellFormed.{waitsFor, wellFormed}

@@ -4,10 +4,11 @@ use Prim.Native.Nat.{_+_, _<_, _≤_, pred, suc, zero, ℕ}
 use Rattle.lists.proofs.Laws.{boolCase, length-numbers}
 use Rattle.lists.specs.Lists.{numbers, occ, packed}
 use Rattle.rules.proofs.Cases.{and-l, and-r}
-use Rattle.rules.proofs.Reading.{Written, read-fits, read-hub, read-hubs, read-tasks, written-says}
+use Rattle.rules.proofs.Reading.{read-hub, read-hubs, read-tasks}
 use Rattle.rules.proofs.Standing.{listed-ready, listed-waiting, listed-waits}
 use Rattle.rules.proofs.Tests.{t-all, t-each, t-is, t-kind, t-may, t-oneSide, t-records, t-sorted, t-task, tested}
 use Rattle.rules.proofs.Valid.{Valid}
+use Rattle.rules.proofs.Written.{Written, read-fits, written-says}
 use Rattle.rules.specs.Table.{Hub, State, Task, hub, hubAt, hubWordAt, inactive, kindOf, one, part, read, sideOf, stageOf, storePart, task, waitPart}
 use Rattle.rules.specs.WellFormed.{contentsRight, fieldsRight, forAll, hubsRight, inOrder, kindRight, listsExact, listsPacked, mayWait, stageRight, storeRight, storesRight, tasksRight, unusedZero, urgency, valid, waitersRight, wellFormed, written}
 use Rattle.wellformed.proofs.Hubs.{wait-words}

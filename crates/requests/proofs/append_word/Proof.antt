@@ -1,5 +1,5 @@
 -- `requests::append_word` meets its contract. Assumes nothing.
-use Rattle.requests.proofs.Laws.{store-grown}
+use Rattle.requests.proofs.Stores.{store-grown}
 use Rattle.requests.proofs.append_word.Statement.{statement}
 use Rattle.requests.proofs.append_word.Tie as tie
 use borrow.Author.Needs.{needs}

@@ -1,8 +1,9 @@
 -- `requests::change_store` meets its contract. Assumes nothing.
-use Rattle.requests.proofs.Laws.{after-append, after-keep, after-pass, after-take, fits-append, fits-pass, fits-take, taken, taken-grown, taken-many, taken-used}
+use Rattle.hubtable.specs.Says.{storeAfter}
+use Rattle.requests.proofs.Stores.{after-told, as-held, fits-told, taken, taken-grown, taken-many, taken-used}
 use Rattle.requests.proofs.change_store.Statement.{statement}
 use Rattle.requests.proofs.change_store.Tie as tie
-use Rattle.rules.specs.Table.{hub}
+use Rattle.requests.specs.Requests.{StoreFits}
 use borrow.Author.Needs.{needs}
 use mathlib.Core.Path.{_∙_}
 use native.Mathlib.Omega.{arith}
@@ -35,40 +36,42 @@ append-word-requires-2 : tie.Need-append-word-requires-2
 append-word-requires-2 c κs = search needs
 
 returns : tie.Need-returns
-returns c = λ s used fits e.
-    e ∙ after-keep s _ _ (c .enum-told .given .1)
+unfolding storeAfter
+returns c = λ s used fits e. e ∙ as-held s _ ∙ after-told (c .enum-told .given .1) s _
 
 same-length : tie.Need-same-length
 same-length c = search needs
 
 returns-2 : tie.Need-returns-2
+unfolding StoreFits storeAfter
 returns-2 c = λ s used fits e.
-    let told = c .before .before .before .before .before .store .given in
-    let f = fits-append (c .before .before .before .before .before .before .before .before .args .n) (hub s (c .before .before .before .before .before .before .before .before .args .h .0) .held) (told .1) fits in
-    c .before .before .append-word .ensures s used (f .0) (f .1) e ∙ after-append s _ _ _ (told .1)
+    let told = c .before .before .before .before .before .store .given .1 in
+    let f = fits-told told _ _ fits in
+    c .before .before .append-word .ensures s used (f .0) (f .1) e ∙ after-told told s _
 
 same-length-2 : tie.Need-same-length-2
 same-length-2 c = search needs
 
 returns-3 : tie.Need-returns-3
+unfolding StoreFits storeAfter
 returns-3 c = λ s used fits e.
     let told = c .before .before .before .before .enum-told2 .given .1 in
-    let f = fits-take (c .before .before .before .before .before .before .before .args .n) (hub s (c .before .before .before .before .before .before .before .args .h .0) .held) told fits in
-    c .before .before .take-oldest .ensures s used f e ∙ after-take s _ _ told
+    c .before .before .take-oldest .ensures s used (fits-told told _ _ fits) e ∙ after-told told s _
 
 same-length-3 : tie.Need-same-length-3
 same-length-3 c = search needs
 
 returns-4 : tie.Need-returns-4
+unfolding StoreFits storeAfter
 returns-4 c = λ s used fits e.
-    let told = c .before .before .before .before .before .before .before .before .before .before .store2 .given in
+    let told = c .before .before .before .before .before .before .before .before .before .before .store2 .given .1 in
     let h = c .before .before .before .before .before .before .before .before .before .before .before .before .before .args .h .0 in
     let low = c .before .before .before .before .before .before .before .before .before .before .before .before .before .pre .0 in
-    let f = fits-pass (c .before .before .before .before .before .before .before .before .before .before .before .before .before .args .n) (hub s (c .before .before .before .before .before .before .before .before .before .before .before .before .before .args .h .0) .held) (told .1) fits in
+    let f = fits-told told _ _ fits in
     let gone = c .before .before .before .before .before .before .before .take-oldest2 .ensures s used (f .1) e in
     let many = c .before .before .before .less-one .ensures ∙ taken-many s h low used _ (f .0) in
     c .before .before .append-word2 .ensures (taken s h low used) (taken-used s h low used) many (omega (arith, f .0, f .1, c .before .before .before .less-one .ensures)) gone
-    ∙ taken-grown s h low used _ ∙ after-pass s h _ _ (told .1)
+    ∙ taken-grown s h low used _ ∙ after-told told s h
 
 pub change-store-spec : {M : Type 1} → statement M
 change-store-spec =

@@ -2,9 +2,9 @@
 -- passes all of them is well formed. Assumes nothing.
 use Prim.Native.Nat.{zero-le}
 use Rattle.lists.proofs.Laws.{boolCase}
+use Rattle.rules.proofs.Written.{length-part}
 use Rattle.rules.specs.Table.{one, part, read}
 use Rattle.rules.specs.WellFormed.{contentsRight, forAll, unusedZero, wellFormed}
-use Rattle.wellformed.proofs.Parts.{part-long}
 use Rattle.wellformed.proofs.Whole.{contents-used, no-marks, ready-marks, refused, well-passed, whole}
 use Rattle.wellformed.proofs.well_formed.Statement.{statement}
 use Rattle.wellformed.proofs.well_formed.Tie as tie
@@ -53,7 +53,7 @@ walk-requires : tie.Need-walk-requires
 walk-requires c κs =
     let t = c .before .before .before .before .before .before .before .before .args .t .now in
     let o = used (c .before .before .before .before) in
-    (o, (part-long t 200 16 (omega (arith, o .long)), record { long = refl; low = λ j. rw (no-marks 16 j) zero-le }))
+    (o, (length-part t 200 16 (omega (arith, o .long)), record { long = refl; low = λ j. rw (no-marks 16 j) zero-le }))
 
 returns-4 : tie.Need-returns-4
 returns-4 c =
@@ -64,7 +64,7 @@ hubs-right-requires : tie.Need-hubs-right-requires
 hubs-right-requires c κs =
     let t = c .before .before .before .before .before .before .before .before .before .before .before .args .t .now in
     let o = used (c .before .before .before .before .before .before .before) in
-    (o, ready-marks (part 200 16 t) (c .before .before .walk .ensures) (not-false _ (c .before .if4 .left)) (part-long t 200 16 (omega (arith, o .long))))
+    (o, ready-marks (part 200 16 t) (c .before .before .walk .ensures) (not-false _ (c .before .if4 .left)) (length-part t 200 16 (omega (arith, o .long))))
 
 returns-5 : tie.Need-returns-5
 returns-5 c =
