@@ -1,6 +1,6 @@
 # Sourced by the scripts that build C against the proved archive; needs $root, the repository.
 # `rt staticlib` writes an archive for x86-64. On x86-64 C is built with plain gcc and run as it is; on aarch64 it is built with
-# Debian's gcc-x86-64-linux-gnu, linked -static, and run under the kit's own emulator.
+# Debian's gcc-x86-64-linux-gnu (and its C library, libc6-dev-amd64-cross), linked -static, and run under the kit's own emulator.
 
 archive=$root/target/staticlib/libpanel.a
 flags="-std=c11 -Wall -Wextra -Werror"
@@ -20,7 +20,7 @@ aarch64)
     exit 2
     ;;
 esac
-command -v "$CC" >/dev/null || { echo "$CC is missing (Debian: gcc, or gcc-x86-64-linux-gnu on aarch64)" >&2; exit 2; }
+command -v "$CC" >/dev/null || { echo "$CC is missing (Debian: gcc, or gcc-x86-64-linux-gnu and libc6-dev-amd64-cross on aarch64)" >&2; exit 2; }
 
 # say WORDS..: what is being done, on standard error
 say() { echo "$*" >&2; }

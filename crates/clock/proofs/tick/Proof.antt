@@ -50,8 +50,8 @@ loop-again c =
     let l = c .before .before .before .before .before .loop in
     let a = c .before .before .before .before .before .before .before .before .before .args in
     let more : (s : State) → Sound s → a .t .now ≡ words one s
-        → (getD (a .t .now) 1 0 ≡ length (s .tasks)) × (c .before .before .tick-one .last .0 ≡ words one (tickAll (keyOf (a .keys .now)) (l .i + 1) s)) =
-        λ s sound e.
+    → (getD (a .t .now) 1 0 ≡ length (s .tasks)) × (c .before .before .tick-one .last .0 ≡ words one (tickAll (keyOf (a .keys .now)) (l .i + 1) s)) =
+    λ s sound e.
     (let key = keyOf (a .keys .now) in
     let held = l .inv .3 s sound e in
     let n = held .0 in
