@@ -9,11 +9,12 @@ use Rattle.rules.proofs.Accepted.{caller-ready, need-zero, on-task, request-tes
 use Rattle.rules.proofs.After.{accepted, read-valid, well-formed-words}
 use Rattle.rules.proofs.Changes.{inUse}
 use Rattle.rules.proofs.Lengths.{length-serve, tasksAfter}
+use Rattle.rules.proofs.Numbers.{bears-answer, silent-first, silent-past}
 use Rattle.rules.proofs.Valid.{Valid}
 use Rattle.rules.specs.Calls.{AddHub, AddTask, Blank, HubRequest, Resume, Service, Sleep, Start, Stop, Suspend, Tick, Unknown, Yield, serve, served, serviceOf}
 use Rattle.rules.specs.Lists.{next}
 use Rattle.rules.specs.Refusals.{need, refusal, refusalFor, refusalOf}
-use Rattle.rules.specs.Reply.{bearsAnswer, outcome, outcomeOf, replyBy, replyTo, tableAfter, tableBy}
+use Rattle.rules.specs.Reply.{outcome, outcomeOf, replyBy, replyTo, tableAfter, tableBy}
 use Rattle.rules.specs.Table.{State, one, read, task, words}
 use Rattle.rules.specs.WellFormed.{urgency, wellFormed}
 use Rattle.rules.specs.declared.Answer.the-variants.{Accepted, Refused}
@@ -40,38 +41,6 @@ module _ (s : State) (c : Call) (v : Service) (e : serviceOf (c .service) ≡ v)
 
   pub to-service : (key : ℕ → ℕ) → words one (serve key v s c) ≡ words one (serve key (serviceOf (c .service)) s c)
   to-service key = ap (λ (u : Service). words one (serve key u s c)) (sym e)
-
-bears : (n : ℕ) → 1 ≤ n → n ≤ 7 → bearsAnswer (serviceOf n) ≡ true
-unfolding bearsAnswer serviceOf
-bears zero p q = absurd (omega arith)
-bears (suc zero) p q = refl
-bears (suc (suc zero)) p q = refl
-bears (suc (suc (suc zero))) p q = refl
-bears (suc (suc (suc (suc zero)))) p q = refl
-bears (suc (suc (suc (suc (suc zero))))) p q = refl
-bears (suc (suc (suc (suc (suc (suc zero)))))) p q = refl
-bears (suc (suc (suc (suc (suc (suc (suc zero))))))) p q = refl
-bears (suc (suc (suc (suc (suc (suc (suc (suc n)))))))) p q = absurd (omega arith)
-
-bears-none : (n : ℕ) → n < 1 → bearsAnswer (serviceOf n) ≡ false
-unfolding bearsAnswer serviceOf
-bears-none zero p = refl
-bears-none (suc n) p = absurd (omega arith)
-
-bears-past : (n : ℕ) → 7 < n → bearsAnswer (serviceOf n) ≡ false
-unfolding bearsAnswer serviceOf
-bears-past zero p = absurd (omega arith)
-bears-past (suc zero) p = absurd (omega arith)
-bears-past (suc (suc zero)) p = absurd (omega arith)
-bears-past (suc (suc (suc zero))) p = absurd (omega arith)
-bears-past (suc (suc (suc (suc zero)))) p = absurd (omega arith)
-bears-past (suc (suc (suc (suc (suc zero))))) p = absurd (omega arith)
-bears-past (suc (suc (suc (suc (suc (suc zero)))))) p = absurd (omega arith)
-bears-past (suc (suc (suc (suc (suc (suc (suc zero))))))) p = absurd (omega arith)
-bears-past (suc (suc (suc (suc (suc (suc (suc (suc zero)))))))) p = refl
-bears-past (suc (suc (suc (suc (suc (suc (suc (suc (suc zero))))))))) p = refl
-bears-past (suc (suc (suc (suc (suc (suc (suc (suc (suc (suc zero)))))))))) p = refl
-bears-past (suc (suc (suc (suc (suc (suc (suc (suc (suc (suc (suc n))))))))))) p = refl
 
 -- ---- keys
 
@@ -103,33 +72,33 @@ module _ (t : List ℕ) (c : Call) where
       unfolding need refusalOf
       refused-by-service e = rw (eq-eqb (length t) 600 long, ne-eqb (c .service) 0 n, e) refl
 
--- ---- what an accepted call knows
+-- ---- what an accepted call knows: the table's length; of any but Blank, that the table holds a valid state
+
+pub record Known (t : List ℕ) (c : Call) : Type 0 where
+  pub long : length t ≡ 600
+  pub valid : Valid (read one t)
+  pub accepted : refusal (read one t) c ≡ 0
+  pub table : t ≡ words one (read one t)
 
 module _ (t : List ℕ) (c : Call) (a : refusalOf t c ≡ 0) where
   pub long-table : length t ≡ 600
   unfolding refusalOf
   long-table = eqb-true (length t) 600 (need-zero (eqb (length t) 600) 0 _ a .0)
 
-  pub accepted-by : refusal (read one t) c ≡ 0
-  accepted-by = accepted t c a .1
-
   module _ (n : c .service ≡ 0 → ⊥) where
-    pub formed : wellFormed t ≡ true
+    formed : wellFormed t ≡ true
     formed =
         boolCase (wellFormed t) (λ e. e)
         (λ e. let z : (eqb (c .service) 0 || wellFormed t) ≡ true = accepted t c a .0 in
         absurd (let y : false ≡ true = rw (ne-eqb (c .service) 0 n, e) at z in let x : _≡_ {A = ℕ} 0 1 = cc in omega arith))
 
-    pub state-valid : Valid (read one t)
-    state-valid = read-valid t formed
-
-    pub state-words : t ≡ words one (read one t)
-    state-words = well-formed-words t formed
+    pub known : Known t c
+    known = record { long = long-table; valid = read-valid t formed; accepted = accepted t c a .1; table = well-formed-words t formed }
 
 module _ (s : State) (g : Valid s) (c : Call) (a : refusal s c ≡ 0) where
   pub caller-runs : 1 ≤ c .service → c .service ≤ 7 → task s (c .caller) .state ≡ 2
   unfolding refusal
-  caller-runs p q = caller-ready s (g .listed) c (serviceOf (c .service)) a (bears (c .service) p q)
+  caller-runs p q = caller-ready s (g .listed) c (serviceOf (c .service)) a (bears-answer (c .service) p q)
 
   pub caller-in : 1 ≤ c .service → c .service ≤ 7 → c .caller < length (s .tasks)
   caller-in p q = inUse s (c .caller) 0 (caller-runs p q)
@@ -180,22 +149,23 @@ pub caller-after : (t : List ℕ) (c : Call) → refusalOf t c ≡ 0 → 1 ≤ c
 unfolding served
 caller-after t c a p q =
     let n : c .service ≡ 0 → ⊥ = λ z. omega arith in
-    rw (keeps-tasks (urgency (read one t)) (read one t) c p q) (caller-in (read one t) (state-valid t c a n) c (accepted-by t c a) p q)
+    let q′ = known t c a n in
+    rw (keeps-tasks (urgency (read one t)) (read one t) c p q) (caller-in (read one t) (q′ .valid) c (q′ .accepted) p q)
 
 -- ---- the reply
 
 module _ (s : State) (c : Call) where
   pub outcome-none : c .service < 1 → NothingYet ≡ outcome s c
   unfolding outcome
-  outcome-none h = rw (bears-none (c .service) h) refl
+  outcome-none h = rw (silent-first (c .service) h) refl
 
   pub outcome-past : 7 < c .service → NothingYet ≡ outcome s c
   unfolding outcome
-  outcome-past h = rw (bears-past (c .service) h) refl
+  outcome-past h = rw (silent-past (c .service) h) refl
 
   pub outcome-word : 1 ≤ c .service → c .service ≤ 7 → outcomeOf (task s (c .caller) .answer) ≡ outcome s c
   unfolding outcome
-  outcome-word p q = rw (bears (c .service) p q) refl
+  outcome-word p q = rw (bears-answer (c .service) p q) refl
 
 -- any word but 1 and 2 shows nothing yet
 pub outcome-other : (a : ℕ) → (a ≡ 1 → ⊥) → (a ≡ 2 → ⊥) → NothingYet ≡ outcomeOf a

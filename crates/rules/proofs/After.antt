@@ -1,22 +1,23 @@
 -- A call and the table of words around it. In order: what state stands in a well-formed table; the state and the answer
 -- after an accepted call; that a well-formed table is never refused with 2.
 -- Not here: the promises themselves (Promise.antt), what a call does to a state (Kept.antt). Assumes nothing.
-use Prim.Native.Nat.{_≤_, suc, zero, ℕ}
+use Prim.Native.Nat.{_≤_, ℕ}
 use Rattle.lists.proofs.Laws.{boolCase}
 use Rattle.rules.proofs.Accepted.{need-zero}
 use Rattle.rules.proofs.Answers.{answer-word}
 use Rattle.rules.proofs.Kept.{valid-blank, valid-served}
+use Rattle.rules.proofs.Numbers.{bears-answer}
 use Rattle.rules.proofs.Places.{length-words, one-sized}
 use Rattle.rules.proofs.Reading.{read-words, written-words}
 use Rattle.rules.proofs.Room.{valid-room}
-use Rattle.rules.proofs.Tests.{t-all, t-is, test-valid, tested}
+use Rattle.rules.proofs.Tests.{test-valid, tested}
 use Rattle.rules.proofs.Valid.{Valid}
 use Rattle.rules.proofs.Written.{read-fits, words-read}
 use Rattle.rules.specs.Calls.{AddHub, AddTask, Blank, HubRequest, Resume, Service, Sleep, Start, Stop, Suspend, Tick, Unknown, Yield, serve, served, serviceOf}
 use Rattle.rules.specs.Refusals.{byRunning, isBlank, need, onTask, refusal, refusalFor, refusalOf}
-use Rattle.rules.specs.Reply.{bearsAnswer, outcome, outcomeNumber}
+use Rattle.rules.specs.Reply.{outcome, outcomeNumber}
 use Rattle.rules.specs.Table.{State, one, read, size, task, words}
-use Rattle.rules.specs.WellFormed.{forAll, valid, wellFormed, written}
+use Rattle.rules.specs.WellFormed.{valid, wellFormed, written}
 use Rattle.rules.specs.declared.Call.{Call}
 use borrow.Author.Tests.{eq-eqb, eqb-true, ne-eqb}
 use lib.Dec.{eqb, leb}
@@ -61,16 +62,10 @@ after-valid t c e =
     (λ b. valid-served (read one t) c (read-valid t (rw b at (a .0))) (a .1))
 
 pub after-answer : (t : List ℕ) (c : Call) → refusalOf t c ≡ 0 → 1 ≤ c .service → c .service ≤ 7 → outcomeNumber (outcome (served (read one t) c) c) ≡ task (served (read one t) c) (c .caller) .answer
-unfolding bearsAnswer forAll serviceOf
 after-answer t c e lo hi =
     let a = accepted t c e in
     let b : isBlank c ≡ false = ne-eqb (c .service) 0 (λ z. omega arith) in
-    answer-word (read one t) c (read-valid t (rw b at (a .0))) (a .1) (bears (c .service) lo hi)
-  where
-    bears : (n : ℕ) → 1 ≤ n → n ≤ 7 → bearsAnswer (serviceOf n) ≡ true
-    bears zero lo hi = absurd (omega arith)
-    bears (suc n) lo hi =
-        t-all (λ k. bearsAnswer (serviceOf (suc k)) ≡ true) (λ k. bearsAnswer (serviceOf (suc k))) (λ k. t-is _) 7 .yes refl n hi
+    answer-word (read one t) c (read-valid t (rw b at (a .0))) (a .1) (bears-answer (c .service) lo hi)
 
 -- ---- the refusal numbers
 

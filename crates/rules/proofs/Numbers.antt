@@ -1,13 +1,17 @@
--- The paper's tables of names, by number: a number that names no kind, stage or mode, and the kinds that bear a word.
+-- The paper's tables of names, by number: a number that names no kind, stage or mode, the kinds that bear a word, and the
+-- services that bear an answer.
 -- Not here: a single number, of which the rules compute the name. Assumes nothing.
 use Prim.Native.Nat.{_<_, _≤_, suc, zero, ℕ}
+use Rattle.rules.proofs.Tests.{t-below-all}
+use Rattle.rules.specs.Calls.{serviceOf}
 use Rattle.rules.specs.Refusals.{NW, NoMode, W, WT, modeOf}
+use Rattle.rules.specs.Reply.{bearsAnswer}
 use Rattle.rules.specs.Table.{Event, Fifo, Inactive, NoKind, NoStage, Port, Ready, Resource, Semaphore, Sleeping, Waiting, kindOf, stageOf}
-use Rattle.rules.specs.WellFormed.{bearsWord}
+use Rattle.rules.specs.WellFormed.{bearsWord, forAll}
 use borrow.Author.Tests.{ne-eqb}
 use lib.Dec.{eqb}
 use lib.ListN.{List·getD-eq-default, getD, length}
-use mathlib.Core.Bool.{_||_}
+use mathlib.Core.Bool.{_||_, false, true}
 use mathlib.Core.List.{List, [], _∷_}
 use mathlib.Core.Path.{_≡_, refl}
 use native.Mathlib.Omega.{arith}
@@ -39,3 +43,29 @@ bears-number (suc (suc (suc zero))) = refl
 bears-number (suc (suc (suc (suc zero)))) = refl
 bears-number (suc (suc (suc (suc (suc zero))))) = refl
 bears-number (suc (suc (suc (suc (suc (suc n)))))) = rw (ne-eqb (suc (suc (suc (suc (suc (suc n)))))) 3 (λ e. omega arith), ne-eqb (suc (suc (suc (suc (suc (suc n)))))) 4 (λ e. omega arith))
+
+-- "For services 1 to 7 the answer is the caller's answer word after the call; for 0, 8, 9 and 10 it is 0."
+pub bears-answer : (n : ℕ) → 1 ≤ n → n ≤ 7 → bearsAnswer (serviceOf n) ≡ true
+unfolding bearsAnswer forAll serviceOf
+bears-answer zero lo hi = absurd (omega arith)
+bears-answer (suc n) lo hi = t-below-all (λ k. bearsAnswer (serviceOf (suc k))) 7 .yes refl n hi
+
+pub silent-first : (n : ℕ) → n < 1 → bearsAnswer (serviceOf n) ≡ false
+unfolding bearsAnswer serviceOf
+silent-first zero p = refl
+silent-first (suc n) p = absurd (omega arith)
+
+pub silent-past : (n : ℕ) → 7 < n → bearsAnswer (serviceOf n) ≡ false
+unfolding bearsAnswer serviceOf
+silent-past zero p = absurd (omega arith)
+silent-past (suc zero) p = absurd (omega arith)
+silent-past (suc (suc zero)) p = absurd (omega arith)
+silent-past (suc (suc (suc zero))) p = absurd (omega arith)
+silent-past (suc (suc (suc (suc zero)))) p = absurd (omega arith)
+silent-past (suc (suc (suc (suc (suc zero))))) p = absurd (omega arith)
+silent-past (suc (suc (suc (suc (suc (suc zero)))))) p = absurd (omega arith)
+silent-past (suc (suc (suc (suc (suc (suc (suc zero))))))) p = absurd (omega arith)
+silent-past (suc (suc (suc (suc (suc (suc (suc (suc zero)))))))) p = refl
+silent-past (suc (suc (suc (suc (suc (suc (suc (suc (suc zero))))))))) p = refl
+silent-past (suc (suc (suc (suc (suc (suc (suc (suc (suc (suc zero)))))))))) p = refl
+silent-past (suc (suc (suc (suc (suc (suc (suc (suc (suc (suc (suc n))))))))))) p = refl

@@ -1,5 +1,5 @@
 -- `kernel::serve_call` meets its contract. Assumes nothing.
-use Rattle.kernel.proofs.Laws.{accepted-by, caller-in, key-is, long-table, service-is, service-low, state-valid, state-words, target-low, task-named, to-service, valid-sound}
+use Rattle.kernel.proofs.Laws.{caller-in, key-is, known, long-table, service-is, service-low, target-low, task-named, to-service, valid-sound}
 use Rattle.kernel.proofs.serve_call.Statement.{statement}
 use Rattle.kernel.proofs.serve_call.Tie as tie
 use Rattle.rules.proofs.Accepted.{hub-tests, task-tests}
@@ -29,17 +29,12 @@ slice-aggregate-serve-target c = search needs
 
 serve-target-requires : tie.Need-serve-target-requires
 serve-target-requires c κs =
-    let a = c .before .before .before .before .before .before .before .args in
-    let t = a .t .now in
-    let k = a .c in
-    let ok = c .before .before .before .before .before .before .before .pre in
-    let nb = c .before .before .before .before .before .if1 .left in
-    let s = read one t in
-    let g = state-valid t k ok nb in
-    let r = accepted-by t k ok in
-    let w = state-words t k ok nb in
+    let b = c .before .before .before .before .before .before .before in
+    let k = b .args .c in
+    let s = read one (b .args .t .now) in
+    let q = known (b .args .t .now) k (b .pre) (c .before .before .before .before .before .if1 .left) in
     let hi = c .before .before .if2 .taken in
-    (omega (arith, caller-in s g k r (omega arith) (omega arith), g .tasks), (target-low s g k r (omega arith) (omega arith), long-table t k ok))
+    (omega (arith, caller-in s (q .valid) k (q .accepted) (omega arith) (omega arith), q .valid .tasks), (target-low s (q .valid) k (q .accepted) (omega arith) (omega arith), q .long))
 
 same-length-2 : tie.Need-same-length-2
 same-length-2 c = search needs
@@ -47,36 +42,26 @@ same-length-2 c = search needs
 returns-2 : tie.Need-returns-2
 unfolding served
 returns-2 c =
-    let a = c .before .before .before .before .before .before .before .before .before .before .args in
-    let t = a .t .now in
-    let k = a .c in
-    let ok = c .before .before .before .before .before .before .before .before .before .before .pre in
-    let nb = c .before .before .before .before .before .before .before .before .if1 .left in
-    let s = read one t in
-    let g = state-valid t k ok nb in
-    let r = accepted-by t k ok in
-    let w = state-words t k ok nb in
+    let b = c .before .before .before .before .before .before .before .before .before .before in
+    let k = b .args .c in
+    let s = read one (b .args .t .now) in
+    let q = known (b .args .t .now) k (b .pre) (c .before .before .before .before .before .before .before .before .if1 .left) in
     let hi = c .before .before .before .before .before .if2 .taken in
-    let key = key-is (c .before .before .before .before .before .before .keys .result) (urgency s) (c .before .before .before .before .before .before .keys .ensures s (g .tasks) w) in
-    c .before .before .serve-target .ensures s g r (omega arith) (omega arith) w ∙ rw key refl
+    let key = key-is (c .before .before .before .before .before .before .keys .result) (urgency s) (c .before .before .before .before .before .before .keys .ensures s (q .valid .tasks) (q .table)) in
+    c .before .before .serve-target .ensures s (q .valid) (q .accepted) (omega arith) (omega arith) (q .table) ∙ rw key refl
 
 slice-aggregate-serve-caller : tie.Need-slice-aggregate-serve-caller
 slice-aggregate-serve-caller c = search needs
 
 serve-caller-requires : tie.Need-serve-caller-requires
 serve-caller-requires c κs =
-    let a = c .before .before .before .before .before .before .before .before .args in
-    let t = a .t .now in
-    let k = a .c in
-    let ok = c .before .before .before .before .before .before .before .before .pre in
-    let nb = c .before .before .before .before .before .before .if1 .left in
-    let s = read one t in
-    let g = state-valid t k ok nb in
-    let r = accepted-by t k ok in
-    let w = state-words t k ok nb in
+    let b = c .before .before .before .before .before .before .before .before in
+    let k = b .args .c in
+    let s = read one (b .args .t .now) in
+    let q = known (b .args .t .now) k (b .pre) (c .before .before .before .before .before .before .if1 .left) in
     let lo = c .before .before .before .if2 .left in
     let hi = c .before .before .if3 .taken in
-    (omega (arith, caller-in s g k r (omega arith) (omega arith), g .tasks), long-table t k ok)
+    (omega (arith, caller-in s (q .valid) k (q .accepted) (omega arith) (omega arith), q .valid .tasks), q .long)
 
 same-length-3 : tie.Need-same-length-3
 same-length-3 c = search needs
@@ -84,35 +69,25 @@ same-length-3 c = search needs
 returns-3 : tie.Need-returns-3
 unfolding served
 returns-3 c =
-    let a = c .before .before .before .before .before .before .before .before .before .before .before .args in
-    let t = a .t .now in
-    let k = a .c in
-    let ok = c .before .before .before .before .before .before .before .before .before .before .before .pre in
-    let nb = c .before .before .before .before .before .before .before .before .before .if1 .left in
-    let s = read one t in
-    let g = state-valid t k ok nb in
-    let r = accepted-by t k ok in
-    let w = state-words t k ok nb in
+    let b = c .before .before .before .before .before .before .before .before .before .before .before in
+    let k = b .args .c in
+    let s = read one (b .args .t .now) in
+    let q = known (b .args .t .now) k (b .pre) (c .before .before .before .before .before .before .before .before .before .if1 .left) in
     let lo = c .before .before .before .before .before .before .if2 .left in
     let hi = c .before .before .before .before .before .if3 .taken in
-    let key = key-is (c .before .before .before .before .before .before .before .keys .result) (urgency s) (c .before .before .before .before .before .before .before .keys .ensures s (g .tasks) w) in
-    c .before .before .serve-caller .ensures s g r (omega arith) (omega arith) w ∙ rw key refl
+    let key = key-is (c .before .before .before .before .before .before .before .keys .result) (urgency s) (c .before .before .before .before .before .before .before .keys .ensures s (q .valid .tasks) (q .table)) in
+    c .before .before .serve-caller .ensures s (q .valid) (q .accepted) (omega arith) (omega arith) (q .table) ∙ rw key refl
 
 slice-aggregate-tick : tie.Need-slice-aggregate-tick
 slice-aggregate-tick c = search needs
 
 tick-requires : tie.Need-tick-requires
 tick-requires c κs =
-    let a = c .before .before .before .before .before .before .before .before .before .args in
-    let t = a .t .now in
-    let k = a .c in
-    let ok = c .before .before .before .before .before .before .before .before .before .pre in
-    let nb = c .before .before .before .before .before .before .before .if1 .left in
-    let s = read one t in
-    let g = state-valid t k ok nb in
-    let r = accepted-by t k ok in
-    let w = state-words t k ok nb in
-    (long-table t k ok, rw w (rw (tasks-word one s) (g .tasks)))
+    let b = c .before .before .before .before .before .before .before .before .before in
+    let k = b .args .c in
+    let s = read one (b .args .t .now) in
+    let q = known (b .args .t .now) k (b .pre) (c .before .before .before .before .before .before .before .if1 .left) in
+    (q .long, rw (q .table) (rw (tasks-word one s) (q .valid .tasks)))
 
 same-length-4 : tie.Need-same-length-4
 same-length-4 c = search needs
@@ -120,32 +95,22 @@ same-length-4 c = search needs
 returns-4 : tie.Need-returns-4
 unfolding serve served serviceOf
 returns-4 c =
-    let a = c .before .before .before .before .before .before .before .before .before .before .before .before .args in
-    let t = a .t .now in
-    let k = a .c in
-    let ok = c .before .before .before .before .before .before .before .before .before .before .before .before .pre in
-    let nb = c .before .before .before .before .before .before .before .before .before .before .if1 .left in
-    let s = read one t in
-    let g = state-valid t k ok nb in
-    let r = accepted-by t k ok in
-    let w = state-words t k ok nb in
-    let key = key-is (c .before .before .before .before .before .before .before .before .keys .result) (urgency s) (c .before .before .before .before .before .before .before .before .keys .ensures s (g .tasks) w) in
-    c .before .before .tick .ensures s (valid-sound s g) w ∙ rw (key, c .before .before .before .before .before .if4 .taken) refl
+    let b = c .before .before .before .before .before .before .before .before .before .before .before .before in
+    let k = b .args .c in
+    let s = read one (b .args .t .now) in
+    let q = known (b .args .t .now) k (b .pre) (c .before .before .before .before .before .before .before .before .before .before .if1 .left) in
+    let key = key-is (c .before .before .before .before .before .before .before .before .keys .result) (urgency s) (c .before .before .before .before .before .before .before .before .keys .ensures s (q .valid .tasks) (q .table)) in
+    c .before .before .tick .ensures s (valid-sound s (q .valid)) (q .table) ∙ rw (key, c .before .before .before .before .before .if4 .taken) refl
 
 serve-add-task-requires : tie.Need-serve-add-task-requires
 unfolding serviceOf
 serve-add-task-requires c κs =
-    let a = c .before .before .before .before .before .before .before .before .before .args in
-    let t = a .t .now in
-    let k = a .c in
-    let ok = c .before .before .before .before .before .before .before .before .before .pre in
-    let nb = c .before .before .before .before .before .before .before .if1 .left in
-    let s = read one t in
-    let g = state-valid t k ok nb in
-    let r = accepted-by t k ok in
-    let w = state-words t k ok nb in
-    let room = task-tests s k (task-named s g k r AddTask (service-is k 9 (c .before .if5 .taken))) .1 in
-    (long-table t k ok, rw w (rw (tasks-word one s) room))
+    let b = c .before .before .before .before .before .before .before .before .before in
+    let k = b .args .c in
+    let s = read one (b .args .t .now) in
+    let q = known (b .args .t .now) k (b .pre) (c .before .before .before .before .before .before .before .if1 .left) in
+    let room = task-tests s k (task-named s (q .valid) k (q .accepted) AddTask (service-is k 9 (c .before .if5 .taken))) .1 in
+    (q .long, rw (q .table) (rw (tasks-word one s) room))
 
 same-length-5 : tie.Need-same-length-5
 same-length-5 c = search needs
@@ -153,34 +118,24 @@ same-length-5 c = search needs
 returns-5 : tie.Need-returns-5
 unfolding served serviceOf
 returns-5 c =
-    let a = c .before .before .before .before .before .before .before .before .before .before .before .before .args in
-    let t = a .t .now in
-    let k = a .c in
-    let ok = c .before .before .before .before .before .before .before .before .before .before .before .before .pre in
-    let nb = c .before .before .before .before .before .before .before .before .before .before .if1 .left in
-    let s = read one t in
-    let g = state-valid t k ok nb in
-    let r = accepted-by t k ok in
-    let w = state-words t k ok nb in
+    let b = c .before .before .before .before .before .before .before .before .before .before .before .before in
+    let k = b .args .c in
+    let s = read one (b .args .t .now) in
+    let q = known (b .args .t .now) k (b .pre) (c .before .before .before .before .before .before .before .before .before .before .if1 .left) in
     let v = service-is k 9 (c .before .before .before .before .if5 .taken) in
-    let room = task-tests s k (task-named s g k r AddTask v) .1 in
-    c .before .before .serve-add-task .ensures (urgency s) s room w ∙ to-service s k AddTask v (urgency s)
+    let room = task-tests s k (task-named s (q .valid) k (q .accepted) AddTask v) .1 in
+    c .before .before .serve-add-task .ensures (urgency s) s room (q .table) ∙ to-service s k AddTask v (urgency s)
 
 add-hub-requires : tie.Need-add-hub-requires
 unfolding serviceOf
 add-hub-requires c κs =
-    let a = c .before .before .before .before .before .before .before .before .before .args in
-    let t = a .t .now in
-    let k = a .c in
-    let ok = c .before .before .before .before .before .before .before .before .before .pre in
-    let nb = c .before .before .before .before .before .before .before .if1 .left in
-    let s = read one t in
-    let g = state-valid t k ok nb in
-    let r = accepted-by t k ok in
-    let w = state-words t k ok nb in
-    let ten : k .service ≡ 10 = omega (arith, service-low s g k r, c .before .if5 .left, c .before .before .if4 .left, c .before .before .before .if3 .left) in
-    let room = hub-tests s k (task-named s g k r AddHub (service-is k 10 ten)) .1 in
-    (long-table t k ok, rw w (rw (hubs-word one s) room))
+    let b = c .before .before .before .before .before .before .before .before .before in
+    let k = b .args .c in
+    let s = read one (b .args .t .now) in
+    let q = known (b .args .t .now) k (b .pre) (c .before .before .before .before .before .before .before .if1 .left) in
+    let ten : k .service ≡ 10 = omega (arith, service-low s (q .valid) k (q .accepted), c .before .if5 .left, c .before .before .if4 .left, c .before .before .before .if3 .left) in
+    let room = hub-tests s k (task-named s (q .valid) k (q .accepted) AddHub (service-is k 10 ten)) .1 in
+    (q .long, rw (q .table) (rw (hubs-word one s) room))
 
 same-length-6 : tie.Need-same-length-6
 same-length-6 c = search needs
@@ -188,19 +143,14 @@ same-length-6 c = search needs
 returns-6 : tie.Need-returns-6
 unfolding newHub serve served serviceOf
 returns-6 c =
-    let a = c .before .before .before .before .before .before .before .before .before .before .before .before .args in
-    let t = a .t .now in
-    let k = a .c in
-    let ok = c .before .before .before .before .before .before .before .before .before .before .before .before .pre in
-    let nb = c .before .before .before .before .before .before .before .before .before .before .if1 .left in
-    let s = read one t in
-    let g = state-valid t k ok nb in
-    let r = accepted-by t k ok in
-    let w = state-words t k ok nb in
-    let ten : k .service ≡ 10 = omega (arith, service-low s g k r, c .before .before .before .before .if5 .left, c .before .before .before .before .before .if4 .left, c .before .before .before .before .before .before .if3 .left) in
+    let b = c .before .before .before .before .before .before .before .before .before .before .before .before in
+    let k = b .args .c in
+    let s = read one (b .args .t .now) in
+    let q = known (b .args .t .now) k (b .pre) (c .before .before .before .before .before .before .before .before .before .before .if1 .left) in
+    let ten : k .service ≡ 10 = omega (arith, service-low s (q .valid) k (q .accepted), c .before .before .before .before .if5 .left, c .before .before .before .before .before .if4 .left, c .before .before .before .before .before .before .if3 .left) in
     let v = service-is k 10 ten in
-    let room = hub-tests s k (task-named s g k r AddHub v) .1 in
-    c .before .before .add-hub .ensures s room w ∙ to-service s k AddHub v (urgency s)
+    let room = hub-tests s k (task-named s (q .valid) k (q .accepted) AddHub v) .1 in
+    c .before .before .add-hub .ensures s room (q .table) ∙ to-service s k AddHub v (urgency s)
 
 pub serve-call-spec : {M : Type 1} → statement M
 serve-call-spec =

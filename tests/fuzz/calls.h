@@ -1,0 +1,50 @@
+/* A fuzzer's input as calls on one table, which begins as Blank leaves it.
+ * Eight bytes a step, what is left at the end is dropped:
+ *   first byte below 128   a call: service, caller, target, side, mode, ticks,
+ *                          and two bytes of the word, low byte first
+ *   first byte above       a word of the table is overwritten: two bytes of
+ *                          its place, four of its value, low bytes first
+ * The numbers of a call are small ones, and the paper's edges. */
+#ifndef FUZZ_CALLS_H
+#define FUZZ_CALLS_H
+
+#include <stddef.h>
+#include <stdint.h>
+
+#include "numbers.h"
+
+enum { STEP = 8, CALL_BELOW = 128 };
+
+typedef struct {
+    int is_call;
+    uint32_t call[CALL_NUMBERS];
+    uint32_t place, value;
+} fuzz_step;
+
+static const uint32_t fuzz_blank[CALL_NUMBERS] = {0, 0, 0, 0, 0, 0, 0};
+
+/* 0 to 247 as they are, then the numbers at which a rule turns */
+static uint32_t fuzz_number(uint8_t byte)
+{
+    static const uint32_t edges[] = {255, 256, 65535, 65536, 1000000, 1000001, 4294967294u, 4294967295u};
+
+    return byte < 248 ? byte : edges[byte - 248];
+}
+
+static fuzz_step fuzz_step_of(const uint8_t *at)
+{
+    fuzz_step step = {at[0] < CALL_BELOW, {0}, 0, 0};
+
+    if (step.is_call) {
+        step.call[0] = at[0] % 12;
+        for (int i = 1; i < CALL_NUMBERS - 1; i++)
+            step.call[i] = fuzz_number(at[i]);
+        step.call[CALL_NUMBERS - 1] = fuzz_number(at[6]) + 256u * at[7];
+    } else {
+        step.place = (at[1] + 256u * at[2]) % WORDS;
+        step.value = at[3] + 256u * at[4] + 65536u * at[5] + 16777216u * at[6];
+    }
+    return step;
+}
+
+#endif
