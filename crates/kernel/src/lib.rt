@@ -127,8 +127,9 @@ fn serve_call(t: &mut [u32], c: Call)
 
 // "For services 1 to 7 the answer is the caller's answer word after the call; for 0, 8, 9 and 10 it is 0."
 fn outcome_of(t: &[u32], c: Call) -> Outcome
-    ensures { λ r. ⌜ ((s : State) → length (s .tasks) ≤ 16 → (1 ≤ c .service → c .service ≤ 7
-        → c .caller < length (s .tasks)) → now (t .entry) ≡ words one s → r ≡ outcome s c) ⌝ }
+    ensures { λ r. ⌜ ((s : State) → length (s .tasks) ≤ 16
+        → (1 ≤ c .service → c .service ≤ 7 → c .caller < length (s .tasks))
+        → now (t .entry) ≡ words one s → r ≡ outcome s c) ⌝ }
 {
     if c.service < rules::HUB_REQUEST {
         return Outcome::NothingYet;

@@ -1,5 +1,5 @@
--- The running task in the words of a table. A turn of the search for it: where the list has ended
--- (`running-none`), and where an entry stands (`running-some`).
+-- The running task in the words of a table. A turn of the search for it: where the list has ended (`running-none`), and where
+-- an entry stands (`running-some`).
 -- Not here: where the parts of a state stand in its words (crate rules, proofs/Places.antt). Assumes nothing.
 use Prim.Native.Nat.{_*_, _+_, _<_, _≤_, suc, ℕ}
 use Rattle.lists.proofs.Counting.{occ-drop}

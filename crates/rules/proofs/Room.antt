@@ -1,5 +1,5 @@
--- A valid state has room in a table: a list in which each number stands at most once, and only numbers below T, has at most
--- T entries; and a store holds at most 8 words.
+-- A valid state has room in a table: its lists have at most as many entries as there are tasks, and its stores at most 8
+-- words. Not here: that a list in which each number stands at most once is that short (lists, Counting).
 use Prim.Native.Nat.{_≤_, ℕ}
 use Rattle.lists.proofs.Counting.{length-below}
 use Rattle.lists.proofs.Laws.{boolCase}
@@ -14,8 +14,6 @@ use lib.Dec.{ltb}
 use lib.ListN.{List·getD-eq-default, length}
 use mathlib.Core.Bool.{Bool, false, true}
 use native.Mathlib.Omega.{arith}
-
--- ---- any list
 
 bit-le : (b : Bool) → bit b ≤ 1
 bit-le true = omega arith
