@@ -9,7 +9,7 @@ use Rattle.rules.proofs.After.{accepted, read-valid, well-formed-long}
 use Rattle.rules.proofs.Promise.{read-after, refused-leaves, well-formed-after}
 use Rattle.rules.proofs.Valid.{Valid}
 use Rattle.rules.specs.Calls.{blank, serve, served, serviceOf}
-use Rattle.rules.specs.Refusals.{isBlank, need, refusal, refusalFor, refusalOf}
+use Rattle.rules.specs.Refusals.{isBlank, need, refusal, refusalFor, refusalIn, refusalOf}
 use Rattle.rules.specs.Reply.{tableAfter}
 use Rattle.rules.specs.Table.{one, size}
 use Rattle.rules.specs.WellFormed.{urgency, wellFormed}
@@ -30,12 +30,12 @@ pub record Sound (x : History) : Type 0 where
 
 module _ (x : History) (g : Sound x) (c : Call) where
   pub refusal-shown : refusalOf (x .table) c ≡ refusalFor (serviceOf (c .service)) (shown (x .table)) c
-  unfolding need refusal refusalOf
+  unfolding need refusal refusalIn
   refusal-shown = rw (eq-eqb (length (x .table)) (size one) (well-formed-long (x .table) (g .formed)), g .formed, or-true (isBlank c)) refl
 
 module _ (x : History) (c : Call) (e : refusalOf (x .table) c ≡ 0) where
   pub accepted-service : refusalFor (serviceOf (c .service)) (shown (x .table)) c ≡ 0
-  accepted-service = unfold refusal in accepted (x .table) c e .1
+  accepted-service = unfold refusal in accepted one (x .table) c e .1
 
   pub shown-next : shown (tableAfter (x .table) c) ≡ serve (urgency (shown (x .table))) (serviceOf (c .service)) (shown (x .table)) c
   shown-next = unfold served in read-after (x .table) c e

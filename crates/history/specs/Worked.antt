@@ -2,15 +2,15 @@
 -- A line for each call behind the Blank, a line for each request that the calls opened; refused calls open none.
 use Prim.Native.Nat.{ℕ}
 use Rattle.history.specs.History.{Class, History, Request, again, asked, begun, classBy, classOf, failed, history, made, met, metCount, next, nextBy, opened, partOf, reread, shown, sinceBlank, those, timedOut, turned, turnedBy, turnedTo, waiting, withdrawn, wordsOf}
-use Rattle.lists.specs.Lists.{allZero, entries, insert, numbers, occ, packed, padded, without}
+use Rattle.lists.specs.Lists.{allZero, entries, insert, numbers, occ, packed, without}
 use Rattle.rules.specs.Calls.{addHub, addStarted, addTask, blank, flag, grant, hold, kept, meetAll, newHub, serve, served, serviceOf, settle, slept, start, stop, tickAll, tickBy, tickOne, wait, yielded}
 use Rattle.rules.specs.HubTable.{getEvent, getFifo, getPort, getResource, getSemaphore, onGet, onPut, onSide, pass, putEvent, putFifo, putPort, putResource, putSemaphore, verdict}
 use Rattle.rules.specs.Lists.{answer, answered, asleep, counted, firstFree, firstWaiting, flagged, holding, joinHub, joinReady, leave, queued, readied, unqueue, waits, wake}
 use Rattle.rules.specs.Lists.{next as running}
-use Rattle.rules.specs.Refusals.{byRunning, goodHub, goodWait, modeOf, need, onTask, refusal, refusalFor, refusalOf}
-use Rattle.rules.specs.Reply.{tableAfter, tableBy}
+use Rattle.rules.specs.Refusals.{byRunning, goodHub, goodWait, modeOf, need, onTask, refusal, refusalFor, refusalIn}
+use Rattle.rules.specs.Reply.{tableAfter, tableBy, tableIn}
 use Rattle.rules.specs.Table.{contents, heldIn, hub, hubAt, inactive, kindOf, noHub, read, rows, setHub, setReady, setTask, sideOf, stageOf, tab, taskAt, words}
-use Rattle.rules.specs.WellFormed.{bearsWord, contentsRight, every, exactly, fieldsRight, forAll, hubsRight, inOrder, kindRight, listsExact, listsPacked, mayWait, oneSide, rising, stageRight, storeRight, storesRight, tasksRight, unusedZero, valid, waitersRight, wellFormed, written}
+use Rattle.rules.specs.WellFormed.{bearsWord, contentsRight, every, exactly, fieldsRight, forAll, hubsRight, inOrder, kindRight, listsExact, listsPacked, mayWait, oneSide, rising, stageRight, storeRight, storesRight, tasksRight, unusedZero, valid, waitersRight, wellFormedIn, written}
 use Rattle.rules.specs.declared.Call.{Call}
 use lib.ListN.{replicate}
 use mathlib.Core.List.{List, [], _∷_}
@@ -45,7 +45,7 @@ seen x = record {
 
 -- what is seen of a run; to unfold it is to unfold all that it computes with
 unfoldable pub shows : List Call → Seen
-unfolding addHub addStarted addTask again allZero answer answered asked asleep bearsWord begun blank byRunning classBy classOf contents contentsRight counted entries every exactly fieldsRight firstFree firstWaiting flag flagged forAll getEvent getFifo getPort getResource getSemaphore goodHub goodWait grant heldIn history hold holding hubAt hubsRight inOrder inactive insert joinHub joinReady kept kindOf kindRight leave listsExact listsPacked made mayWait meetAll metCount modeOf need newHub next nextBy noHub numbers occ onGet onPut onSide onTask oneSide opened packed padded partOf pass putEvent putFifo putPort putResource putSemaphore queued read readied refusal refusalFor refusalOf reread rising rows run running seen serve served serviceOf setHub setReady setTask settle sideOf sinceBlank slept stageOf stageRight start stop storeRight storesRight tab tableAfter tableBy taskAt tasksRight those tickAll tickBy tickOne turned turnedBy turnedTo unqueue unusedZero valid verdict wait waitersRight waits wake wellFormed without words wordsOf written yielded
+unfolding addHub addStarted addTask again allZero answer answered asked asleep bearsWord begun blank byRunning classBy classOf contents contentsRight counted entries every exactly fieldsRight firstFree firstWaiting flag flagged forAll getEvent getFifo getPort getResource getSemaphore goodHub goodWait grant heldIn history hold holding hubAt hubsRight inOrder inactive insert joinHub joinReady kept kindOf kindRight leave listsExact listsPacked made mayWait meetAll metCount modeOf need newHub next nextBy noHub numbers occ onGet onPut onSide onTask oneSide opened packed partOf pass putEvent putFifo putPort putResource putSemaphore queued read readied refusal refusalFor refusalIn reread rising rows run running seen serve served serviceOf setHub setReady setTask settle sideOf sinceBlank slept stageOf stageRight start stop storeRight storesRight tab tableBy tableIn taskAt tasksRight those tickAll tickBy tickOne turned turnedBy turnedTo unqueue unusedZero valid verdict wait waitersRight waits wake wellFormedIn without words wordsOf written yielded
 shows cs = seen (run cs)
 
 -- the marked calls behind the Blank

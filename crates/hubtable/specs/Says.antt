@@ -1,7 +1,7 @@
 -- What this crate's answers say, in the terms of the rules: definitions alone. In order: a hub record as the rules' hub, a
--- waiter, the waiters met, the words held afterwards, a verdict.
+-- waiter, the waiters met, the words held afterwards, a verdict; the bound of its messages.
 -- Not here: the hub table itself (crate rules, specs/HubTable.antt).
-use Prim.Native.Nat.{suc, zero, ℕ}
+use Prim.Native.Nat.{_<_, suc, zero, ℕ}
 use Rattle.hubtable.specs.declared.Store.the-variants.{Append, Keep, Take, TakeAppend}
 use Rattle.hubtable.specs.declared.Store.{Store}
 use Rattle.hubtable.specs.declared.Verdict.the-variants.{Fail, Met, NotNow}
@@ -43,3 +43,15 @@ unfoldable pub says : List ℕ → Verdict → Row
 says held (Met m) = met (m .count) (storeAfter (m .store) held) (m .word) (metWith (first (m .waiter)) (m .its))
 says held NotNow = notNow
 says held Fail = fail
+
+-- every message that a verdict names is below b
+unfoldable pub StoreBelow : ℕ → Store → Type 0
+StoreBelow b Keep = Unit {0}
+StoreBelow b (Append x) = x < b
+StoreBelow b Take = Unit {0}
+StoreBelow b (TakeAppend x) = x < b
+
+unfoldable pub Below : ℕ → Verdict → Type 0
+Below b (Met m) = StoreBelow b (m .store) × (m .word < b) × (m .its < b)
+Below b NotNow = Unit {0}
+Below b Fail = Unit {0}

@@ -1,8 +1,9 @@
 // The hub table of document 01: what a hub says of a put or a get, by its record, the first waiter of the other side and, of
 // a get, the words that may be received. A waiter is a task number plus 1, or 0 for none.
+// A message is one number; what a verdict says of messages is below any bound that those handed in are below.
 // Not here: where the words stand in the table, and what a verdict does to it.
 ghost use Prim.Native.Nat.{_<_, suc, ℕ};
-ghost use Rattle.hubtable.specs.Says.{RecordOf, first, metWith, says, storeAfter};
+ghost use Rattle.hubtable.specs.Says.{Below, RecordOf, StoreBelow, first, metWith, says, storeAfter};
 ghost use Rattle.rules.proofs.Valid.{Held, Range};
 ghost use Rattle.rules.specs.HubTable.{getFifo, getPort, getResource, getSemaphore, met, onGet, onPut, putFifo, putPort, putResource, putSemaphore};
 ghost use Rattle.rules.specs.Table.{Hub, State, kindOf, task};
@@ -13,21 +14,21 @@ ghost use mathlib.Core.Option.{some};
 ghost use mathlib.Core.Path.{_≡_};
 use records::HubRecord;
 
-// What becomes of the words held.
+// What becomes of the messages held.
 pub enum Store {
     Keep,
-    Append(u32),
+    Append(u64),
     Take,
-    TakeAppend(u32),
+    TakeAppend(u64),
 }
 
 // What a met request does: the hub's count and words held, the caller's word, the waiter met with it, and its word.
 pub struct Meeting {
     pub count: u32,
     pub store: Store,
-    pub word: u32,
+    pub word: u64,
     pub waiter: u32,
-    pub its: u32,
+    pub its: u64,
 }
 
 pub enum Verdict {
@@ -37,8 +38,9 @@ pub enum Verdict {
 }
 
 // Met by the hub alone.
-fn alone(count: u32, store: Store, word: u32) -> Verdict
+fn alone(count: u32, store: Store, word: u64) -> Verdict
     ensures { λ r. ⌜ ((held : List ℕ) → says held r ≡ met count (storeAfter store held) word []) ⌝ }
+    ensures { λ r. ⌜ ((b : ℕ) → StoreBelow b store → word < b → Below b r) ⌝ }
 {
     Verdict::Met(Meeting {
         count,
@@ -50,9 +52,10 @@ fn alone(count: u32, store: Store, word: u32) -> Verdict
 }
 
 // Met together with a waiter.
-fn pair(count: u32, store: Store, word: u32, waiter: u32, its: u32) -> Verdict
+fn pair(count: u32, store: Store, word: u64, waiter: u32, its: u64) -> Verdict
     ensures { λ r. ⌜ ((held : List ℕ)
         → says held r ≡ met count (storeAfter store held) word (metWith (first waiter) its)) ⌝ }
+    ensures { λ r. ⌜ ((b : ℕ) → StoreBelow b store → word < b → its < b → Below b r) ⌝ }
 {
     Verdict::Met(Meeting {
         count,
@@ -76,6 +79,7 @@ fn owns(caller: u32, count: u32) -> bool
 // "a getter waits: the first is met, count stays 0. Else below limit: plus 1. Else not now"
 fn put_counted(h: HubRecord, waiter: u32) -> Verdict
     ensures { λ r. ⌜ ((x : Hub) → RecordOf h x → says (x .held) r ≡ putSemaphore (first waiter) x) ⌝ }
+    ensures { λ r. ⌜ ((b : ℕ) → 0 < b → Below b r) ⌝ }
 {
     if waiter != 0 {
         return pair(h.count, Store::Keep, 0, waiter, 0);
@@ -87,8 +91,9 @@ fn put_counted(h: HubRecord, waiter: u32) -> Verdict
 }
 
 // "a getter waits: the first is met with this word. Else not now"
-fn put_port(h: HubRecord, waiter: u32, word: u32) -> Verdict
+fn put_port(h: HubRecord, waiter: u32, word: u64) -> Verdict
     ensures { λ r. ⌜ ((x : Hub) → RecordOf h x → says (x .held) r ≡ putPort (first waiter) x word) ⌝ }
+    ensures { λ r. ⌜ ((b : ℕ) → 0 < b → word < b → Below b r) ⌝ }
 {
     if waiter == 0 {
         return Verdict::NotNow;
@@ -97,8 +102,9 @@ fn put_port(h: HubRecord, waiter: u32, word: u32) -> Verdict
 }
 
 // "a getter waits: the first is met with this word. Else below limit: appended. Else not now"
-fn put_fifo(h: HubRecord, waiter: u32, word: u32) -> Verdict
+fn put_fifo(h: HubRecord, waiter: u32, word: u64) -> Verdict
     ensures { λ r. ⌜ ((x : Hub) → RecordOf h x → says (x .held) r ≡ putFifo (first waiter) x word) ⌝ }
+    ensures { λ r. ⌜ ((b : ℕ) → 0 < b → word < b → Below b r) ⌝ }
 {
     if waiter != 0 {
         return pair(h.count, Store::Keep, 0, waiter, word);
@@ -112,6 +118,7 @@ fn put_fifo(h: HubRecord, waiter: u32, word: u32) -> Verdict
 // "caller owns it: first waiter, if any, is met and becomes owner, else free. Otherwise FAIL in every mode"
 fn put_resource(h: HubRecord, waiter: u32, caller: u32) -> Verdict
     ensures { λ r. ⌜ ((x : Hub) → RecordOf h x → says (x .held) r ≡ putResource (first waiter) x caller) ⌝ }
+    ensures { λ r. ⌜ ((b : ℕ) → 0 < b → Below b r) ⌝ }
 {
     if owns(caller, h.count) {
         if waiter != 0 {
@@ -125,6 +132,7 @@ fn put_resource(h: HubRecord, waiter: u32, caller: u32) -> Verdict
 // "above 0: a putter waits, the first is met and count stays; else minus 1. At 0: not now"
 fn get_counted(h: HubRecord, waiter: u32) -> Verdict
     ensures { λ r. ⌜ ((x : Hub) → RecordOf h x → says (x .held) r ≡ getSemaphore (first waiter) x) ⌝ }
+    ensures { λ r. ⌜ ((b : ℕ) → 0 < b → Below b r) ⌝ }
 {
     if h.count == 0 {
         return Verdict::NotNow;
@@ -136,9 +144,10 @@ fn get_counted(h: HubRecord, waiter: u32) -> Verdict
 }
 
 // "a putter waits: the first is met and its word taken. Else not now"
-fn get_port(h: HubRecord, waiter: u32, its: u32) -> Verdict
+fn get_port(h: HubRecord, waiter: u32, its: u64) -> Verdict
     ensures { λ r. ⌜ ((x : Hub) (s : State) → RecordOf h x → ((w : ℕ) → first waiter ≡ some w → its ≡ task s w .word)
         → says (x .held) r ≡ getPort s (first waiter) x) ⌝ }
+    ensures { λ r. ⌜ ((b : ℕ) → 0 < b → its < b → Below b r) ⌝ }
 {
     if waiter == 0 {
         return Verdict::NotNow;
@@ -147,10 +156,11 @@ fn get_port(h: HubRecord, waiter: u32, its: u32) -> Verdict
 }
 
 // "holds a word: oldest taken; if a putter waits, the first is met and its word appended. Empty: not now"
-fn get_fifo(h: HubRecord, waiter: u32, its: u32, oldest: u32) -> Verdict
+fn get_fifo(h: HubRecord, waiter: u32, its: u64, oldest: u64) -> Verdict
     ensures { λ r. ⌜ ((x : Hub) (s : State) → RecordOf h x → x .count ≡ length (x .held)
         → ((w : ℕ) → first waiter ≡ some w → its ≡ task s w .word) → oldest ≡ getD (x .held) 0 0
         → says (x .held) r ≡ getFifo s (x .held) (first waiter) x) ⌝ }
+    ensures { λ r. ⌜ ((b : ℕ) → 0 < b → its < b → oldest < b → Below b r) ⌝ }
 {
     if h.count == 0 {
         return Verdict::NotNow;
@@ -165,6 +175,7 @@ fn get_fifo(h: HubRecord, waiter: u32, its: u32, oldest: u32) -> Verdict
 fn get_resource(h: HubRecord, caller: u32) -> Verdict
     requires { ⌜ caller < 4294967295 ⌝ }
     ensures { λ r. ⌜ ((x : Hub) → RecordOf h x → says (x .held) r ≡ getResource x caller) ⌝ }
+    ensures { λ r. ⌜ ((b : ℕ) → 0 < b → Below b r) ⌝ }
 {
     if h.count == 0 {
         return alone(caller + 1, Store::Keep, 0);
@@ -176,9 +187,10 @@ fn get_resource(h: HubRecord, caller: u32) -> Verdict
 }
 
 // A put by the caller of this word, where waiter is the first getter that waits. An Event runs as a Semaphore of limit 1.
-pub fn on_put(h: HubRecord, waiter: u32, caller: u32, word: u32) -> Verdict
+pub fn on_put(h: HubRecord, waiter: u32, caller: u32, word: u64) -> Verdict
     ensures { λ r. ⌜ ((x : Hub) (T : ℕ) → RecordOf h x → Range (kindOf (x .kind)) T x
         → says (x .held) r ≡ onPut (kindOf (x .kind)) (first waiter) x caller word) ⌝ }
+    ensures { λ r. ⌜ ((b : ℕ) → 0 < b → word < b → Below b r) ⌝ }
 {
     let kind = h.kind;
     match kind {
@@ -191,12 +203,13 @@ pub fn on_put(h: HubRecord, waiter: u32, caller: u32, word: u32) -> Verdict
 }
 
 // A get by the caller, where waiter is the first putter that waits, its is that putter's word and oldest the first word held.
-pub fn on_get(h: HubRecord, waiter: u32, its: u32, oldest: u32, caller: u32) -> Verdict
+pub fn on_get(h: HubRecord, waiter: u32, its: u64, oldest: u64, caller: u32) -> Verdict
     requires { ⌜ caller < 4294967295 ⌝ }
     ensures { λ r. ⌜ ((x : Hub) (s : State) (T : ℕ) → RecordOf h x → Range (kindOf (x .kind)) T x
         → Held (kindOf (x .kind)) x
         → ((w : ℕ) → first waiter ≡ some w → its ≡ task s w .word) → oldest ≡ getD (x .held) 0 0
         → says (x .held) r ≡ onGet (kindOf (x .kind)) s (first waiter) x caller) ⌝ }
+    ensures { λ r. ⌜ ((b : ℕ) → 0 < b → its < b → oldest < b → Below b r) ⌝ }
 {
     let kind = h.kind;
     match kind {

@@ -2,31 +2,35 @@
 -- a table, test by test; what an accepted call knows of the table and of its numbers; the reply.
 -- Not here: what each service does (the crates below). Assumes nothing.
 use Prim.Native.Nat.{_<_, _≤_, suc, zero, ℕ}
-use Rattle.kernel.specs.Promise.{Called}
+use Rattle.kernel.specs.Promise.{CalledIn}
 use Rattle.lists.proofs.Laws.{boolCase}
 use Rattle.moves.specs.Moves.{Sound, keyOf}
-use Rattle.rules.proofs.Accepted.{caller-ready, need-zero, on-task, request-tests}
-use Rattle.rules.proofs.After.{accepted, read-valid, well-formed-words}
+use Rattle.records.specs.Records.{Table}
+use Rattle.rules.proofs.Accepted.{caller-ready, on-task, request-tests}
+use Rattle.rules.proofs.After.{accepted, accepted-formed, accepted-long, valid-in, words-in}
 use Rattle.rules.proofs.Changes.{inUse}
+use Rattle.rules.proofs.Layouts.{Laid, store-place}
 use Rattle.rules.proofs.Lengths.{length-serve, tasksAfter}
 use Rattle.rules.proofs.Numbers.{bears-answer, silent-first, silent-past}
 use Rattle.rules.proofs.Valid.{Valid}
 use Rattle.rules.specs.Calls.{AddHub, AddTask, Blank, HubRequest, Resume, Service, Sleep, Start, Stop, Suspend, Tick, Unknown, Yield, serve, served, serviceOf}
 use Rattle.rules.specs.Lists.{next}
-use Rattle.rules.specs.Refusals.{need, refusal, refusalFor, refusalOf}
-use Rattle.rules.specs.Reply.{outcome, outcomeOf, replyBy, replyTo, tableAfter, tableBy}
-use Rattle.rules.specs.Table.{State, one, read, task, words}
-use Rattle.rules.specs.WellFormed.{urgency, wellFormed}
+use Rattle.rules.specs.Refusals.{need, refusal, refusalFor, refusalIn}
+use Rattle.rules.specs.Reply.{outcome, outcomeOf, replyBy, replyIn, tableBy, tableIn}
+use Rattle.rules.specs.Table.{Layout, State, read, size, task, words}
+use Rattle.rules.specs.WellFormed.{urgency, wellFormedIn}
 use Rattle.rules.specs.declared.Answer.the-variants.{Accepted, Refused}
 use Rattle.rules.specs.declared.Call.{Call}
 use Rattle.rules.specs.declared.Outcome.the-variants.{NothingYet}
 use Rattle.rules.specs.declared.Outcome.{Outcome}
-use borrow.Author.Tests.{eq-eqb, eqb-true, leb-false, leb-true, ne-eqb}
-use lib.Dec.{eqb, leb}
+use borrow.Author.Tests.{eq-eqb, leb-false, leb-true, ne-eqb}
+use lib.Dec.{leb}
 use lib.ListN.{List·getD-eq-default, getD, length}
-use mathlib.Core.Bool.{_||_, false, true}
+use mathlib.Core.Bool.{false, true}
 use mathlib.Core.List.{List, [], _∷_}
 use mathlib.Core.Path.{_∙_, _≡_, ap, refl, subst, sym}
+use mir.Syntax.{w32}
+use mir.Val.{Fits}
 use native.Mathlib.Omega.{arith}
 
 -- ---- services by their numbers
@@ -39,8 +43,8 @@ module _ (s : State) (c : Call) (v : Service) (e : serviceOf (c .service) ≡ v)
   unfolding refusal
   by-service a = subst (λ (u : Service). refusalFor u s c ≡ 0) e a
 
-  pub to-service : (key : ℕ → ℕ) → words one (serve key v s c) ≡ words one (serve key (serviceOf (c .service)) s c)
-  to-service key = ap (λ (u : Service). words one (serve key u s c)) (sym e)
+  pub to-service : (L : Layout) (key : ℕ → ℕ) → words L (serve key v s c) ≡ words L (serve key (serviceOf (c .service)) s c)
+  to-service L key = ap (λ (u : Service). words L (serve key u s c)) (sym e)
 
 -- ---- keys
 
@@ -53,47 +57,46 @@ valid-sound s g = record { tasks = g .tasks; hubs = g .hubs; listed = g .listed 
 
 -- ---- the refusal of a table, test by test
 
-module _ (t : List ℕ) (c : Call) where
-  pub refused-1 : (length t ≡ 600 → ⊥) → 1 ≡ refusalOf t c
-  unfolding need refusalOf
-  refused-1 n = rw (ne-eqb (length t) 600 n) refl
+module _ (L : Layout) (t : List ℕ) (c : Call) where
+  pub refused-1 : (length t ≡ size L → ⊥) → 1 ≡ refusalIn L t c
+  unfolding need refusalIn
+  refused-1 n = rw (ne-eqb (length t) (size L) n) refl
 
-  module _ (long : length t ≡ 600) where
-    pub blank-0 : c .service ≡ 0 → 0 ≡ refusalOf t c
-    unfolding need refusal refusalFor refusalOf serviceOf
-    blank-0 e = rw (eq-eqb (length t) 600 long, e) refl
+  module _ (long : length t ≡ size L) where
+    pub blank-0 : c .service ≡ 0 → 0 ≡ refusalIn L t c
+    unfolding need refusal refusalFor refusalIn serviceOf
+    blank-0 e = rw (eq-eqb (length t) (size L) long, e) refl
 
     module _ (n : c .service ≡ 0 → ⊥) where
-      pub refused-2 : wellFormed t ≡ false → 2 ≡ refusalOf t c
-      unfolding need refusalOf
-      refused-2 e = rw (eq-eqb (length t) 600 long, ne-eqb (c .service) 0 n, e) refl
+      pub refused-2 : wellFormedIn L t ≡ false → 2 ≡ refusalIn L t c
+      unfolding need refusalIn
+      refused-2 e = rw (eq-eqb (length t) (size L) long, ne-eqb (c .service) 0 n, e) refl
 
-      pub refused-by-service : wellFormed t ≡ true → refusal (read one t) c ≡ refusalOf t c
-      unfolding need refusalOf
-      refused-by-service e = rw (eq-eqb (length t) 600 long, ne-eqb (c .service) 0 n, e) refl
+      pub refused-by-service : wellFormedIn L t ≡ true → refusal (read L t) c ≡ refusalIn L t c
+      unfolding need refusalIn
+      refused-by-service e = rw (eq-eqb (length t) (size L) long, ne-eqb (c .service) 0 n, e) refl
 
--- ---- what an accepted call knows: the table's length; of any but Blank, that the table holds a valid state
+-- ---- what an accepted call knows: the table's size; of any but Blank, that the table holds a valid state
 
-pub record Known (t : List ℕ) (c : Call) : Type 0 where
-  pub long : length t ≡ 600
-  pub valid : Valid (read one t)
-  pub accepted : refusal (read one t) c ≡ 0
-  pub table : t ≡ words one (read one t)
+pub record Known (ts : ℕ) (L : Layout) (t : List ℕ) (c : Call) : Type 0 where
+  pub fits : Table ts t
+  pub valid : Valid (read L t)
+  pub accepted : refusal (read L t) c ≡ 0
+  pub table : t ≡ words L (read L t)
 
-module _ (t : List ℕ) (c : Call) (a : refusalOf t c ≡ 0) where
-  pub long-table : length t ≡ 600
-  unfolding refusalOf
-  long-table = eqb-true (length t) 600 (need-zero (eqb (length t) 600) 0 _ a .0)
+module _ {ts : ℕ} {L : Layout} (y : Laid ts L) (low : 8 ≤ ts) (high : ts ≤ 9) (t : List ℕ) (c : Call) (a : refusalIn L t c ≡ 0) where
+  pub fits-table : Table ts t
+  fits-table = record { low = low; high = high; long = accepted-long L t c a ∙ sym (store-place y 16) }
 
-  module _ (n : c .service ≡ 0 → ⊥) where
-    formed : wellFormed t ≡ true
-    formed =
-        boolCase (wellFormed t) (λ e. e)
-        (λ e. let z : (eqb (c .service) 0 || wellFormed t) ≡ true = accepted t c a .0 in
-        absurd (let y : false ≡ true = rw (ne-eqb (c .service) 0 n, e) at z in let x : _≡_ {A = ℕ} 0 1 = cc in omega arith))
-
-    pub known : Known t c
-    known = record { long = long-table; valid = read-valid t formed; accepted = accepted t c a .1; table = well-formed-words t formed }
+  pub known : ((k : ℕ) → Fits w32 (getD t k 0)) → (c .service ≡ 0 → ⊥) → Known ts L t c
+  known words n =
+      let formed = accepted-formed L t c a (ne-eqb (c .service) 0 n) in
+      record {
+        fits = fits-table;
+        valid = valid-in L t formed;
+        accepted = accepted L t c a .1;
+        table = words-in L t formed y (λ k. omega (arith, words k));
+      }
 
 module _ (s : State) (g : Valid s) (c : Call) (a : refusal s c ≡ 0) where
   pub caller-runs : 1 ≤ c .service → c .service ≤ 7 → task s (c .caller) .state ≡ 2
@@ -145,12 +148,11 @@ keeps-tasks key s c p q = length-serve key (serviceOf (c .service)) s c ∙ at (
     at (suc (suc (suc (suc (suc (suc (suc zero))))))) p q = refl
     at (suc (suc (suc (suc (suc (suc (suc (suc n)))))))) p q = absurd (omega arith)
 
-pub caller-after : (t : List ℕ) (c : Call) → refusalOf t c ≡ 0 → 1 ≤ c .service → c .service ≤ 7 → c .caller < length (served (read one t) c .tasks)
+pub caller-after : (L : Layout) (t : List ℕ) (c : Call) → refusalIn L t c ≡ 0 → 1 ≤ c .service → c .service ≤ 7 → c .caller < length (served (read L t) c .tasks)
 unfolding served
-caller-after t c a p q =
-    let n : c .service ≡ 0 → ⊥ = λ z. omega arith in
-    let q′ = known t c a n in
-    rw (keeps-tasks (urgency (read one t)) (read one t) c p q) (caller-in (read one t) (q′ .valid) c (q′ .accepted) p q)
+caller-after L t c a p q =
+    let formed = accepted-formed L t c a (ne-eqb (c .service) 0 (λ z. omega arith)) in
+    rw (keeps-tasks (urgency (read L t)) (read L t) c p q) (caller-in (read L t) (valid-in L t formed) c (accepted L t c a .1) p q)
 
 -- ---- the reply
 
@@ -175,16 +177,16 @@ outcome-other (suc zero) p q = absurd (p refl)
 outcome-other (suc (suc zero)) p q = absurd (q refl)
 outcome-other (suc (suc (suc a))) p q = refl
 
-module _ (t : List ℕ) (c : Call) where
-  pub called-refused : (r : ℕ) → r ≡ refusalOf t c → (r ≡ 0 → ⊥) → Called t c (record { answer = Refused r; next = 0 }) t
+module _ (L : Layout) (t : List ℕ) (c : Call) where
+  pub called-refused : (r : ℕ) → r ≡ refusalIn L t c → (r ≡ 0 → ⊥) → CalledIn L t c (record { answer = Refused r; next = 0 }) t
   called-refused r e n = go r e n
     where
-      go : (m : ℕ) → m ≡ refusalOf t c → (m ≡ 0 → ⊥) → Called t c (record { answer = Refused m; next = 0 }) t
+      go : (m : ℕ) → m ≡ refusalIn L t c → (m ≡ 0 → ⊥) → CalledIn L t c (record { answer = Refused m; next = 0 }) t
       go zero e n = absurd (n refl)
-      go (suc m) e n = record { reply = unfold replyTo replyBy in rw (← e) refl; table = unfold tableAfter tableBy in rw (← e) refl }
+      go (suc m) e n = record { reply = unfold replyIn replyBy in rw (← e) refl; table = unfold tableIn tableBy in rw (← e) refl }
 
-  pub called-accepted : refusalOf t c ≡ 0 → (o : Outcome) (n : ℕ) (t′ : List ℕ) → o ≡ outcome (served (read one t) c) c → n ≡ next (served (read one t) c) → t′ ≡ words one (served (read one t) c) → Called t c (record { answer = Accepted o; next = n }) t′
+  pub called-accepted : refusalIn L t c ≡ 0 → (o : Outcome) (n : ℕ) (t′ : List ℕ) → o ≡ outcome (served (read L t) c) c → n ≡ next (served (read L t) c) → t′ ≡ words L (served (read L t) c) → CalledIn L t c (record { answer = Accepted o; next = n }) t′
   called-accepted a o n t′ eo en et = record {
-    reply = unfold replyTo replyBy in rw (a, eo, en) refl;
-    table = unfold tableAfter tableBy in rw a et;
+    reply = unfold replyIn replyBy in rw (a, eo, en) refl;
+    table = unfold tableIn tableBy in rw a et;
   }

@@ -1,6 +1,10 @@
--- What `call` promises of every table of words and every seven numbers: an equation for the reply and one for the table.
+-- What `call` promises of every table of words and every seven numbers: an equation for the reply and one for the table; the
+-- same over any layout; and what an accepted call rests on.
 use Prim.Native.Nat.{ℕ}
-use Rattle.rules.specs.Reply.{replyTo, tableAfter}
+use Rattle.rules.proofs.Layouts.{Edition}
+use Rattle.rules.specs.Refusals.{refusalIn}
+use Rattle.rules.specs.Reply.{replyIn, replyTo, tableAfter, tableIn}
+use Rattle.rules.specs.Table.{Layout}
 use Rattle.rules.specs.declared.Call.{Call}
 use Rattle.rules.specs.declared.Reply.{Reply}
 use mathlib.Core.List.{List}
@@ -9,3 +13,12 @@ use mathlib.Core.Path.{_≡_}
 pub record Called (before : List ℕ) (c : Call) (r : Reply) (after : List ℕ) : Type 0 where
   pub reply : r ≡ replyTo before c
   pub table : after ≡ tableAfter before c
+
+pub record CalledIn (L : Layout) (before : List ℕ) (c : Call) (r : Reply) (after : List ℕ) : Type 0 where
+  pub reply : r ≡ replyIn L before c
+  pub table : after ≡ tableIn L before c
+
+-- a table whose task records have ts words takes the call, in the edition of that size
+pub record Accepts (ts : ℕ) (t : List ℕ) (c : Call) : Type 0 where
+  pub edition : Edition ts
+  pub none : refusalIn (edition .layout) t c ≡ 0

@@ -1,5 +1,6 @@
 // The hub kernel: one call on one table, for any words and any seven numbers. Numbers in, one look at the table, one service,
-// numbers out. `call` is the public promise; each function below it says what it does to every state that a table holds.
+// numbers out. `call` and `summary` are the public promise, over edition 1; each function above them says what it does to
+// every state that a table of any layout holds.
 use records::TaskNo;
 use rules::Answer;
 use rules::Call;
@@ -7,129 +8,138 @@ use rules::Outcome;
 use rules::Reply;
 use rules::Summary;
 ghost use Prim.Native.Nat.{_<_, _≤_, ℕ};
-ghost use Rattle.kernel.specs.Promise.{Called};
+ghost use Rattle.kernel.specs.Promise.{Accepts, Called, CalledIn};
 ghost use Rattle.moves.specs.Moves.{keyOf};
+ghost use Rattle.records.specs.Records.{Table};
+ghost use Rattle.rules.proofs.Layouts.{Laid};
 ghost use Rattle.rules.proofs.Valid.{Valid};
 ghost use Rattle.rules.specs.Calls.{AddTask, addStarted, serve, served, serviceOf};
-ghost use Rattle.rules.specs.Refusals.{refusal, refusalOf};
+ghost use Rattle.rules.specs.Refusals.{refusal, refusalIn};
 ghost use Rattle.rules.specs.Reply.{outcome, summaryOf};
-ghost use Rattle.rules.specs.Table.{State, one, read, words};
+ghost use Rattle.rules.specs.Table.{Layout, State, read, words};
 ghost use lib.ListN.{getD, length};
 ghost use mathlib.Core.Path.{_≡_};
 
 // "Refusal numbers, tested in this order": 1 and 2 here, then the service's own. 0 is no refusal.
-fn refusal_of(t: &[u32], c: Call) -> u32
-    ensures { λ r. ⌜ r ≡ refusalOf (now (t .entry)) c ⌝ }
+fn refusal_of(t: &[u32], ts: usize, c: Call) -> u32
+    requires { ⌜ 8 ≤ ts ⌝ }
+    requires { ⌜ ts ≤ 9 ⌝ }
+    ensures { λ r. ⌜ ((L : Layout) → Laid ts L → r ≡ refusalIn L (now (t .entry)) c) ⌝ }
 {
-    if t.len() != records::TABLE_SIZE {
+    if t.len() != records::table_size(ts) {
         return rules::WRONG_LENGTH;
     }
     if c.service == rules::BLANK {
         return 0;
     }
-    if !wellformed::well_formed(t) {
+    if !wellformed::well_formed(t, ts) {
         return rules::NOT_WELL_FORMED;
     }
-    refusals::for_service(t, c)
+    refusals::for_service(t, ts, c)
 }
 
 // Services 1 to 5 name a hub or a task.
-fn serve_target(t: &mut [u32], keys: &[u32], c: Call)
+fn serve_target(t: &mut [u32], ts: usize, keys: &[u32], c: Call)
+    requires { ⌜ Table ts (now t) ⌝ }
     requires { ⌜ c .caller < 16 ⌝ }
     requires { ⌜ c .target < 16 ⌝ }
-    requires { ⌜ length (now t) ≡ 600 ⌝ }
-    ensures { λ _. ⌜ ((s : State) → Valid s → refusal s c ≡ 0 → 1 ≤ c .service → c .service ≤ 5
-        → now (t .entry) ≡ words one s
-        → now (t .exit) ≡ words one (serve (keyOf (now (keys .entry))) (serviceOf (c .service)) s c)) ⌝ }
+    ensures { λ _. ⌜ ((L : Layout) (s : State) → Laid ts L → Valid s → refusal s c ≡ 0 → 1 ≤ c .service → c .service ≤ 5
+        → now (t .entry) ≡ words L s
+        → now (t .exit) ≡ words L (serve (keyOf (now (keys .entry))) (serviceOf (c .service)) s c)) ⌝ }
 {
     let service = c.service;
     match service {
-        rules::HUB_REQUEST => requests::request(t, keys, c),
-        rules::START => tasks::start_task(t, keys, c),
-        rules::STOP => tasks::stop_task(t, c),
-        rules::SUSPEND => tasks::suspend_task(t, c),
-        _ => tasks::resume_task(t, c),
+        rules::HUB_REQUEST => requests::request(t, ts, keys, c),
+        rules::START => tasks::start_task(t, ts, keys, c),
+        rules::STOP => tasks::stop_task(t, ts, c),
+        rules::SUSPEND => tasks::suspend_task(t, ts, c),
+        _ => tasks::resume_task(t, ts, c),
     }
 }
 
 // Services 6 and 7 are the caller's alone.
-fn serve_caller(t: &mut [u32], keys: &[u32], c: Call)
+fn serve_caller(t: &mut [u32], ts: usize, keys: &[u32], c: Call)
+    requires { ⌜ Table ts (now t) ⌝ }
     requires { ⌜ c .caller < 16 ⌝ }
-    requires { ⌜ length (now t) ≡ 600 ⌝ }
-    ensures { λ _. ⌜ ((s : State) → Valid s → refusal s c ≡ 0 → 6 ≤ c .service → c .service ≤ 7
-        → now (t .entry) ≡ words one s
-        → now (t .exit) ≡ words one (serve (keyOf (now (keys .entry))) (serviceOf (c .service)) s c)) ⌝ }
+    ensures { λ _. ⌜ ((L : Layout) (s : State) → Laid ts L → Valid s → refusal s c ≡ 0 → 6 ≤ c .service → c .service ≤ 7
+        → now (t .entry) ≡ words L s
+        → now (t .exit) ≡ words L (serve (keyOf (now (keys .entry))) (serviceOf (c .service)) s c)) ⌝ }
 {
     if c.service == rules::YIELD {
-        tasks::yield_turn(t, keys, c);
+        tasks::yield_turn(t, ts, keys, c);
     } else {
-        tasks::sleep_task(t, c);
+        tasks::sleep_task(t, ts, c);
     }
 }
 
 // "side 1 starts it at once": a task is added, and joins by its own priority.
-fn add_started(t: &mut [u32], priority: u32)
-    requires { ⌜ length (now t) ≡ 600 ⌝ }
+fn add_started(t: &mut [u32], ts: usize, priority: u32)
+    requires { ⌜ Table ts (now t) ⌝ }
     requires { ⌜ getD (now t) 1 0 < 16 ⌝ }
-    ensures { λ _. ⌜ ((s : State) → length (s .tasks) < 16 → now (t .entry) ≡ words one s
-        → now (t .exit) ≡ words one (addStarted priority s)) ⌝ }
+    ensures { λ _. ⌜ ((L : Layout) (s : State) → Laid ts L → length (s .tasks) < 16 → now (t .entry) ≡ words L s
+        → now (t .exit) ≡ words L (addStarted priority s)) ⌝ }
 {
     let i = TaskNo(t[records::TASKS] as usize);
-    setup::add_task(t, priority);
-    let keys = setup::keys(&*t);
-    moves::make_ready(t, i, 0, 0);
-    moves::join_ready(t, records::TASK_SIZE, &keys, i);
+    setup::add_task(t, ts, priority);
+    let keys = setup::keys(&*t, ts);
+    moves::make_ready(t, ts, i, 0, 0);
+    moves::join_ready(t, ts, &keys, i);
 }
 
 // "Add task: target is priority, side 1 starts it at once, side 0 doesn't."
-fn serve_add_task(t: &mut [u32], c: Call)
-    requires { ⌜ length (now t) ≡ 600 ⌝ }
+fn serve_add_task(t: &mut [u32], ts: usize, c: Call)
+    requires { ⌜ Table ts (now t) ⌝ }
     requires { ⌜ getD (now t) 1 0 < 16 ⌝ }
-    ensures { λ _. ⌜ ((key : ℕ → ℕ) (s : State) → length (s .tasks) < 16 → now (t .entry) ≡ words one s
-        → now (t .exit) ≡ words one (serve key AddTask s c)) ⌝ }
+    ensures { λ _. ⌜ ((L : Layout) (key : ℕ → ℕ) (s : State) → Laid ts L → length (s .tasks) < 16
+        → now (t .entry) ≡ words L s
+        → now (t .exit) ≡ words L (serve key AddTask s c)) ⌝ }
 {
     if c.side == 1 {
-        add_started(t, c.target);
+        add_started(t, ts, c.target);
     } else {
-        setup::add_task(t, c.target);
+        setup::add_task(t, ts, c.target);
     }
 }
 
 // One accepted call's service. Blank looks at nothing; any other fixes each task's key before it does anything.
-fn serve_call(t: &mut [u32], c: Call)
-    requires { ⌜ refusalOf (now t) c ≡ 0 ⌝ }
-    ensures { λ _. ⌜ now (t .exit) ≡ words one (served (read one (now (t .entry))) c) ⌝ }
+fn serve_call(t: &mut [u32], ts: usize, c: Call)
+    requires { ⌜ 8 ≤ ts ⌝ }
+    requires { ⌜ ts ≤ 9 ⌝ }
+    requires { ⌜ Accepts ts (now t) c ⌝ }
+    ensures { λ _. ⌜ ((L : Layout) → Laid ts L → refusalIn L (now (t .entry)) c ≡ 0
+        → now (t .exit) ≡ words L (served (read L (now (t .entry))) c)) ⌝ }
 {
     let service = c.service;
     if service == rules::BLANK {
-        setup::blank(t);
+        setup::blank(t, ts);
         return;
     }
-    let keys = setup::keys(&*t);
+    let keys = setup::keys(&*t, ts);
     if service <= rules::RESUME {
-        serve_target(t, &keys, c);
+        serve_target(t, ts, &keys, c);
         return;
     }
     if service <= rules::SLEEP {
-        serve_caller(t, &keys, c);
+        serve_caller(t, ts, &keys, c);
         return;
     }
     if service == rules::TICK {
-        clock::tick(t, &keys);
+        clock::tick(t, ts, &keys);
         return;
     }
     if service == rules::ADD_TASK {
-        serve_add_task(t, c);
+        serve_add_task(t, ts, c);
         return;
     }
-    setup::add_hub(t, c.target, c.ticks, c.word);
+    setup::add_hub(t, ts, c.target, c.ticks, c.word);
 }
 
 // "For services 1 to 7 the answer is the caller's answer word after the call; for 0, 8, 9 and 10 it is 0."
-fn outcome_of(t: &[u32], c: Call) -> Outcome
-    ensures { λ r. ⌜ ((s : State) → length (s .tasks) ≤ 16
+fn outcome_of(t: &[u32], ts: usize, c: Call) -> Outcome
+    requires { ⌜ Table ts (now t) ⌝ }
+    ensures { λ r. ⌜ ((L : Layout) (s : State) → Laid ts L → length (s .tasks) ≤ 16
         → (1 ≤ c .service → c .service ≤ 7 → c .caller < length (s .tasks))
-        → now (t .entry) ≡ words one s → r ≡ outcome s c) ⌝ }
+        → now (t .entry) ≡ words L s → r ≡ outcome s c) ⌝ }
 {
     if c.service < rules::HUB_REQUEST {
         return Outcome::NothingYet;
@@ -137,7 +147,7 @@ fn outcome_of(t: &[u32], c: Call) -> Outcome
     if rules::SLEEP < c.service {
         return Outcome::NothingYet;
     }
-    let x = moves::task_at(t, TaskNo(c.caller as usize));
+    let x = moves::task_at(t, ts, TaskNo(c.caller as usize));
     let answer = x.answer;
     match answer {
         rules::OK => Outcome::Ok,
@@ -147,26 +157,35 @@ fn outcome_of(t: &[u32], c: Call) -> Outcome
 }
 
 // A call: refused under its number with the table untouched, or served and answered.
-pub fn call(t: &mut [u32], c: Call) -> Reply
-    ensures { λ r. ⌜ Called (now (t .entry)) c r (now (t .exit)) ⌝ }
+fn call_in(t: &mut [u32], ts: usize, c: Call) -> Reply
+    requires { ⌜ 8 ≤ ts ⌝ }
+    requires { ⌜ ts ≤ 9 ⌝ }
+    ensures { λ r. ⌜ ((L : Layout) → Laid ts L → CalledIn L (now (t .entry)) c r (now (t .exit))) ⌝ }
 {
-    let refused = refusal_of(&*t, c);
+    let refused = refusal_of(&*t, ts, c);
     if refused != 0 {
         return Reply {
             answer: Answer::Refused(refused),
             next: 0,
         };
     }
-    serve_call(t, c);
+    serve_call(t, ts, c);
     Reply {
-        answer: Answer::Accepted(outcome_of(&*t, c)),
-        next: refusals::running(&*t),
+        answer: Answer::Accepted(outcome_of(&*t, ts, c)),
+        next: refusals::running(&*t, ts),
     }
+}
+
+// A call on a table of edition 1.
+pub fn call(t: &mut [u32], c: Call) -> Reply
+    ensures { λ r. ⌜ Called (now (t .entry)) c r (now (t .exit)) ⌝ }
+{
+    call_in(t, records::TASK_SIZE, c)
 }
 
 // "Hub summary: given a table and a hub, one word with bit i set when task i waits there, and the number of set bits as count."
 pub fn summary(t: &[u32], hub: u32) -> Summary
     ensures { λ r. ⌜ r ≡ summaryOf (now (t .entry)) hub ⌝ }
 {
-    summaries::summarise(t, hub)
+    summaries::summarise(t, records::TASK_SIZE, hub)
 }

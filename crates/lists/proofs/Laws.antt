@@ -1,18 +1,18 @@
 -- Laws of the definitions of specs/Lists.antt. In order: a turn of each loop of this crate, and its end; what a find says;
 -- lengths; numbers in words and back (`numbers-entries`, `entries-numbers`); a number joins (`join-entries`); a number leaves
--- (`leave-entries`); a store's words (`push-padded`, `pop-padded`).
+-- (`leave-entries`).
 -- Not here: how often a number stands in a list (Counting.antt), the zeros behind a list (Padding.antt), and laws of `take`,
 -- `drop`, `set`, `getD` and `length` alone (`lib.Seq`, `lib.ListN`).
 -- Lists and counts are explicit arguments, since each stands under a function that is stuck on it. Assumes nothing.
 use Prim.Native.Nat.{_<_, _≤_, pred, suc, suc-le-suc, zero, zero-le, ℕ}
-use Rattle.lists.specs.Lists.{allZero, entries, foundAt, indexOf, insert, insertAt, numbers, occ, packed, padded, placeIn, placeOf, removeAt, shiftIn, without}
+use Rattle.lists.specs.Lists.{allZero, entries, foundAt, indexOf, insert, insertAt, numbers, occ, packed, padded, placeIn, placeOf, removeAt, removeFirst, shiftIn, without}
 use Rattle.lists.specs.declared.Found.the-variants.{At, Nothing}
 use borrow.Author.Tests.{eq-eqb, le-ltb, lt-ltb, ltb-false, ne-eqb}
 use lib.Dec.{eqb, eqb·suc-suc, eqb·suc-zero, eqb·zero-suc, ltb}
-use lib.ListN.{drop, getD, length, length-map, set, take}
+use lib.ListN.{drop, getD, length, length-map, replicate, set, take}
 use lib.Seq.{drop-cons, drop-nil, take-all}
 use mathlib.Core.Bool.{Bool, false, false≢true, true}
-use mathlib.Core.List.{List, [], _++_, _∷_, map}
+use mathlib.Core.List.{List, [], _++_, _∷_, append-assoc, append-nil, map}
 use mathlib.Core.Path.{_∙_, _≡_, ap, refl, sym}
 use native.Mathlib.Nat.{le-of-suc-le-suc, not-suc-le-zero}
 use native.Mathlib.Omega.{arith}
@@ -80,6 +80,17 @@ unfolding removeAt
 removeAt-out [] i h = refl
 removeAt-out (x ∷ xs) zero h = absurd (not-suc-le-zero h)
 removeAt-out (x ∷ xs) (suc i) h = cons x (removeAt-out xs i (le-of-suc-le-suc h))
+
+-- the words of a first part go, and as many zeros come behind the rest
+pub removeFirst-row : (n : ℕ) (xs ys : List ℕ) → length xs ≡ n → removeFirst n (xs ++ ys) ≡ ys ++ replicate n 0
+unfolding removeAt removeFirst
+removeFirst-row zero [] ys h = sym (append-nil ys)
+removeFirst-row zero (x ∷ xs) ys h = absurd (omega (arith, h))
+removeFirst-row (suc n) [] ys h = absurd (omega (arith, h))
+removeFirst-row (suc n) (x ∷ xs) ys h =
+    ap (removeFirst n) (append-assoc xs ys (0 ∷ []))
+    ∙ removeFirst-row n xs (ys ++ 0 ∷ []) (omega (arith, h))
+    ∙ append-assoc ys (0 ∷ []) (replicate n 0)
 
 -- ---- what a find says: the first two for `find` itself, the others for whoever takes its answer apart
 
@@ -245,17 +256,3 @@ leave-entries i (suc n) (x ∷ xs) h o =
     (boolCase (eqb x i)
     (λ b. rw (b, without-none i xs (omega (arith, rw b at o))) (entries-snoc n xs (le-of-suc-le-suc h)))
     (λ b. rw b (cons (suc x) (leave-entries i n xs (le-of-suc-le-suc h) (omega (arith, rw b at o))))))
-
--- ---- a store: a word goes behind the others, and the oldest goes out
-
--- where the store is full, nothing changes on either side
-pub push-padded : (n : ℕ) (xs : List ℕ) (w : ℕ) → set (padded n xs) (length xs) w ≡ padded n (xs ++ w ∷ [])
-unfolding padded
-push-padded zero xs w = refl
-push-padded (suc n) [] w = refl
-push-padded (suc n) (x ∷ xs) w = cons x (push-padded n xs w)
-
-pub pop-padded : (n x : ℕ) (xs : List ℕ) → length (x ∷ xs) ≤ n → removeAt 0 (padded n (x ∷ xs)) ≡ padded n xs
-unfolding padded removeAt
-pop-padded zero x xs h = absurd (not-suc-le-zero h)
-pop-padded (suc n) x xs h = padded-snoc n xs (le-of-suc-le-suc h)

@@ -1,9 +1,8 @@
--- Laws of what stands behind a list in its words. In order: nothing but zeros, as words and as no numbers; a packed list; a
--- padded list, taken and dropped.
--- Not here: what joining, leaving, pushing and popping do to such a list (Laws.antt). Assumes nothing.
-use Prim.Native.Nat.{_+_, _<_, _≤_, suc, zero, ℕ}
+-- Laws of what stands behind a list in its words. In order: nothing but zeros, as words and as no numbers; a packed list.
+-- Not here: what joining and leaving do to such a list (Laws.antt). Assumes nothing.
+use Prim.Native.Nat.{_+_, _<_, suc, zero, ℕ}
 use Rattle.lists.proofs.Laws.{boolCase}
-use Rattle.lists.specs.Lists.{allZero, entries, numbers, packed, padded}
+use Rattle.lists.specs.Lists.{allZero, entries, numbers, packed}
 use borrow.Author.Tests.{eq-eqb}
 use lib.Dec.{eqb, eqb·suc-zero}
 use lib.ListN.{drop, getD, length, replicate, take}
@@ -11,7 +10,6 @@ use lib.Seq.{getD-drop, getD-take}
 use mathlib.Core.Bool.{false≢true, true}
 use mathlib.Core.List.{List, [], _∷_}
 use mathlib.Core.Path.{_∙_, _≡_, ap, refl, sym}
-use native.Mathlib.Nat.{le-of-suc-le-suc, not-suc-le-zero}
 
 pub allZero-replicate : (n : ℕ) → allZero (replicate n 0) ≡ true
 unfolding allZero
@@ -63,27 +61,3 @@ packed-entries (suc n) [] = allZero-entries n
     allZero-entries zero = refl
     allZero-entries (suc n) = allZero-entries n
 packed-entries (suc n) (x ∷ xs) = rw (eqb·suc-zero x) (packed-entries n xs)
-
-pub padded-none : (n : ℕ) → padded n [] ≡ replicate n 0
-unfolding padded
-padded-none zero = refl
-padded-none (suc n) = ap {B = List ℕ} (λ r. 0 ∷ r) (padded-none n)
-
-pub take-padded : (n : ℕ) (xs : List ℕ) → length xs ≤ n → take (length xs) (padded n xs) ≡ xs
-unfolding padded
-take-padded n [] h = refl
-take-padded zero (x ∷ xs) h = absurd (not-suc-le-zero h)
-take-padded (suc n) (x ∷ xs) h = ap {B = List ℕ} (λ r. x ∷ r) (take-padded n xs (le-of-suc-le-suc h))
-
-pub drop-padded : (n : ℕ) (xs : List ℕ) → allZero (drop (length xs) (padded n xs)) ≡ true
-unfolding allZero padded
-drop-padded n [] = rw (padded-none n) (allZero-replicate n)
-drop-padded zero (x ∷ xs) = refl
-drop-padded (suc n) (x ∷ xs) = drop-padded n xs
-
-pub padded-take : (n : ℕ) (l : List ℕ) → allZero (drop n l) ≡ true → padded (length l) (take n l) ≡ l
-unfolding padded
-padded-take zero [] e = refl
-padded-take (suc n) [] e = refl
-padded-take zero (x ∷ xs) e = padded-none (suc (length xs)) ∙ sym (replicate-allZero (x ∷ xs) e)
-padded-take (suc n) (x ∷ xs) e = ap {B = List ℕ} (λ r. x ∷ r) (padded-take n xs e)

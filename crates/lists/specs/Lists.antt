@@ -30,6 +30,11 @@ removeAt n [] = []
 removeAt zero (x ∷ xs) = xs ++ 0 ∷ []
 removeAt (suc n) (x ∷ xs) = x ∷ removeAt n xs
 
+-- the first n words go, those behind them move up, and zeros come last
+unfoldable pub removeFirst : ℕ → List ℕ → List ℕ
+removeFirst zero l = l
+removeFirst (suc n) l = removeFirst n (removeAt 0 l)
+
 -- the first place that holds v, or the length
 unfoldable pub indexOf : ℕ → List ℕ → ℕ
 indexOf v [] = 0

@@ -1,8 +1,8 @@
 // Lists of entries in a lent slice of words: an entry is a number plus 1, first entry first, and what is unused is 0.
 // Any length, any words; no table in sight, and nothing is required but that a number plus 1 is a word.
 ghost use Prim.Native.Nat.{_<_, suc};
-ghost use Rattle.lists.specs.Lists.{Joined, allZero, foundAt, indexOf, insertAt, placeIn, removeAt};
-ghost use lib.ListN.{getD};
+ghost use Rattle.lists.specs.Lists.{Joined, allZero, foundAt, indexOf, insertAt, placeIn, removeAt, removeFirst};
+ghost use lib.ListN.{getD, set};
 ghost use mathlib.Core.Path.{_≡_};
 
 // What a search answers: the first place, or that there is none.
@@ -16,6 +16,15 @@ pub fn word(s: &[u32], i: usize) -> u32
     ensures { λ r. ⌜ r ≡ getD (now (s .entry)) i 0 ⌝ }
 {
     if i < s.len() { s[i] } else { 0 }
+}
+
+// v at i. Past the end nothing changes, so that no caller has to know the length.
+pub fn set_word(s: &mut [u32], i: usize, v: u32)
+    ensures { λ _. ⌜ now (s .exit) ≡ set (now (s .entry)) i v ⌝ }
+{
+    if i < s.len() {
+        s[i] = v;
+    }
 }
 
 // The first place that holds v.
@@ -47,7 +56,7 @@ fn insert_at(list: &mut [u32], at: usize, v: u32)
 }
 
 // The entry at `at` goes, those behind it move up, and a 0 comes last. The 0 is the word that is read past the end.
-pub fn remove_at(list: &mut [u32], at: usize)
+fn remove_at(list: &mut [u32], at: usize)
     ensures { λ _. ⌜ now (list .exit) ≡ removeAt at (now (list .entry)) ⌝ }
 {
     let mut i = at;
@@ -55,6 +64,17 @@ pub fn remove_at(list: &mut [u32], at: usize)
         let next = word(&*list, i + 1);
         list[i] = next;
         i += 1;
+    }
+}
+
+// The first n words go, those behind them move up, and zeros come last.
+pub fn remove_first(list: &mut [u32], n: usize)
+    ensures { λ _. ⌜ now (list .exit) ≡ removeFirst n (now (list .entry)) ⌝ }
+{
+    let mut k = 0;
+    while k < n {
+        remove_at(list, 0);
+        k += 1;
     }
 }
 

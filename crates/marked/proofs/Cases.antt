@@ -13,7 +13,7 @@ use Rattle.rules.specs.Calls.{addHub, addStarted, addTask, blank, hold, kept, m
 use Rattle.rules.specs.HubTable.{getFifo, onGet, onPut, onSide, putFifo, verdict}
 use Rattle.rules.specs.Lists.{answer, answered, counted, firstFree, firstWaiting, holding, joinHub, joinReady, leave, next, queued, readied, unqueue, waits, wake}
 use Rattle.rules.specs.Refusals.{byRunning, goodHub, goodWait, modeOf, need, refusal, refusalFor}
-use Rattle.rules.specs.Reply.{bearsAnswer, outcome, outcomeOf, replyBy, replyTo, tableAfter, tableBy}
+use Rattle.rules.specs.Reply.{bearsAnswer, outcome, outcomeOf, replyBy, replyIn, tableBy, tableIn}
 use Rattle.rules.specs.Table.{inactive, kindOf, noHub, one, setHub, setReady, setTask, sideOf, size, words}
 use Rattle.rules.specs.WellFormed.{bearsWord}
 use Rattle.runner.specs.Runner.{callOf, drillText, replyText, textThrough, zeros}
@@ -35,7 +35,7 @@ zeros-long = length-replicate {A = ℕ} (size one) 0
 
 -- a first call that is a Blank
 blanked : (ls : List Line) → textThrough zeros (Good (numbersOf (0 ∷ 0 ∷ 0 ∷ 0 ∷ 0 ∷ 0 ∷ 0 ∷ [])) ∷ ls) ≡ printed (0 ∷ 0 ∷ 0 ∷ []) ++ textThrough (words one blank) ls
-unfolding bearsAnswer blank firstFree next numbersOf outcome replyBy replyText replyTo serve served serviceOf tableAfter tableBy textThrough
+unfolding bearsAnswer blank firstFree next numbersOf outcome replyBy replyIn replyText serve served serviceOf tableBy tableIn textThrough
 blanked ls = rw (blank-accepted zeros (callOf (numbersOf (0 ∷ 0 ∷ 0 ∷ 0 ∷ 0 ∷ 0 ∷ 0 ∷ []))) zeros-long refl)
 
 answered-all : textThrough zeros (linesFrom rows) ≡ outputOf rows

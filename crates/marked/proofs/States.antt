@@ -5,13 +5,14 @@ use Rattle.lines.specs.Lines.{badText}
 use Rattle.lines.specs.declared.Line.the-variants.{Bad, Good}
 use Rattle.lines.specs.declared.Line.{Line}
 use Rattle.rules.proofs.After.{after-valid, words-well-formed}
-use Rattle.rules.proofs.Places.{length-words, one-sized}
+use Rattle.rules.proofs.Layouts.{one-laid, sized}
+use Rattle.rules.proofs.Places.{length-words}
 use Rattle.rules.proofs.Reading.{read-words}
 use Rattle.rules.proofs.Room.{valid-room}
 use Rattle.rules.proofs.Valid.{Valid}
 use Rattle.rules.specs.Calls.{served}
-use Rattle.rules.specs.Refusals.{isBlank, need, refusal, refusalOf}
-use Rattle.rules.specs.Reply.{replyBy, replyTo, tableAfter, tableBy}
+use Rattle.rules.specs.Refusals.{isBlank, need, refusal, refusalIn, refusalOf}
+use Rattle.rules.specs.Reply.{replyBy, replyIn, replyTo, tableAfter, tableBy, tableIn}
 use Rattle.rules.specs.Table.{State, one, read, size, words}
 use Rattle.rules.specs.declared.Call.{Call}
 use Rattle.runner.specs.Runner.{callOf, replyText, textThrough}
@@ -31,22 +32,22 @@ stateAfter s c = stateBy (refusal s c) s (served s c)
 
 module _ (s : State) (v : Valid s) (c : Call) where
   read-back : read one (words one s) ≡ s
-  read-back = read-words s (valid-room s v)
+  read-back = read-words one one-laid s (valid-room s v)
 
   refusal-words : refusalOf (words one s) c ≡ refusal s c
-  unfolding need refusalOf
+  unfolding need refusalIn
   refusal-words =
-      rw (eq-eqb (length (words one s)) (size one) (length-words one one-sized s), words-well-formed s v, or-true (isBlank c), read-back)
+      rw (eq-eqb (length (words one s)) (size one) (length-words one (sized one-laid) s), words-well-formed s v, or-true (isBlank c), read-back)
 
   reply-words : replyTo (words one s) c ≡ replyBy (refusal s c) (served s c) c
-  unfolding replyTo
+  unfolding replyIn
   reply-words = rw (refusal-words, read-back)
 
   table-words : tableAfter (words one s) c ≡ words one (stateAfter s c)
-  unfolding stateAfter stateBy tableAfter tableBy
+  unfolding stateAfter stateBy tableBy tableIn
   table-words = rw (refusal-words, read-back) (by (refusal s c))
     where
-      by : (n : ℕ) → tableBy n (words one s) (served s c) ≡ words one (stateBy n s (served s c))
+      by : (n : ℕ) → tableBy one n (words one s) (served s c) ≡ words one (stateBy n s (served s c))
       by zero = refl
       by (suc r) = refl
 
@@ -55,7 +56,7 @@ module _ (s : State) (v : Valid s) (c : Call) where
   valid-after = by (refusal s c) refl
     where
       by : (n : ℕ) → refusal s c ≡ n → Valid (stateBy n s (served s c))
-      by zero e = rw read-back at (after-valid (words one s) c (refusal-words ∙ e))
+      by zero e = rw read-back at (after-valid one (words one s) c (refusal-words ∙ e))
       by (suc r) e = v
 
 unfoldable pub textFrom : State → List Line → List ℕ

@@ -5,13 +5,15 @@ use Prim.Native.Nat.{_*_, _+_, _<_, _≤_, suc, zero, ℕ}
 use Rattle.lists.proofs.Laws.{boolCase, join-entries, leave-entries, length-entries, place-entries, without-none}
 use Rattle.lists.specs.Lists.{entries, indexOf, insertAt, occ, placeIn, placeOf, removeAt, without}
 use Rattle.moves.specs.Moves.{Sound, keyOf, taskOf}
-use Rattle.records.specs.Records.{taskAt, taskWords}
+use Rattle.messages.specs.Messages.{messageAt, messages}
+use Rattle.records.specs.Records.{taskAt, taskWords as recordWords, width}
 use Rattle.records.specs.declared.TaskRecord.{TaskRecord}
 use Rattle.rules.proofs.Cut.{Cut, cut-part, cut-paste, cut-sets}
-use Rattle.rules.proofs.Places.{cut-ready, cut-task, cut-waiters, one-sized, same-hub, same-task, task-word}
+use Rattle.rules.proofs.Layouts.{Laid, answer-at, message-word, message-written, sized, wide}
+use Rattle.rules.proofs.Places.{cut-ready, cut-task, cut-waiters, same-hub, same-task, task-word}
 use Rattle.rules.proofs.Valid.{Listed}
 use Rattle.rules.specs.Lists.{joinHub, joinReady, leave, queued, unqueue}
-use Rattle.rules.specs.Table.{Hub, Layout, Sized, State, Task, hub, noHub, one, readyAt, setHub, setReady, setTask, task, waitsAt, words}
+use Rattle.rules.specs.Table.{Hub, Layout, State, Task, hub, noHub, readyAt, setHub, setReady, setTask, task, taskSize, taskWords, waitsAt, words}
 use borrow.Author.Tests.{eq-eqb, ltb-false, ltb-true, ne-eqb}
 use borrow.Rule.Slice.PartMut.{midOf, putMid}
 use lib.Dec.{ltb}
@@ -39,24 +41,24 @@ list-place {whole = whole} {at = at} c ks xs t p a n ea en fits et =
     let part : midOf at 16 (whole xs) ≡ entries 16 xs = cut-part c xs 16 (length-entries 16 xs) in
     rw (ea, en, et, part) (place-entries ks p 16 xs fits)
 
-module _ (L : Layout) (s : State) (z : Sized L) (t ys : List ℕ) (a n : ℕ) (many : n ≡ 16) (w : t ≡ words L s) where
+module _ {ts : ℕ} (L : Layout) (s : State) (y : Laid ts L) (t ys : List ℕ) (a n : ℕ) (many : n ≡ 16) (w : t ≡ words L s) where
   module _ (at : a ≡ readyAt L) where
     pub join-ready : (ks : List ℕ) (i : ℕ) → ys ≡ insertAt (placeIn ks (getD ks i 0) (midOf a n t)) (suc i) (midOf a n t)
         → putMid a n t ys ≡ words L (joinReady (keyOf ks) i s)
     unfolding joinReady setReady
     join-ready ks i e =
-        list-put (cut-ready L z s) (λ l. insertAt (placeIn ks (getD ks i 0) l) (suc i) l) (s .ready) _ t ys a n at many w e
+        list-put (cut-ready L (sized y) s) (λ l. insertAt (placeIn ks (getD ks i 0) l) (suc i) l) (s .ready) _ t ys a n at many w e
         (join-entries ks i 16 (s .ready))
 
     pub place-ready : (ks : List ℕ) (p : ℕ) → length (s .ready) ≤ 16 → placeIn ks p (midOf a n t) ≡ placeOf (keyOf ks) p (s .ready)
     unfolding setReady
-    place-ready ks p fits = list-place (cut-ready L z s) ks (s .ready) t p a n at many fits w
+    place-ready ks p fits = list-place (cut-ready L (sized y) s) ks (s .ready) t p a n at many fits w
 
     pub leave-ready : (i : ℕ) → length (s .ready) ≤ 16 → occ i (s .ready) ≤ 1
         → ys ≡ removeAt (indexOf (suc i) (midOf a n t)) (midOf a n t) → putMid a n t ys ≡ words L (setReady (without i (s .ready)) s)
     unfolding setReady
     leave-ready i room once e =
-        list-put (cut-ready L z s) (λ l. removeAt (indexOf (suc i) l) l) (s .ready) _ t ys a n at many w e
+        list-put (cut-ready L (sized y) s) (λ l. removeAt (indexOf (suc i) l) l) (s .ready) _ t ys a n at many w e
         (leave-entries i 16 (s .ready) room once)
 
   module _ (h : ℕ) (low : h < 16) (used : h < length (s .hubs)) (at : a ≡ waitsAt L + h * 16) where
@@ -68,45 +70,60 @@ module _ (L : Layout) (s : State) (z : Sized L) (t ys : List ℕ) (a n : ℕ) (m
         → putMid a n t ys ≡ words L (joinHub (keyOf ks) h i s)
     unfolding joinHub
     join-hub ks i e =
-        list-put (cut-waiters L z s h low used (hub s h)) (λ l. insertAt (placeIn ks (getD ks i 0) l) (suc i) l) (hub s h .waiters) _ t ys a n at many same e
+        list-put (cut-waiters L (sized y) s h low used (hub s h)) (λ l. insertAt (placeIn ks (getD ks i 0) l) (suc i) l) (hub s h .waiters) _ t ys a n at many same e
         (join-entries ks i 16 (hub s h .waiters))
 
     pub place-hub : (ks : List ℕ) (p : ℕ) → length (hub s h .waiters) ≤ 16 → placeIn ks p (midOf a n t) ≡ placeOf (keyOf ks) p (hub s h .waiters)
-    place-hub ks p fits = list-place (cut-waiters L z s h low used (hub s h)) ks (hub s h .waiters) t p a n at many fits same
+    place-hub ks p fits = list-place (cut-waiters L (sized y) s h low used (hub s h)) ks (hub s h .waiters) t p a n at many fits same
 
     pub leave-hub : (i : ℕ) → length (hub s h .waiters) ≤ 16 → occ i (hub s h .waiters) ≤ 1
         → ys ≡ removeAt (indexOf (suc i) (midOf a n t)) (midOf a n t)
         → putMid a n t ys ≡ words L (setHub h (queued (without i (hub s h .waiters)) (hub s h)) s)
     leave-hub i room once e =
-        list-put (cut-waiters L z s h low used (hub s h)) (λ l. removeAt (indexOf (suc i) l) l) (hub s h .waiters) _ t ys a n at many same e
+        list-put (cut-waiters L (sized y) s h low used (hub s h)) (λ l. removeAt (indexOf (suc i) l) l) (hub s h .waiters) _ t ys a n at many same e
         (leave-entries i 16 (hub s h .waiters) room once)
 
 -- ---- a task record is read and written
 
-module _ (s : State) (fits : length (s .tasks) ≤ 16) (i : ℕ) (used : i < length (s .tasks)) where
-  word : (k : ℕ) → k < 8 → getD (words one s) (8 + i * 8 + k) 0 ≡ getD (one .taskWords (task s i)) k 0
-  word k h = task-word one one-sized s i k (omega arith) used h
+module _ {ts : ℕ} (L : Layout) (s : State) (y : Laid ts L) (fits : length (s .tasks) ≤ 16) (i : ℕ) (used : i < length (s .tasks)) where
+  word : (k : ℕ) → k < ts → getD (words L s) (8 + i * ts + k) 0 ≡ getD (taskWords L (task s i)) k 0
+  word k h = rw (y .size) (task-word L (sized y) s i k (omega arith) used (rw (y .size) at h))
 
-  pub record-read : taskOf (taskAt 8 (words one s) i) ≡ task s i
-  unfolding taskAt
-  record-read =
-      let first : getD (words one s) (8 + i * 8) 0 ≡ task s i .state = rw add-zero at (word 0 (omega arith)) in
-      λ j. record {
-        state = first j;
-        suspended = word 1 (omega arith) j;
-        priority = word 2 (omega arith) j;
-        hub = word 3 (omega arith) j;
-        ticks = word 4 (omega arith) j;
-        side = word 5 (omega arith) j;
-        word = word 6 (omega arith) j;
-        answer = word 7 (omega arith) j;
-      }
+  module _ (few : ts ≤ 9) (some : 8 ≤ ts) where
+    message-read : messageAt (width ts) (words L s) (8 + i * ts + 6) ≡ task s i .word
+    message-read =
+        let at : (k : ℕ) → k < L .width → getD (words L s) (8 + i * ts + 6 + k) 0 ≡ getD (L .message (task s i .word)) k 0 =
+        λ k h. let e : 8 + i * ts + 6 + k ≡ 8 + i * ts + (6 + k) = omega arith in
+        ap (λ (p : ℕ). getD (words L s) p 0) e ∙ word (6 + k) (omega (arith, y .size)) ∙ message-word L (y .long) (task s i) k h in
+        rw (wide y) (sym (y .reads (words L s) (8 + i * ts + 6)) ∙ y .back (task s i .word) (λ k. getD (words L s) (8 + i * ts + 6 + k) 0) at)
 
-  pub record-written : (x : TaskRecord) → sets (words one s) (8 + i * 8) (taskWords x) ≡ words one (setTask i (taskOf x) s)
-  unfolding taskWords
-  record-written x =
-      ap (λ (r : State). sets (words one r) (8 + i * 8) (taskWords x)) (sym (same-task s i))
-      ∙ cut-sets (cut-task one one-sized s i (omega arith) used) (task s i) (taskOf x) refl
+    answer-read : getD (words L s) (8 + i * ts + 6 + width ts) 0 ≡ task s i .answer
+    answer-read =
+        let e : 8 + i * ts + 6 + width ts ≡ 8 + i * ts + (6 + L .width) = omega (arith, y .size) in
+        ap (λ (p : ℕ). getD (words L s) p 0) e ∙ word (6 + L .width) (omega (arith, y .size)) ∙ answer-at L (y .long) (task s i)
+
+    pub record-read : taskOf (taskAt ts (words L s) i) ≡ task s i
+    unfolding taskAt
+    record-read =
+        let first : getD (words L s) (8 + i * ts) 0 ≡ task s i .state = rw add-zero at (word 0 (omega arith)) in
+        λ j. record {
+          state = first j;
+          suspended = word 1 (omega arith) j;
+          priority = word 2 (omega arith) j;
+          hub = word 3 (omega arith) j;
+          ticks = word 4 (omega arith) j;
+          side = word 5 (omega arith) j;
+          word = message-read j;
+          answer = answer-read j;
+        }
+
+    pub record-written : (x : TaskRecord) → x .word < messages (width ts) → sets (words L s) (8 + i * ts) (recordWords ts x) ≡ words L (setTask i (taskOf x) s)
+    unfolding recordWords
+    record-written x low =
+        let alike : recordWords ts x ≡ taskWords L (taskOf x) = rw (message-written y some few (x .word) low) in
+        rw (alike, y .size)
+        (ap (λ (r : State). sets (words L r) (8 + i * taskSize L) (taskWords L (taskOf x))) (sym (same-task s i))
+        ∙ cut-sets (cut-task L (sized y) s i (omega arith) used) (task s i) (taskOf x) (sized y .task (task s i) ∙ sym (sized y .task (taskOf x))))
 
 -- ---- leaving every list is leaving the one list in which the task stands
 
@@ -149,18 +166,18 @@ module _ (s : State) (l : Listed s) (i : ℕ) where
       rw (without-none i (s .ready) (not-listed (λ g. omega (arith, e, g))), one-leaves i (s .hubs) h used (λ k n. not-there k (λ g. n (omega (arith, f, g))))) refl
 
 -- the list that `leave_list` picks by the task's record, and what it may rest on
-module _ (s : State) (sound : Sound s) (i : ℕ) (x : TaskRecord) (e : taskOf x ≡ task s i) where
+module _ (L : Layout) (s : State) (sound : Sound s) (i : ℕ) (x : TaskRecord) (e : taskOf x ≡ task s i) where
   state-is : x .state ≡ task s i .state
   state-is = ap (λ (r : Task). r .state) e
 
   hub-is : x .hub ≡ task s i .hub
   hub-is = ap (λ (r : Task). r .hub) e
 
-  pub by-ready : x .state ≡ 2 → words one (setReady (without i (s .ready)) s) ≡ words one (leave i s)
-  by-ready q = ap (words one) (sym (leave-listed s (sound .listed) i (sym state-is ∙ q)))
+  pub by-ready : x .state ≡ 2 → words L (setReady (without i (s .ready)) s) ≡ words L (leave i s)
+  by-ready q = ap (words L) (sym (leave-listed s (sound .listed) i (sym state-is ∙ q)))
 
-  pub by-none : (x .state ≡ 2 → ⊥) → (x .state ≡ 3 → ⊥) → words one s ≡ words one (leave i s)
-  by-none n m = ap (words one) (sym (leave-none s (sound .listed) i (λ q. n (state-is ∙ q)) (not-queued s (sound .listed) i (λ q. m (state-is ∙ q)))))
+  pub by-none : (x .state ≡ 2 → ⊥) → (x .state ≡ 3 → ⊥) → words L s ≡ words L (leave i s)
+  by-none n m = ap (words L) (sym (leave-none s (sound .listed) i (λ q. n (state-is ∙ q)) (not-queued s (sound .listed) i (λ q. m (state-is ∙ q)))))
 
   -- a waiting task's hub is in use, since it stands in its list
   module _ (q : x .state ≡ 3) (k : ℕ) (at : x .hub ≡ suc k) where
@@ -172,9 +189,9 @@ module _ (s : State) (sound : Sound s) (i : ℕ) (x : TaskRecord) (e : taskOf x 
         let here : occ i (hub s k .waiters) ≡ 1 = rw (sound .listed .waiters k i, eq-eqb (task s i .state) 3 (sym state-is ∙ q), eq-eqb (task s i .hub) (suc k) (sym hub-is ∙ at)) refl in
         omega arith))
 
-    pub by-hub : words one (setHub k (queued (without i (hub s k .waiters)) (hub s k)) s) ≡ words one (leave i s)
+    pub by-hub : words L (setHub k (queued (without i (hub s k .waiters)) (hub s k)) s) ≡ words L (leave i s)
     unfolding unqueue
-    by-hub = ap (words one) (sym (leave-queued s (sound .listed) i k hub-used (sym state-is ∙ q) (sym hub-is ∙ at)))
+    by-hub = ap (words L) (sym (leave-queued s (sound .listed) i k hub-used (sym state-is ∙ q) (sym hub-is ∙ at)))
 
-  pub by-nowhere : x .hub ≡ 0 → (x .state ≡ 2 → ⊥) → words one s ≡ words one (leave i s)
-  by-nowhere z n = ap (words one) (sym (leave-none s (sound .listed) i (λ q. n (state-is ∙ q)) (λ h. not-there s (sound .listed) i h (λ g. omega (arith, z, hub-is, g)))))
+  pub by-nowhere : x .hub ≡ 0 → (x .state ≡ 2 → ⊥) → words L s ≡ words L (leave i s)
+  by-nowhere z n = ap (words L) (sym (leave-none s (sound .listed) i (λ q. n (state-is ∙ q)) (λ h. not-there s (sound .listed) i h (λ g. omega (arith, z, hub-is, g)))))

@@ -2,10 +2,13 @@
 -- a move rests on.
 use Prim.Native.Nat.{_<_, _≤_, ℕ}
 use Rattle.lists.specs.Lists.{placeOf}
+use Rattle.messages.specs.Messages.{messages}
+use Rattle.records.specs.Records.{width}
 use Rattle.records.specs.declared.TaskRecord.{TaskRecord}
+use Rattle.rules.proofs.Layouts.{Laid}
 use Rattle.rules.proofs.Valid.{Listed}
 use Rattle.rules.specs.Lists.{joinHub, joinReady}
-use Rattle.rules.specs.Table.{Layout, Sized, State, Task, hub, words}
+use Rattle.rules.specs.Table.{Layout, State, Task, hub, task, words}
 use lib.ListN.{getD, length}
 use mathlib.Core.List.{List}
 use mathlib.Core.Path.{_≡_}
@@ -23,6 +26,11 @@ taskOf x = record {
   answer = x .answer;
 }
 
+-- the record of task i, read from a table t: its message is one of the edition's
+pub record TaskHeld (ts i : ℕ) (t : List ℕ) (r : TaskRecord) : Type 0 where
+  pub low : r .word < messages (width ts)
+  pub value : (L : Layout) (s : State) → Laid ts L → length (s .tasks) ≤ 16 → i < length (s .tasks) → t ≡ words L s → taskOf r ≡ task s i
+
 -- the key of each task, where a list holds them
 abbrev pub keyOf : List ℕ → ℕ → ℕ
 keyOf ks j = getD ks j 0
@@ -30,15 +38,15 @@ keyOf ks j = getD ks j 0
 -- task i has joined the ready list of a table t, whose task records have ts words: the table afterwards, and the place that
 -- it took, which is how many stand before it
 pub record JoinsReady (ts : ℕ) (ks : List ℕ) (i : ℕ) (t : List ℕ) (k : ℕ) (t′ : List ℕ) : Type 0 where
-  pub table : (L : Layout) (s : State) → Sized L → ts ≡ L .taskSize → t ≡ words L s → t′ ≡ words L (joinReady (keyOf ks) i s)
-  pub place : (L : Layout) (s : State) → Sized L → ts ≡ L .taskSize → length (s .ready) ≤ 16 → t ≡ words L s
+  pub table : (L : Layout) (s : State) → Laid ts L → t ≡ words L s → t′ ≡ words L (joinReady (keyOf ks) i s)
+  pub place : (L : Layout) (s : State) → Laid ts L → length (s .ready) ≤ 16 → t ≡ words L s
       → k ≡ placeOf (keyOf ks) (keyOf ks i) (s .ready)
 
 -- the same of hub h's list
 pub record JoinsHub (ts : ℕ) (ks : List ℕ) (h i : ℕ) (t : List ℕ) (k : ℕ) (t′ : List ℕ) : Type 0 where
-  pub table : (L : Layout) (s : State) → Sized L → ts ≡ L .taskSize → h < length (s .hubs) → t ≡ words L s
+  pub table : (L : Layout) (s : State) → Laid ts L → h < length (s .hubs) → t ≡ words L s
       → t′ ≡ words L (joinHub (keyOf ks) h i s)
-  pub place : (L : Layout) (s : State) → Sized L → ts ≡ L .taskSize → h < length (s .hubs) → length (hub s h .waiters) ≤ 16 → t ≡ words L s
+  pub place : (L : Layout) (s : State) → Laid ts L → h < length (s .hubs) → length (hub s h .waiters) ≤ 16 → t ≡ words L s
       → k ≡ placeOf (keyOf ks) (keyOf ks i) (hub s h .waiters)
 
 -- every task stands in the list that its record says, and nowhere else

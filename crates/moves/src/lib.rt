@@ -5,18 +5,20 @@ use records::HubNo;
 use records::TaskNo;
 use records::TaskRecord;
 ghost use Prim.Native.Nat.{_*_, _+_, _<_, _≤_};
-ghost use Rattle.moves.specs.Moves.{JoinsHub, JoinsReady, Sound, keyOf, taskOf};
+ghost use Rattle.messages.specs.Messages.{messages};
+ghost use Rattle.moves.specs.Moves.{JoinsHub, JoinsReady, Sound, TaskHeld, keyOf, taskOf};
+ghost use Rattle.records.specs.Records.{Table, width};
+ghost use Rattle.rules.proofs.Layouts.{Laid};
 ghost use Rattle.rules.specs.Lists.{answer, leave, queued, readied, wake};
-ghost use Rattle.rules.specs.Table.{Layout, Sized, State, hub, one, setHub, setReady, setTask, task, words};
+ghost use Rattle.rules.specs.Table.{Layout, State, hub, setHub, setReady, setTask, task, words};
 ghost use Rattle.lists.specs.Lists.{occ, without};
 ghost use lib.ListN.{length};
 ghost use mathlib.Core.Path.{_≡_};
 
 // Task i joins the ready list by its key, and its place is what comes back; ts is the number of words in a task record.
 pub fn join_ready(t: &mut [u32], ts: usize, keys: &[u32], i: TaskNo) -> usize
-    requires { ⌜ ts ≤ 9 ⌝ }
+    requires { ⌜ Table ts (now t) ⌝ }
     requires { ⌜ i .0 < 16 ⌝ }
-    requires { ⌜ 8 + 16 * ts + 80 ≤ length (now t) ⌝ }
     ensures { λ r. ⌜ JoinsReady ts (now (keys .entry)) (i .0) (now (t .entry)) r (now (t .exit)) ⌝ }
 {
     let n = i.0;
@@ -26,10 +28,9 @@ pub fn join_ready(t: &mut [u32], ts: usize, keys: &[u32], i: TaskNo) -> usize
 
 // Task i joins hub h's list by its key, and its place is what comes back.
 pub fn join_hub(t: &mut [u32], ts: usize, keys: &[u32], h: HubNo, i: TaskNo) -> usize
-    requires { ⌜ ts ≤ 9 ⌝ }
+    requires { ⌜ Table ts (now t) ⌝ }
     requires { ⌜ h .0 < 16 ⌝ }
     requires { ⌜ i .0 < 16 ⌝ }
-    requires { ⌜ 8 + 16 * ts + 336 ≤ length (now t) ⌝ }
     ensures { λ r. ⌜ JoinsHub ts (now (keys .entry)) (h .0) (i .0) (now (t .entry)) r (now (t .exit)) ⌝ }
 {
     let n = i.0;
@@ -39,10 +40,9 @@ pub fn join_hub(t: &mut [u32], ts: usize, keys: &[u32], h: HubNo, i: TaskNo) -> 
 
 // Task i leaves the ready list, in which it stands at most once.
 fn leave_ready(t: &mut [u32], ts: usize, i: TaskNo)
-    requires { ⌜ ts ≤ 9 ⌝ }
+    requires { ⌜ Table ts (now t) ⌝ }
     requires { ⌜ i .0 < 16 ⌝ }
-    requires { ⌜ 8 + 16 * ts + 80 ≤ length (now t) ⌝ }
-    ensures { λ _. ⌜ ((L : Layout) (s : State) → Sized L → ts ≡ L .taskSize → length (s .ready) ≤ 16
+    ensures { λ _. ⌜ ((L : Layout) (s : State) → Laid ts L → length (s .ready) ≤ 16
         → occ (i .0) (s .ready) ≤ 1 → now (t .entry) ≡ words L s
         → now (t .exit) ≡ words L (setReady (without (i .0) (s .ready)) s)) ⌝ }
 {
@@ -53,11 +53,10 @@ fn leave_ready(t: &mut [u32], ts: usize, i: TaskNo)
 
 // Task i leaves hub h's list, in which it stands at most once.
 fn leave_hub(t: &mut [u32], ts: usize, h: HubNo, i: TaskNo)
-    requires { ⌜ ts ≤ 9 ⌝ }
+    requires { ⌜ Table ts (now t) ⌝ }
     requires { ⌜ h .0 < 16 ⌝ }
     requires { ⌜ i .0 < 16 ⌝ }
-    requires { ⌜ 8 + 16 * ts + 336 ≤ length (now t) ⌝ }
-    ensures { λ _. ⌜ ((L : Layout) (s : State) → Sized L → ts ≡ L .taskSize → h .0 < length (s .hubs)
+    ensures { λ _. ⌜ ((L : Layout) (s : State) → Laid ts L → h .0 < length (s .hubs)
         → length (hub s (h .0) .waiters) ≤ 16 → occ (i .0) (hub s (h .0) .waiters) ≤ 1 → now (t .entry) ≡ words L s
         → now (t .exit) ≡ words L (setHub (h .0) (queued (without (i .0) (hub s (h .0) .waiters)) (hub s (h .0))) s)) ⌝ }
 {
@@ -67,55 +66,63 @@ fn leave_hub(t: &mut [u32], ts: usize, h: HubNo, i: TaskNo)
 }
 
 // The record of task i.
-pub fn task_at(t: &[u32], i: TaskNo) -> TaskRecord
+pub fn task_at(t: &[u32], ts: usize, i: TaskNo) -> TaskRecord
+    requires { ⌜ Table ts (now t) ⌝ }
     requires { ⌜ i .0 ≤ 4294967295 ⌝ }
-    ensures { λ r. ⌜ ((s : State) → length (s .tasks) ≤ 16 → i .0 < length (s .tasks) → now (t .entry) ≡ words one s
-        → taskOf r ≡ task s (i .0)) ⌝ }
+    ensures { λ r. ⌜ TaskHeld ts (i .0) (now (t .entry)) r ⌝ }
 {
-    records::task(t, records::TASK_SIZE, i)
+    records::task(t, ts, i)
 }
 
 // The record of task i, written.
-pub fn set_task(t: &mut [u32], i: TaskNo, x: TaskRecord)
+pub fn set_task(t: &mut [u32], ts: usize, i: TaskNo, x: TaskRecord)
+    requires { ⌜ Table ts (now t) ⌝ }
     requires { ⌜ i .0 ≤ 4294967295 ⌝ }
-    ensures { λ _. ⌜ ((s : State) → length (s .tasks) ≤ 16 → i .0 < length (s .tasks) → now (t .entry) ≡ words one s
-        → now (t .exit) ≡ words one (setTask (i .0) (taskOf x) s)) ⌝ }
+    requires { ⌜ x .word < messages (width ts) ⌝ }
+    ensures { λ _. ⌜ ((L : Layout) (s : State) → Laid ts L → length (s .tasks) ≤ 16 → i .0 < length (s .tasks)
+        → now (t .entry) ≡ words L s
+        → now (t .exit) ≡ words L (setTask (i .0) (taskOf x) s)) ⌝ }
 {
-    records::set_task(t, records::TASK_SIZE, i, x);
+    records::set_task(t, ts, i, x);
 }
 
 // "taken from any list": a ready task stands in the ready list, a waiting one in the list of its hub, any other in none.
-pub fn leave_list(t: &mut [u32], i: TaskNo)
+pub fn leave_list(t: &mut [u32], ts: usize, i: TaskNo)
+    requires { ⌜ Table ts (now t) ⌝ }
     requires { ⌜ i .0 < 16 ⌝ }
-    requires { ⌜ length (now t) ≡ 600 ⌝ }
-    ensures { λ _. ⌜ ((s : State) → Sound s → i .0 < length (s .tasks) → now (t .entry) ≡ words one s
-        → now (t .exit) ≡ words one (leave (i .0) s)) ⌝ }
+    ensures { λ _. ⌜ ((L : Layout) (s : State) → Laid ts L → Sound s → i .0 < length (s .tasks)
+        → now (t .entry) ≡ words L s
+        → now (t .exit) ≡ words L (leave (i .0) s)) ⌝ }
 {
-    let x = task_at(&*t, i);
+    let x = task_at(&*t, ts, i);
     let state = x.state;
     let hub = x.hub;
     if state == rules::READY {
-        leave_ready(t, records::TASK_SIZE, i);
+        leave_ready(t, ts, i);
         return;
     }
     if state == rules::WAITING {
         if 1 <= hub {
             if hub <= 16 {
-                leave_hub(t, records::TASK_SIZE, HubNo((hub - 1) as usize), i);
+                leave_hub(t, ts, HubNo((hub - 1) as usize), i);
             }
         }
     }
 }
 
 // Task i gets an answer and a word.
-pub fn give_answer(t: &mut [u32], i: TaskNo, a: u32, w: u32)
+pub fn give_answer(t: &mut [u32], ts: usize, i: TaskNo, a: u32, w: u64)
+    requires { ⌜ Table ts (now t) ⌝ }
     requires { ⌜ i .0 < 16 ⌝ }
-    ensures { λ _. ⌜ ((s : State) → length (s .tasks) ≤ 16 → i .0 < length (s .tasks) → now (t .entry) ≡ words one s
-        → now (t .exit) ≡ words one (answer (i .0) a w s)) ⌝ }
+    requires { ⌜ w < messages (width ts) ⌝ }
+    ensures { λ _. ⌜ ((L : Layout) (s : State) → Laid ts L → length (s .tasks) ≤ 16 → i .0 < length (s .tasks)
+        → now (t .entry) ≡ words L s
+        → now (t .exit) ≡ words L (answer (i .0) a w s)) ⌝ }
 {
-    let x = task_at(&*t, i);
+    let x = task_at(&*t, ts, i);
     set_task(
         t,
+        ts,
         i,
         TaskRecord {
             state: x.state,
@@ -131,14 +138,18 @@ pub fn give_answer(t: &mut [u32], i: TaskNo, a: u32, w: u32)
 }
 
 // Task i's record becomes a ready one. It does not stand in the ready list yet.
-pub fn make_ready(t: &mut [u32], i: TaskNo, a: u32, w: u32)
+pub fn make_ready(t: &mut [u32], ts: usize, i: TaskNo, a: u32, w: u64)
+    requires { ⌜ Table ts (now t) ⌝ }
     requires { ⌜ i .0 < 16 ⌝ }
-    ensures { λ _. ⌜ ((s : State) → length (s .tasks) ≤ 16 → i .0 < length (s .tasks) → now (t .entry) ≡ words one s
-        → now (t .exit) ≡ words one (setTask (i .0) (readied a w (task s (i .0))) s)) ⌝ }
+    requires { ⌜ w < messages (width ts) ⌝ }
+    ensures { λ _. ⌜ ((L : Layout) (s : State) → Laid ts L → length (s .tasks) ≤ 16 → i .0 < length (s .tasks)
+        → now (t .entry) ≡ words L s
+        → now (t .exit) ≡ words L (setTask (i .0) (readied a w (task s (i .0))) s)) ⌝ }
 {
-    let x = task_at(&*t, i);
+    let x = task_at(&*t, ts, i);
     set_task(
         t,
+        ts,
         i,
         TaskRecord {
             state: rules::READY,
@@ -154,13 +165,15 @@ pub fn make_ready(t: &mut [u32], i: TaskNo, a: u32, w: u32)
 }
 
 // A waiter or sleeper leaves its list and becomes ready behind its equals with this answer and word.
-pub fn wake_task(t: &mut [u32], keys: &[u32], i: TaskNo, a: u32, w: u32)
+pub fn wake_task(t: &mut [u32], ts: usize, keys: &[u32], i: TaskNo, a: u32, w: u64)
+    requires { ⌜ Table ts (now t) ⌝ }
     requires { ⌜ i .0 < 16 ⌝ }
-    requires { ⌜ length (now t) ≡ 600 ⌝ }
-    ensures { λ _. ⌜ ((s : State) → Sound s → i .0 < length (s .tasks) → now (t .entry) ≡ words one s
-        → now (t .exit) ≡ words one (wake (keyOf (now (keys .entry))) (i .0) a w s)) ⌝ }
+    requires { ⌜ w < messages (width ts) ⌝ }
+    ensures { λ _. ⌜ ((L : Layout) (s : State) → Laid ts L → Sound s → i .0 < length (s .tasks)
+        → now (t .entry) ≡ words L s
+        → now (t .exit) ≡ words L (wake (keyOf (now (keys .entry))) (i .0) a w s)) ⌝ }
 {
-    leave_list(t, i);
-    make_ready(t, i, a, w);
-    join_ready(t, records::TASK_SIZE, keys, i);
+    leave_list(t, ts, i);
+    make_ready(t, ts, i, a, w);
+    join_ready(t, ts, keys, i);
 }

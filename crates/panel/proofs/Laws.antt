@@ -6,8 +6,8 @@ use Rattle.bytes4.specs.Bytes.{Packed, Unpacked}
 use Rattle.panel.specs.Edge.{Called, edgeAfter, edgeReply, edgeSummary, numbersOf, summaryNumbersOf, tableBytes}
 use Rattle.panel.specs.declared.HubKernelReply.{HubKernelReply}
 use Rattle.panel.specs.declared.HubKernelSummaryReply.{HubKernelSummaryReply}
-use Rattle.rules.specs.Reply.{refusalNumber, replyBy, replyTo, summaryOf, tableAfter, tableBy}
-use Rattle.rules.specs.Table.{State}
+use Rattle.rules.specs.Reply.{refusalNumber, replyBy, replyIn, replyTo, summaryOf, tableAfter, tableBy, tableIn}
+use Rattle.rules.specs.Table.{State, one}
 use Rattle.rules.specs.declared.Call.{Call}
 use Rattle.rules.specs.declared.Reply.{Reply}
 use Rattle.rules.specs.declared.Summary.{Summary}
@@ -18,13 +18,13 @@ use mathlib.Core.Path.{_≡_, refl, sym}
 
 -- ---- "no word of the table changes" where the reply bears a refusal
 
-refused-keeps-by : (n : ℕ) (t : List ℕ) (s : State) (c : Call) → (refusalNumber (replyBy n s c .answer) ≡ 0 → ⊥) → tableBy n t s ≡ t
+refused-keeps-by : (n : ℕ) (t : List ℕ) (s : State) (c : Call) → (refusalNumber (replyBy n s c .answer) ≡ 0 → ⊥) → tableBy one n t s ≡ t
 unfolding replyBy tableBy
 refused-keeps-by zero t s c r = absurd (r refl)
 refused-keeps-by (suc n) t s c r = refl
 
 refused-keeps : (t : List ℕ) (c : Call) → (refusalNumber (replyTo t c .answer) ≡ 0 → ⊥) → tableAfter t c ≡ t
-unfolding replyTo tableAfter
+unfolding replyIn tableIn
 refused-keeps t c r = refused-keeps-by _ t _ c r
 
 -- ---- the ways out of a call

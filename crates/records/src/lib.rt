@@ -1,45 +1,37 @@
-// The table's words by name: where each body stands in edition 1, the two kinds of number, and a record's words read and
-// written, in a lent slice of any length. Where a record stands and how many words it has are parameters of each function,
-// and what lies past the end reads as 0 and is not written.
+// The table's words by name: where each body stands, the two kinds of number, and a record's words read and written, in a
+// lent slice of any length. What an edition fixes follows from one value, the number of words in a task record: `ts`, 8 in
+// edition 1. What lies past the end of a slice reads as 0 and is not written.
 // Not here: what the words of a record mean (crate rules), and which records are in use.
-ghost use Prim.Native.Nat.{_*_, _+_, _≤_};
-ghost use Rattle.records.specs.Records.{RecordAt, hubAt, hubWords, taskAt, taskWords};
+ghost use Prim.Native.Nat.{_*_, _+_, _-_, _<_, _≤_};
+ghost use Rattle.records.specs.Records.{RecordAt, RowAt, TaskRead, hubAt, hubWords, hubsAt, readyAt, storeSize, storesAt, tableSize, taskWords, waitsAt, width};
 ghost use lib.ListN.{getD, set};
 ghost use lib.Seq.{sets};
 ghost use mathlib.Core.Path.{_≡_};
 
-// "The table is a lent slice of exactly 600 words"
+// "The table is a lent slice of exactly 600 words", and its task records have 8: edition 1
 pub const TABLE_SIZE: usize = 600;
+
+pub const TASK_SIZE: usize = 8;
 
 // "contents: edition 1, tasks T, hubs H": the words that hold T and H
 pub const TASKS: usize = 1;
 
 pub const HUBS: usize = 2;
 
-// "then where each body starts"
+// "then where each body starts": the task records first, right behind the contents; the functions below have the others
 pub const TASKS_AT: usize = 8;
 
-pub const HUBS_AT: usize = 136;
-
-pub const READY_AT: usize = 200;
-
-pub const WAITS_AT: usize = 216;
-
-pub const STORES_AT: usize = 472;
-
-// How many words a task record, a hub record, a list and a store have.
-pub const TASK_SIZE: usize = 8;
-
+// How many words a hub record and a list have, and how many messages a store.
 pub const HUB_SIZE: usize = 4;
 
 pub const LIST_SIZE: usize = 16;
 
-pub const STORE_SIZE: usize = 8;
+pub const STORE_MESSAGES: usize = 8;
 
 // "16 task records", and as many hub records
 pub const MOST_RECORDS: u32 = 16;
 
-// The words of a task record, in the paper's order.
+// The words of a task record, in the paper's order; the answer stands behind the message.
 pub const STATE: usize = 0;
 
 pub const SUSPENDED: usize = 1;
@@ -53,8 +45,6 @@ pub const TICKS: usize = 4;
 pub const SIDE: usize = 5;
 
 pub const WORD: usize = 6;
-
-pub const ANSWER: usize = 7;
 
 // And those of a hub record.
 pub const KIND: usize = 0;
@@ -70,7 +60,7 @@ pub struct TaskNo(pub usize);
 
 pub struct HubNo(pub usize);
 
-// The "Task record", a word for each field, in the paper's order.
+// The "Task record", in the paper's order: a word for each field but the message, which is one number whatever the edition.
 pub struct TaskRecord {
     pub state: u32,
     pub suspended: u32,
@@ -78,7 +68,7 @@ pub struct TaskRecord {
     pub hub: u32,
     pub ticks: u32,
     pub side: u32,
-    pub word: u32,
+    pub word: u64,
     pub answer: u32,
 }
 
@@ -90,15 +80,6 @@ pub struct HubRecord {
     pub start: u32,
 }
 
-// v at word p. Past the end nothing changes, so that no caller has to know the length.
-fn set_word(t: &mut [u32], p: usize, v: u32)
-    ensures { λ _. ⌜ now (t .exit) ≡ set (now (t .entry)) p v ⌝ }
-{
-    if p < t.len() {
-        t[p] = v;
-    }
-}
-
 // The words from word p on.
 fn set_words(t: &mut [u32], p: usize, words: &[u32])
     requires { ⌜ p ≤ 281474976710655 ⌝ }
@@ -106,7 +87,7 @@ fn set_words(t: &mut [u32], p: usize, words: &[u32])
 {
     let mut k = 0;
     while k < words.len() {
-        set_word(t, p + k, words[k]);
+        lists::set_word(t, p + k, words[k]);
         k += 1;
     }
 }
@@ -121,22 +102,93 @@ fn record_at(at: usize, size: usize, i: usize) -> usize
     at + i * size
 }
 
-// Where the ready list starts, behind the contents, 16 task records of `size` words and 16 hub records.
-pub fn ready_at(size: usize) -> usize
-    requires { ⌜ size ≤ 65535 ⌝ }
-    ensures { λ r. ⌜ r ≡ 8 + 16 * size + 64 ⌝ }
+// How many words a message has: as many as its edition's number says. The other seven words of a task record have one each.
+pub fn width_of(ts: usize) -> usize
+    requires { ⌜ 8 ≤ ts ⌝ }
+    ensures { λ r. ⌜ r ≡ width ts ⌝ }
 {
-    TASKS_AT + 16 * size + 16 * HUB_SIZE
+    ts - 7
+}
+
+// Where the hub records start, behind the contents and 16 task records.
+pub fn hubs_at(ts: usize) -> usize
+    requires { ⌜ ts ≤ 9 ⌝ }
+    ensures { λ r. ⌜ r ≡ hubsAt ts ⌝ }
+{
+    TASKS_AT + 16 * ts
+}
+
+// Where the ready list starts, behind 16 hub records.
+pub fn ready_at(ts: usize) -> usize
+    requires { ⌜ ts ≤ 9 ⌝ }
+    ensures { λ r. ⌜ r ≡ readyAt ts ⌝ }
+{
+    hubs_at(ts) + 16 * HUB_SIZE
 }
 
 // Where hub h's waiting list starts: they follow the ready list.
-pub fn waits_at(size: usize, h: HubNo) -> usize
-    requires { ⌜ size ≤ 65535 ⌝ }
+pub fn waits_at(ts: usize, h: HubNo) -> usize
+    requires { ⌜ ts ≤ 9 ⌝ }
     requires { ⌜ h .0 ≤ 4294967295 ⌝ }
-    ensures { λ r. ⌜ r ≡ 8 + 16 * size + 80 + h .0 * 16 ⌝ }
+    ensures { λ r. ⌜ r ≡ waitsAt ts + h .0 * 16 ⌝ }
 {
     let n = h.0;
-    ready_at(size) + LIST_SIZE + n * LIST_SIZE
+    ready_at(ts) + LIST_SIZE + n * LIST_SIZE
+}
+
+// Where the stores start, behind 16 waiting lists.
+pub fn stores_at(ts: usize) -> usize
+    requires { ⌜ ts ≤ 9 ⌝ }
+    ensures { λ r. ⌜ r ≡ storesAt ts ⌝ }
+{
+    waits_at(ts, HubNo(16))
+}
+
+// How many words a store has.
+pub fn store_size(ts: usize) -> usize
+    requires { ⌜ 8 ≤ ts ⌝ }
+    requires { ⌜ ts ≤ 9 ⌝ }
+    ensures { λ r. ⌜ r ≡ storeSize ts ⌝ }
+{
+    STORE_MESSAGES * width_of(ts)
+}
+
+// How many words a table has.
+pub fn table_size(ts: usize) -> usize
+    requires { ⌜ 8 ≤ ts ⌝ }
+    requires { ⌜ ts ≤ 9 ⌝ }
+    ensures { λ r. ⌜ r ≡ tableSize ts ⌝ }
+{
+    stores_at(ts) + 16 * store_size(ts)
+}
+
+// Where the i-th of 16 records of `size` words starts, if the first starts at word `at`.
+fn row_at(at: usize, size: usize, i: usize) -> usize
+    requires { ⌜ at ≤ 65535 ⌝ }
+    requires { ⌜ size ≤ 65535 ⌝ }
+    requires { ⌜ i < 16 ⌝ }
+    ensures { λ r. ⌜ RowAt at size i r ⌝ }
+{
+    record_at(at, size, i)
+}
+
+// Where the record of task i starts.
+pub fn task_at(ts: usize, i: TaskNo) -> usize
+    requires { ⌜ ts ≤ 9 ⌝ }
+    requires { ⌜ i .0 < 16 ⌝ }
+    ensures { λ r. ⌜ RowAt 8 ts (i .0) r ⌝ }
+{
+    row_at(TASKS_AT, ts, i.0)
+}
+
+// Where hub h's store starts.
+pub fn store_at(ts: usize, h: HubNo) -> usize
+    requires { ⌜ 8 ≤ ts ⌝ }
+    requires { ⌜ ts ≤ 9 ⌝ }
+    requires { ⌜ h .0 < 16 ⌝ }
+    ensures { λ r. ⌜ RowAt (storesAt ts) (storeSize ts) (h .0) r ⌝ }
+{
+    row_at(stores_at(ts), store_size(ts), h.0)
 }
 
 // Word f of the i-th record of `size` words, where the records start at word `at`.
@@ -151,44 +203,42 @@ pub fn field(t: &[u32], at: usize, size: usize, i: usize, f: usize) -> u32
     lists::word(t, p)
 }
 
-// The record of task i, where a task record has `size` words.
-pub fn task(t: &[u32], size: usize, i: TaskNo) -> TaskRecord
-    requires { ⌜ size ≤ 65535 ⌝ }
+// The record of task i.
+pub fn task(t: &[u32], ts: usize, i: TaskNo) -> TaskRecord
+    requires { ⌜ 8 ≤ ts ⌝ }
+    requires { ⌜ ts ≤ 9 ⌝ }
     requires { ⌜ i .0 ≤ 4294967295 ⌝ }
-    ensures { λ r. ⌜ r ≡ taskAt size (now (t .entry)) (i .0) ⌝ }
+    ensures { λ r. ⌜ TaskRead ts (now (t .entry)) (i .0) r ⌝ }
 {
     let n = i.0;
+    let w = width_of(ts);
+    let p = record_at(TASKS_AT, ts, n) + WORD;
     TaskRecord {
-        state: field(t, TASKS_AT, size, n, STATE),
-        suspended: field(t, TASKS_AT, size, n, SUSPENDED),
-        priority: field(t, TASKS_AT, size, n, PRIORITY),
-        hub: field(t, TASKS_AT, size, n, HUB),
-        ticks: field(t, TASKS_AT, size, n, TICKS),
-        side: field(t, TASKS_AT, size, n, SIDE),
-        word: field(t, TASKS_AT, size, n, WORD),
-        answer: field(t, TASKS_AT, size, n, ANSWER),
+        state: field(t, TASKS_AT, ts, n, STATE),
+        suspended: field(t, TASKS_AT, ts, n, SUSPENDED),
+        priority: field(t, TASKS_AT, ts, n, PRIORITY),
+        hub: field(t, TASKS_AT, ts, n, HUB),
+        ticks: field(t, TASKS_AT, ts, n, TICKS),
+        side: field(t, TASKS_AT, ts, n, SIDE),
+        word: messages::message(t, p, w),
+        answer: lists::word(t, p + w),
     }
 }
 
 // The record of task i, written whole.
-pub fn set_task(t: &mut [u32], size: usize, i: TaskNo, x: TaskRecord)
-    requires { ⌜ size ≤ 65535 ⌝ }
+pub fn set_task(t: &mut [u32], ts: usize, i: TaskNo, x: TaskRecord)
+    requires { ⌜ 8 ≤ ts ⌝ }
+    requires { ⌜ ts ≤ 9 ⌝ }
     requires { ⌜ i .0 ≤ 4294967295 ⌝ }
-    ensures { λ _. ⌜ now (t .exit) ≡ sets (now (t .entry)) (8 + i .0 * size) (taskWords x) ⌝ }
+    ensures { λ _. ⌜ now (t .exit) ≡ sets (now (t .entry)) (8 + i .0 * ts) (taskWords ts x) ⌝ }
 {
     let n = i.0;
-    let words = [
-        x.state,
-        x.suspended,
-        x.priority,
-        x.hub,
-        x.ticks,
-        x.side,
-        x.word,
-        x.answer,
-    ];
-    let p = record_at(TASKS_AT, size, n);
+    let w = width_of(ts);
+    let words = [x.state, x.suspended, x.priority, x.hub, x.ticks, x.side];
+    let p = record_at(TASKS_AT, ts, n);
     set_words(t, p, &words);
+    messages::set_message(t, p + WORD, w, x.word);
+    lists::set_word(t, p + WORD + w, x.answer);
 }
 
 // The record of hub h, where the hub records start at word `at`.
@@ -226,5 +276,5 @@ pub fn set_count(t: &mut [u32], at: usize, h: HubNo, count: u32)
 {
     let n = h.0;
     let p = record_at(at, HUB_SIZE, n) + COUNT;
-    set_word(t, p, count);
+    lists::set_word(t, p, count);
 }

@@ -7,10 +7,11 @@ use rules::Call;
 ghost use Prim.Native.Nat.{_≤_, suc};
 ghost use Rattle.records.specs.Records.{taskAt};
 ghost use Rattle.refusals.specs.Lookup.{foundHub, foundTask, hubsIn, tasksIn};
+ghost use Rattle.rules.proofs.Layouts.{Laid};
 ghost use Rattle.rules.proofs.Valid.{Listed, Room, Valid};
 ghost use Rattle.rules.specs.Lists.{next};
 ghost use Rattle.rules.specs.Refusals.{goodHub, goodRequest, goodWait, modeOf, need, refusal};
-ghost use Rattle.rules.specs.Table.{State, kindOf, one, words};
+ghost use Rattle.rules.specs.Table.{Layout, State, kindOf, words};
 ghost use Rattle.rules.specs.WellFormed.{within};
 ghost use lib.Dec.{eqb, leb, ltb};
 ghost use mathlib.Core.Bool.{_&&_, not};
@@ -49,25 +50,31 @@ fn find_task(t: &[u32], n: u32) -> FoundTask
 }
 
 // The flag of task i.
-fn is_suspended(t: &[u32], i: TaskNo) -> bool
+fn is_suspended(t: &[u32], ts: usize, i: TaskNo) -> bool
+    requires { ⌜ 8 ≤ ts ⌝ }
+    requires { ⌜ ts ≤ 9 ⌝ }
     requires { ⌜ i .0 ≤ 4294967295 ⌝ }
-    ensures { λ r. ⌜ r ≡ not (eqb (taskAt 8 (now (t .entry)) (i .0) .suspended) 0) ⌝ }
+    ensures { λ r. ⌜ r ≡ not (eqb (taskAt ts (now (t .entry)) (i .0) .suspended) 0) ⌝ }
 {
-    let x = records::task(t, records::TASK_SIZE, i);
+    let x = records::task(t, ts, i);
     x.suspended != 0
 }
 
 // "The running task is the first task in the ready list that isn't suspended; there may be none": plus 1, or 0.
-pub fn running(t: &[u32]) -> u32
-    ensures { λ r. ⌜ ((s : State) → Room s → Listed s → now (t .entry) ≡ words one s → r ≡ next s) ⌝ }
+pub fn running(t: &[u32], ts: usize) -> u32
+    requires { ⌜ 8 ≤ ts ⌝ }
+    requires { ⌜ ts ≤ 9 ⌝ }
+    ensures { λ r. ⌜ ((L : Layout) (s : State) → Laid ts L → Room s → Listed s → now (t .entry) ≡ words L s
+        → r ≡ next s) ⌝ }
 {
+    let at = records::ready_at(ts);
     let mut k = 0;
     while k < records::LIST_SIZE {
-        let e = lists::word(t, records::READY_AT + k);
+        let e = lists::word(t, at + k);
         if e == 0 {
             return 0;
         }
-        if !is_suspended(t, TaskNo((e - 1) as usize)) {
+        if !is_suspended(t, ts, TaskNo((e - 1) as usize)) {
             return e;
         }
         k += 1;
@@ -76,11 +83,13 @@ pub fn running(t: &[u32]) -> u32
 }
 
 // The sum is wider than a number of a call, so that no caller is taken for none.
-fn is_running(t: &[u32], caller: u32) -> bool
-    ensures { λ r. ⌜ ((s : State) → Room s → Listed s → now (t .entry) ≡ words one s
+fn is_running(t: &[u32], ts: usize, caller: u32) -> bool
+    requires { ⌜ 8 ≤ ts ⌝ }
+    requires { ⌜ ts ≤ 9 ⌝ }
+    ensures { λ r. ⌜ ((L : Layout) (s : State) → Laid ts L → Room s → Listed s → now (t .entry) ≡ words L s
         → r ≡ eqb (next s) (suc caller)) ⌝ }
 {
-    let r = running(t);
+    let r = running(t, ts);
     r as u64 == caller as u64 + 1
 }
 
@@ -191,11 +200,13 @@ fn for_add_hub(t: &[u32], c: Call) -> u32
 }
 
 // "services 1 to 7: caller isn't the running task". What a Yield asks besides is nothing.
-fn for_caller(t: &[u32], c: Call) -> u32
+fn for_caller(t: &[u32], ts: usize, c: Call) -> u32
+    requires { ⌜ 8 ≤ ts ⌝ }
+    requires { ⌜ ts ≤ 9 ⌝ }
     ensures { λ r. ⌜ (1 ≤ c .service → c .service ≤ 7
-        → (s : State) → Room s → Listed s → now (t .entry) ≡ words one s → r ≡ refusal s c) ⌝ }
+        → (L : Layout) (s : State) → Laid ts L → Room s → Listed s → now (t .entry) ≡ words L s → r ≡ refusal s c) ⌝ }
 {
-    if !is_running(t, c.caller) {
+    if !is_running(t, ts, c.caller) {
         return rules::NOT_RUNNING;
     }
     let service = c.service;
@@ -208,15 +219,18 @@ fn for_caller(t: &[u32], c: Call) -> u32
 }
 
 // A call on a table that is well formed: its refusal number, or 0. Blank and Tick are never refused here.
-pub fn for_service(t: &[u32], c: Call) -> u32
-    ensures { λ r. ⌜ ((s : State) → Valid s → Room s → now (t .entry) ≡ words one s → r ≡ refusal s c) ⌝ }
+pub fn for_service(t: &[u32], ts: usize, c: Call) -> u32
+    requires { ⌜ 8 ≤ ts ⌝ }
+    requires { ⌜ ts ≤ 9 ⌝ }
+    ensures { λ r. ⌜ ((L : Layout) (s : State) → Laid ts L → Valid s → Room s → now (t .entry) ≡ words L s
+        → r ≡ refusal s c) ⌝ }
 {
     let service = c.service;
     match service {
         rules::BLANK | rules::TICK => 0,
         rules::ADD_TASK => for_add_task(t, c),
         rules::ADD_HUB => for_add_hub(t, c),
-        rules::HUB_REQUEST..=rules::SLEEP => for_caller(t, c),
+        rules::HUB_REQUEST..=rules::SLEEP => for_caller(t, ts, c),
         _ => rules::UNKNOWN_SERVICE,
     }
 }

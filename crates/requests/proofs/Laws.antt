@@ -9,15 +9,16 @@ use Rattle.hubtable.specs.declared.Store.{Store}
 use Rattle.hubtable.specs.declared.Verdict.the-variants.{Met}
 use Rattle.lists.proofs.Counting.{occ-here}
 use Rattle.lists.proofs.Laws.{boolCase}
-use Rattle.lists.specs.Lists.{entries, occ, padded}
+use Rattle.lists.specs.Lists.{entries, occ}
 use Rattle.moves.specs.Moves.{Sound}
-use Rattle.records.specs.Records.{hubAt}
+use Rattle.records.specs.Records.{hubAt, hubsAt as hubsFrom, waitsAt as waitsFrom}
 use Rattle.requests.specs.Requests.{StoreFits}
 use Rattle.rules.proofs.Accepted.{Asked, request-tests}
 use Rattle.rules.proofs.Changes.{inUse, length-setHub}
+use Rattle.rules.proofs.Layouts.{Laid, sized}
 use Rattle.rules.proofs.Listed.{listed-answer, listed-hold}
 use Rattle.rules.proofs.Numbers.{bears-number}
-use Rattle.rules.proofs.Places.{hub-word, one-sized, store-word, wait-word}
+use Rattle.rules.proofs.Places.{hub-word, wait-word}
 use Rattle.rules.proofs.Settled.{InUse, length-answer, partners, partners-in}
 use Rattle.rules.proofs.Standing.{first-waits, listed-waits}
 use Rattle.rules.proofs.Valid.{Held, Listed, Range, Valid}
@@ -26,7 +27,7 @@ use Rattle.rules.specs.Calls.{HubRequest, hold, kept, meetAll, serve, settle, w
 use Rattle.rules.specs.HubTable.{Verdict, fail, notNow, verdict}
 use Rattle.rules.specs.Lists.{answer, firstWaiting, holding}
 use Rattle.rules.specs.Refusals.{refusalFor}
-use Rattle.rules.specs.Table.{Event, Fifo, Hub, Kind, NoKind, Port, Resource, Semaphore, State, hub, hubWords, kindOf, one, setHub, setTask, sideOf, task, words}
+use Rattle.rules.specs.Table.{Event, Fifo, Hub, Kind, Layout, NoKind, Port, Resource, Semaphore, State, hub, hubWords, kindOf, setHub, setTask, sideOf, task, words}
 use Rattle.rules.specs.declared.Call.{Call}
 use borrow.Author.Tests.{eq-eqb, eqb-false, ne-eqb}
 use lib.Dec.{eqb}
@@ -40,11 +41,11 @@ use native.Mathlib.Omega.{arith}
 
 -- ---- a hub's record, and the first entry of its list
 
-module _ (s : State) (fits : length (s .hubs) ≤ 16) (h : ℕ) (used : h < length (s .hubs)) where
-  word : (k : ℕ) → k < 4 → getD (words one s) (136 + h * 4 + k) 0 ≡ getD (hubWords (hub s h)) k 0
-  word k l = hub-word one one-sized s h (omega arith) used k l
+module _ {ts : ℕ} (L : Layout) (s : State) (y : Laid ts L) (fits : length (s .hubs) ≤ 16) (h : ℕ) (used : h < length (s .hubs)) where
+  word : (k : ℕ) → k < 4 → getD (words L s) (hubsFrom ts + h * 4 + k) 0 ≡ getD (hubWords (hub s h)) k 0
+  word k l = rw (y .size) (hub-word L (sized y) s h (omega arith) used k l)
 
-  pub hub-read : RecordOf (hubAt 136 (words one s) h) (hub s h)
+  pub hub-read : RecordOf (hubAt (hubsFrom ts) (words L s) h) (hub s h)
   unfolding hubAt
   hub-read = record {
     kind = rw add-zero at (word 0 (omega arith));
@@ -53,15 +54,8 @@ module _ (s : State) (fits : length (s .hubs) ≤ 16) (h : ℕ) (used : h < leng
     start = word 3 (omega arith);
   }
 
-  pub entry-read : getD (words one s) (216 + h * 16) 0 ≡ getD (entries 16 (hub s h .waiters)) 0 0
-  entry-read = rw add-zero at (wait-word one one-sized s h (omega arith) used 0 (omega arith))
-
-  pub oldest-read : getD (words one s) (472 + h * 8) 0 ≡ getD (hub s h .held) 0 0
-  oldest-read = rw add-zero at (store-word one one-sized s h (omega arith) used 0 (omega arith)) ∙ first-held (hub s h .held)
-    where
-      first-held : (l : List ℕ) → getD (padded 8 l) 0 0 ≡ getD l 0 0
-      first-held [] = unfold padded in refl
-      first-held (x ∷ xs) = unfold padded in refl
+  pub entry-read : getD (words L s) (waitsFrom ts + h * 16) 0 ≡ getD (entries 16 (hub s h .waiters)) 0 0
+  entry-read = rw (y .size) (rw add-zero at (wait-word L (sized y) s h (omega arith) used 0 (omega arith)))
 
 -- ---- the first waiter of a side, by the first entry e of the list
 

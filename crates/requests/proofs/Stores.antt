@@ -1,54 +1,84 @@
--- A hub's store in the words of a table: the oldest word goes, a word comes behind; what a verdict does to it; the hub once its
--- oldest word is taken. Not here: which words a verdict takes and appends (crate hubtable). Assumes nothing.
+-- A hub's store in the words of a table: where it stands; the oldest message is read, goes, and a message comes behind; what a
+-- verdict does to it; the hub once its oldest message is taken.
+-- Not here: which messages a verdict takes and appends (crate hubtable). Assumes nothing.
 use Prim.Native.Nat.{_*_, _+_, _<_, _≤_, pred, ℕ}
-use Rattle.hubtable.specs.Says.{storeAfter}
+use Rattle.hubtable.specs.Says.{StoreBelow, storeAfter}
 use Rattle.hubtable.specs.declared.Store.{Store}
-use Rattle.lists.proofs.Laws.{length-padded, pop-padded, push-padded}
-use Rattle.lists.specs.Lists.{padded, removeAt}
+use Rattle.lists.specs.Lists.{removeFirst}
+use Rattle.messages.proofs.Laws.{message-none}
+use Rattle.messages.specs.Messages.{messageAt, messageWords, messages}
+use Rattle.records.specs.Records.{storeSize as storeWide, storesAt as storesFrom, width}
 use Rattle.requests.specs.Requests.{StoreFits}
 use Rattle.rules.proofs.Changes.{length-setHub}
-use Rattle.rules.proofs.Cut.{cut-part, cut-paste, cut-set}
-use Rattle.rules.proofs.Places.{cut-store, one-sized, same-hub}
+use Rattle.rules.proofs.Cut.{Cut, cut-part, cut-paste, cut-sets, cut-within}
+use Rattle.rules.proofs.Layouts.{Laid, message-written, sized, store-place, wide}
+use Rattle.rules.proofs.Places.{cut-store, same-hub, store-word}
+use Rattle.rules.proofs.Rows.{cut-next, more, rowOf, rows-none, rows-shift}
 use Rattle.rules.specs.Calls.{hold}
 use Rattle.rules.specs.Lists.{holding}
-use Rattle.rules.specs.Table.{Hub, State, hub, noHub, one, setHub, words}
+use Rattle.rules.specs.Table.{Hub, Layout, State, hub, noHub, rows, setHub, storeSize, storeWords, storesAt, words}
 use borrow.Rule.Slice.PartMut.{midOf, putMid}
-use lib.ListN.{drop, length, length-drop, set}
-use lib.Seq.{getD-set-same, set-set}
+use lib.ListN.{List·getD-append, drop, getD, getD-replicate, length, length-drop, length-replicate}
+use lib.Seq.{getD-set-same, set-set, sets}
 use mathlib.Core.List.{List, [], _++_, _∷_}
+use mathlib.Core.Option.{Option, none, some}
 use mathlib.Core.Path.{_∙_, _≡_, ap, refl, subst, sym}
 use native.Mathlib.Omega.{arith}
 
+-- the table of s, but for hub h's store, which holds ws
+abbrev pub After : Layout → State → ℕ → List ℕ → List ℕ
+After L s h ws = words L (hold h (hub s h .count) ws s)
+
+pub as-held : (L : Layout) (s : State) (h : ℕ) → words L s ≡ After L s h (hub s h .held)
+unfolding hold holding
+as-held L s h = ap (words L) (sym (same-hub s h))
+
 -- ---- the store's words
 
--- the oldest word goes; a word comes behind those held
-pop-store : (l : List ℕ) → length l ≤ 8 → removeAt 0 (padded 8 l) ≡ padded 8 (drop 1 l)
-pop-store [] h = unfold padded removeAt in refl
-pop-store (x ∷ xs) h = pop-padded 8 x xs h
+module _ {ts : ℕ} {L : Layout} (y : Laid ts L) (some-words : 8 ≤ ts) (few : ts ≤ 9) (s : State) (h : ℕ) (low : h < 16) (used : h < length (s .hubs)) (t : List ℕ) (e : t ≡ words L s) (a : ℕ) (at : a ≡ storesFrom ts + h * storeWide ts) where
+  word : (k : ℕ) → k < L .width → getD t (a + k) 0 ≡ getD (storeWords L (hub s h .held)) k 0
+  word k lt = rw (e, at, store-place y h) (store-word L (sized y) s h low used k (omega arith))
 
--- the table of s, but for hub h's store, which holds ws
-abbrev pub After : State → ℕ → List ℕ → List ℕ
-After s h ws = words one (hold h (hub s h .count) ws s)
+  pub oldest-read : messageAt (width ts) t a ≡ getD (hub s h .held) 0 0
+  unfolding rows
+  oldest-read = go (hub s h .held) word
+    where
+      go : (l : List ℕ) → ((k : ℕ) → k < L .width → getD t (a + k) 0 ≡ getD (storeWords L l) k 0) → messageAt (width ts) t a ≡ getD l 0 0
+      go [] f = message-none (width ts) t a (omega arith) (omega arith) (λ k lt. f k (omega (arith, wide y)) ∙ ap (λ (l : List ℕ). getD l k 0) (rows-none (L .width) (L .message) 8) ∙ getD-replicate (8 * L .width) k 0 0 (omega (arith, wide y)))
+      go (x ∷ xs) f = rw (wide y) (sym (y .reads t a) ∙ y .back x (λ k. getD t (a + k) 0) (λ k lt. f k lt ∙ List·getD-append (L .message x) (rows (L .width) (L .message) 7 xs) 0 k (rw (y .long x) lt)))
 
-pub as-held : (s : State) (h : ℕ) → words one s ≡ After s h (hub s h .held)
-unfolding hold holding
-as-held s h = ap (words one) (sym (same-hub s h))
+  cut : Cut (λ (ws : List ℕ). After L s h ws) (storeWords L) (storesAt L + h * storeSize L)
+  unfolding hold
+  cut = cut-store L (sized y) s h low used (hub s h .count) (hub s h)
+
+  held-now : t ≡ After L s h (hub s h .held)
+  held-now = e ∙ as-held L s h
+
+  -- the oldest message goes
+  pub store-taken : (ys : List ℕ) (n : ℕ) → n ≡ storeWide ts → length (hub s h .held) ≤ 8 → ys ≡ removeFirst (width ts) (midOf a n t) → putMid a n t ys ≡ After L s h (drop 1 (hub s h .held))
+  store-taken ys n many room q =
+      let place : a ≡ storesAt L + h * storeSize L = at ∙ store-place y h in
+      let size : n ≡ storeSize L = many ∙ rw (wide y) in
+      let here = sized y .store (hub s h .held) in
+      let new : ys ≡ storeWords L (drop 1 (hub s h .held)) = q ∙ rw (size, place, held-now, cut-part cut (hub s h .held) (storeSize L) here, wide y) (rows-shift (L .width) (L .message) (y .long) 7 (hub s h .held) room) in
+      rw (size, place, held-now, new) (cut-paste cut (hub s h .held) (drop 1 (hub s h .held)) (storeSize L) here)
+
+  -- a message comes behind those held
+  pub store-grown : (n m : ℕ) → n ≡ length (hub s h .held) → n < 8 → m < messages (width ts) → sets t (a + n * width ts) (messageWords (width ts) m) ≡ After L s h (hub s h .held ++ m ∷ [])
+  store-grown n m many room fits =
+      let place : a ≡ storesAt L + h * storeSize L = at ∙ store-place y h in
+      let wrote : messageWords (width ts) m ≡ L .message m = message-written y some-words few m fits in
+      rw
+      (wrote, many, wide y, place, held-now)
+      (cut-sets next none (some m) (length-replicate {A = ℕ} (L .width) 0 ∙ sym (y .long m)))
+    where
+      next : Cut (λ (o : Option ℕ). After L s h (more (hub s h .held) o)) (rowOf (L .width) (L .message)) (storesAt L + h * storeSize L + length (hub s h .held) * L .width)
+      next =
+          cut-within (cut .front) (cut .back) (storesAt L + h * storeSize L) (length (hub s h .held) * L .width) (cut .front-length)
+          (λ o. cut .each (more (hub s h .held) o))
+          (cut-next (L .width) (L .message) (y .long) 8 (hub s h .held) (omega (arith, many)))
 
 module _ (s : State) (h : ℕ) (low : h < 16) (used : h < length (s .hubs)) where
-  pub store-taken : (t ys : List ℕ) (n : ℕ) → n ≡ 8 → t ≡ words one s → length (hub s h .held) ≤ 8 → ys ≡ removeAt 0 (midOf (472 + h * 8) n t) → putMid (472 + h * 8) n t ys ≡ After s h (drop 1 (hub s h .held))
-  unfolding hold
-  store-taken t ys n many w room e =
-      let c = cut-store one one-sized s h low used (hub s h .count) (hub s h) in
-      let here = length-padded 8 (hub s h .held) in
-      let new : ys ≡ padded 8 (drop 1 (hub s h .held)) = e ∙ rw (many, w ∙ as-held s h, cut-part c (hub s h .held) 8 here) (pop-store (hub s h .held) room) in
-      rw (many, w ∙ as-held s h, new) (cut-paste c (hub s h .held) (drop 1 (hub s h .held)) 8 here)
-
-  pub store-grown : (t : List ℕ) (n w : ℕ) → n ≡ length (hub s h .held) → n < 8 → t ≡ words one s → set t (472 + h * 8 + n) w ≡ After s h (hub s h .held ++ w ∷ [])
-  unfolding hold
-  store-grown t n w many room e =
-      let c = cut-store one one-sized s h low used (hub s h .count) (hub s h) in
-      rw (e ∙ as-held s h) (cut-set c (hub s h .held) (hub s h .held ++ w ∷ []) n w (rw (length-padded 8 (hub s h .held)) room) (rw many (push-padded 8 (hub s h .held) w)))
-
   -- a hub that is told to hold twice holds what it was told last
   held-hub : (n : ℕ) (ws : List ℕ) → hub (hold h n ws s) h ≡ holding n ws (hub s h)
   unfolding hold setHub
@@ -65,8 +95,11 @@ module _ {st to : Store} (told : st ≡ to) where
   pub fits-told : (n : ℕ) (held : List ℕ) → StoreFits st n held → StoreFits to n held
   fits-told n held f = subst (λ (z : Store). StoreFits z n held) told f
 
-  pub after-told : (s : State) (h : ℕ) → After s h (storeAfter to (hub s h .held)) ≡ After s h (storeAfter st (hub s h .held))
-  after-told s h = ap (λ (z : Store). After s h (storeAfter z (hub s h .held))) (sym told)
+  pub below-told : (b : ℕ) → StoreBelow b st → StoreBelow b to
+  below-told b f = subst (StoreBelow b) told f
+
+  pub after-told : (L : Layout) (s : State) (h : ℕ) → After L s h (storeAfter to (hub s h .held)) ≡ After L s h (storeAfter st (hub s h .held))
+  after-told L s h = ap (λ (z : Store). After L s h (storeAfter z (hub s h .held))) (sym told)
 
 -- the hub once its oldest word is taken: what the word that comes behind rests on, and what it leaves
 module _ (s : State) (h : ℕ) (low : h < 16) (used : h < length (s .hubs)) where
@@ -84,8 +117,8 @@ module _ (s : State) (h : ℕ) (low : h < 16) (used : h < length (s .hubs)) wher
   unfolding holding
   taken-many n e = rw hub-taken (omega (arith, e, length-drop 1 (hub s h .held)))
 
-  pub taken-grown : (w : ℕ) → After taken h (hub taken h .held ++ w ∷ []) ≡ After s h (drop 1 (hub s h .held) ++ w ∷ [])
+  pub taken-grown : (L : Layout) (w : ℕ) → After L taken h (hub taken h .held ++ w ∷ []) ≡ After L s h (drop 1 (hub s h .held) ++ w ∷ [])
   unfolding holding
-  taken-grown w =
-      ap (λ (x : Hub). words one (hold h (x .count) (x .held ++ w ∷ []) taken)) hub-taken
-      ∙ ap (words one) (hold-hold s h low used (hub s h .count) (hub s h .count) (drop 1 (hub s h .held)) (drop 1 (hub s h .held) ++ w ∷ []))
+  taken-grown L w =
+      ap (λ (x : Hub). words L (hold h (x .count) (x .held ++ w ∷ []) taken)) hub-taken
+      ∙ ap (words L) (hold-hold s h low used (hub s h .count) (hub s h .count) (drop 1 (hub s h .held)) (drop 1 (hub s h .held) ++ w ∷ []))

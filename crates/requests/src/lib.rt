@@ -10,101 +10,124 @@ use records::TaskNo;
 use records::TaskRecord;
 use rules::Call;
 ghost use Prim.Native.Nat.{_<_, _≤_, pred, ℕ};
-ghost use Rattle.hubtable.specs.Says.{RecordOf, first, says, storeAfter};
+ghost use Rattle.hubtable.specs.Says.{Below, RecordOf, StoreBelow, first, says, storeAfter};
 ghost use Rattle.hubtable.specs.declared.Verdict.the-variants.{Met};
+ghost use Rattle.messages.specs.Messages.{messages};
 ghost use Rattle.moves.specs.Moves.{Sound, keyOf};
+ghost use Rattle.records.specs.Records.{Table, width};
 ghost use Rattle.requests.specs.Requests.{StoreFits};
+ghost use Rattle.rules.proofs.Layouts.{Laid};
 ghost use Rattle.rules.proofs.Valid.{Valid};
 ghost use Rattle.rules.specs.Calls.{HubRequest, hold, kept, serve, wait};
 ghost use Rattle.rules.specs.HubTable.{verdict};
 ghost use Rattle.rules.specs.Lists.{firstWaiting, waits};
 ghost use Rattle.rules.specs.Refusals.{refusalFor};
-ghost use Rattle.rules.specs.Table.{Hub, State, hub, one, setTask, task, words};
-ghost use lib.ListN.{drop, length};
+ghost use Rattle.rules.specs.Table.{Hub, Layout, State, hub, setTask, task, words};
+ghost use lib.ListN.{drop, getD, length};
 ghost use mathlib.Core.List.{[], _++_, _∷_};
 ghost use mathlib.Core.Option.{some};
 ghost use mathlib.Core.Path.{_≡_};
 
 // The record of hub h.
-fn hub_at(t: &[u32], h: HubNo) -> HubRecord
+fn hub_at(t: &[u32], ts: usize, h: HubNo) -> HubRecord
+    requires { ⌜ Table ts (now t) ⌝ }
     requires { ⌜ h .0 ≤ 4294967295 ⌝ }
-    ensures { λ r. ⌜ ((s : State) → length (s .hubs) ≤ 16 → h .0 < length (s .hubs) → now (t .entry) ≡ words one s
+    ensures { λ r. ⌜ ((L : Layout) (s : State) → Laid ts L → length (s .hubs) ≤ 16 → h .0 < length (s .hubs)
+        → now (t .entry) ≡ words L s
         → RecordOf r (hub s (h .0))) ⌝ }
 {
-    records::hub(t, records::HUBS_AT, h)
+    records::hub(t, records::hubs_at(ts), h)
 }
 
 // The first task that waits at hub h on this side, plus 1, or 0. One list holds one side only, so its first entry tells.
-fn first_waiter(t: &[u32], h: HubNo, side: u32) -> u32
+fn first_waiter(t: &[u32], ts: usize, h: HubNo, side: u32) -> u32
+    requires { ⌜ Table ts (now t) ⌝ }
     requires { ⌜ h .0 < 16 ⌝ }
-    ensures { λ r. ⌜ ((s : State) → Valid s → h .0 < length (s .hubs) → now (t .entry) ≡ words one s
+    ensures { λ r. ⌜ ((L : Layout) (s : State) → Laid ts L → Valid s → h .0 < length (s .hubs)
+        → now (t .entry) ≡ words L s
         → first r ≡ firstWaiting s side (hub s (h .0) .waiters)) ⌝ }
 {
-    let k = h.0;
-    let e = lists::word(t, records::WAITS_AT + k * records::LIST_SIZE);
+    let e = lists::word(t, records::waits_at(ts, h));
     if e == 0 {
         return 0;
     }
-    let x = moves::task_at(t, TaskNo((e - 1) as usize));
+    let x = moves::task_at(t, ts, TaskNo((e - 1) as usize));
     if x.side == side { e } else { 0 }
 }
 
-// The word of the task that a list's entry names.
-fn word_of(t: &[u32], e: u32) -> u32
-    ensures { λ r. ⌜ ((s : State) (w : ℕ) → length (s .tasks) ≤ 16 → now (t .entry) ≡ words one s → first e ≡ some w
+// The message of the task that a list's entry names.
+fn word_of(t: &[u32], ts: usize, e: u32) -> u64
+    requires { ⌜ Table ts (now t) ⌝ }
+    ensures { λ r. ⌜ r < messages (width ts) ⌝ }
+    ensures { λ r. ⌜ ((L : Layout) (s : State) (w : ℕ) → Laid ts L → length (s .tasks) ≤ 16
+        → now (t .entry) ≡ words L s → first e ≡ some w
         → w < length (s .tasks) → r ≡ task s w .word) ⌝ }
 {
     if e == 0 {
         return 0;
     }
-    let x = moves::task_at(t, TaskNo((e - 1) as usize));
+    let x = moves::task_at(t, ts, TaskNo((e - 1) as usize));
     x.word
 }
 
+// The first message of hub h's store: the oldest, if it holds one.
+fn oldest_of(t: &[u32], ts: usize, h: HubNo) -> u64
+    requires { ⌜ Table ts (now t) ⌝ }
+    requires { ⌜ h .0 < 16 ⌝ }
+    ensures { λ r. ⌜ r < messages (width ts) ⌝ }
+    ensures { λ r. ⌜ ((L : Layout) (s : State) → Laid ts L → h .0 < length (s .hubs) → now (t .entry) ≡ words L s
+        → r ≡ getD (hub s (h .0) .held) 0 0) ⌝ }
+{
+    messages::message(t, records::store_at(ts, h), records::width_of(ts))
+}
+
 // What the hub that it names says of a call.
-fn judge(t: &[u32], c: Call) -> Verdict
+fn judge(t: &[u32], ts: usize, c: Call) -> Verdict
+    requires { ⌜ Table ts (now t) ⌝ }
     requires { ⌜ c .target < 16 ⌝ }
     requires { ⌜ c .caller < 16 ⌝ }
-    ensures { λ r. ⌜ ((s : State) → Valid s → refusalFor HubRequest s c ≡ 0 → now (t .entry) ≡ words one s
-        → says (hub s (c .target) .held) r ≡ verdict s c) ⌝ }
+    ensures { λ r. ⌜ Below (messages (width ts)) r ⌝ }
+    ensures { λ r. ⌜ ((L : Layout) (s : State) → Laid ts L → Valid s → refusalFor HubRequest s c ≡ 0
+        → now (t .entry) ≡ words L s → says (hub s (c .target) .held) r ≡ verdict s c) ⌝ }
 {
     let h = HubNo(c.target as usize);
-    let x = hub_at(t, h);
+    let x = hub_at(t, ts, h);
     if c.side == rules::PUT {
-        let waiter = first_waiter(t, h, rules::GET);
-        return hubtable::on_put(x, waiter, c.caller, c.word);
+        let waiter = first_waiter(t, ts, h, rules::GET);
+        return hubtable::on_put(x, waiter, c.caller, c.word as u64);
     }
-    let waiter = first_waiter(t, h, rules::PUT);
-    let its = word_of(t, waiter);
-    let k = h.0;
-    let oldest = lists::word(t, records::STORES_AT + k * records::STORE_SIZE);
+    let waiter = first_waiter(t, ts, h, rules::PUT);
+    let its = word_of(t, ts, waiter);
+    let oldest = oldest_of(t, ts, h);
     hubtable::on_get(x, waiter, its, oldest, c.caller)
 }
 
-// The oldest word goes out of hub h's store.
-fn take_oldest(t: &mut [u32], h: HubNo)
+// The oldest message goes out of hub h's store.
+fn take_oldest(t: &mut [u32], ts: usize, h: HubNo)
+    requires { ⌜ Table ts (now t) ⌝ }
     requires { ⌜ h .0 < 16 ⌝ }
-    requires { ⌜ length (now t) ≡ 600 ⌝ }
-    ensures { λ _. ⌜ ((s : State) → h .0 < length (s .hubs) → length (hub s (h .0) .held) ≤ 8
-        → now (t .entry) ≡ words one s
-        → now (t .exit) ≡ words one (hold (h .0) (hub s (h .0) .count) (drop 1 (hub s (h .0) .held)) s)) ⌝ }
+    ensures { λ _. ⌜ ((L : Layout) (s : State) → Laid ts L → h .0 < length (s .hubs) → length (hub s (h .0) .held) ≤ 8
+        → now (t .entry) ≡ words L s
+        → now (t .exit) ≡ words L (hold (h .0) (hub s (h .0) .count) (drop 1 (hub s (h .0) .held)) s)) ⌝ }
 {
-    let k = h.0;
-    let a = records::STORES_AT + k * records::STORE_SIZE;
-    lists::remove_at(&mut t[a..a + records::STORE_SIZE], 0);
+    let a = records::store_at(ts, h);
+    let n = records::store_size(ts);
+    lists::remove_first(&mut t[a..a + n], records::width_of(ts));
 }
 
-// A word goes into hub h's store behind the n words held.
-fn append_word(t: &mut [u32], h: HubNo, n: usize, w: u32)
+// A message goes into hub h's store behind the n messages held.
+fn append_word(t: &mut [u32], ts: usize, h: HubNo, n: usize, w: u64)
+    requires { ⌜ Table ts (now t) ⌝ }
     requires { ⌜ h .0 < 16 ⌝ }
-    requires { ⌜ length (now t) ≡ 600 ⌝ }
-    ensures { λ _. ⌜ ((s : State) → h .0 < length (s .hubs) → n ≡ length (hub s (h .0) .held) → n < 8
-        → now (t .entry) ≡ words one s
-        → now (t .exit) ≡ words one (hold (h .0) (hub s (h .0) .count) (hub s (h .0) .held ++ w ∷ []) s)) ⌝ }
+    requires { ⌜ w < messages (width ts) ⌝ }
+    ensures { λ _. ⌜ ((L : Layout) (s : State) → Laid ts L → h .0 < length (s .hubs) → n ≡ length (hub s (h .0) .held)
+        → n < 8
+        → now (t .entry) ≡ words L s
+        → now (t .exit) ≡ words L (hold (h .0) (hub s (h .0) .count) (hub s (h .0) .held ++ w ∷ []) s)) ⌝ }
 {
-    let k = h.0;
-    if n < records::STORE_SIZE {
-        t[records::STORES_AT + k * records::STORE_SIZE + n] = w;
+    let v = records::width_of(ts);
+    if n < records::STORE_MESSAGES {
+        messages::set_message(t, records::store_at(ts, h) + n * v, v, w);
     }
 }
 
@@ -115,67 +138,72 @@ fn less_one(n: usize) -> usize
     if n == 0 { 0 } else { n - 1 }
 }
 
-// What a verdict does to hub h's store, which holds n words.
-fn change_store(t: &mut [u32], h: HubNo, n: usize, store: Store)
+// What a verdict does to hub h's store, which holds n messages.
+fn change_store(t: &mut [u32], ts: usize, h: HubNo, n: usize, store: Store)
+    requires { ⌜ Table ts (now t) ⌝ }
     requires { ⌜ h .0 < 16 ⌝ }
-    requires { ⌜ length (now t) ≡ 600 ⌝ }
-    ensures { λ _. ⌜ ((s : State) → h .0 < length (s .hubs) → StoreFits store n (hub s (h .0) .held)
-        → now (t .entry) ≡ words one s
-        → now (t .exit) ≡ words one (hold (h .0) (hub s (h .0) .count) (storeAfter store (hub s (h .0) .held)) s)) ⌝ }
+    requires { ⌜ StoreBelow (messages (width ts)) store ⌝ }
+    ensures { λ _. ⌜ ((L : Layout) (s : State) → Laid ts L → h .0 < length (s .hubs)
+        → StoreFits store n (hub s (h .0) .held)
+        → now (t .entry) ≡ words L s
+        → now (t .exit) ≡ words L (hold (h .0) (hub s (h .0) .count) (storeAfter store (hub s (h .0) .held)) s)) ⌝ }
 {
     match store {
         Store::Keep => {}
         Store::Append(w) => {
-            append_word(t, h, n, w);
+            append_word(t, ts, h, n, w);
         }
         Store::Take => {
-            take_oldest(t, h);
+            take_oldest(t, ts, h);
         }
         Store::TakeAppend(w) => {
-            take_oldest(t, h);
-            append_word(t, h, less_one(n), w);
+            take_oldest(t, ts, h);
+            append_word(t, ts, h, less_one(n), w);
         }
     }
 }
 
 // The count and the store of hub h after a meeting.
-fn hold_hub(t: &mut [u32], h: HubNo, m: Meeting)
+fn hold_hub(t: &mut [u32], ts: usize, h: HubNo, m: Meeting)
+    requires { ⌜ Table ts (now t) ⌝ }
     requires { ⌜ h .0 < 16 ⌝ }
-    requires { ⌜ length (now t) ≡ 600 ⌝ }
-    ensures { λ _. ⌜ ((s : State) → length (s .hubs) ≤ 16 → h .0 < length (s .hubs)
-        → StoreFits (m .store) (hub s (h .0) .count) (hub s (h .0) .held) → now (t .entry) ≡ words one s
-        → now (t .exit) ≡ words one (hold (h .0) (m .count) (storeAfter (m .store) (hub s (h .0) .held)) s)) ⌝ }
+    requires { ⌜ StoreBelow (messages (width ts)) (m .store) ⌝ }
+    ensures { λ _. ⌜ ((L : Layout) (s : State) → Laid ts L → length (s .hubs) ≤ 16 → h .0 < length (s .hubs)
+        → StoreFits (m .store) (hub s (h .0) .count) (hub s (h .0) .held) → now (t .entry) ≡ words L s
+        → now (t .exit) ≡ words L (hold (h .0) (m .count) (storeAfter (m .store) (hub s (h .0) .held)) s)) ⌝ }
 {
-    let x = hub_at(&*t, h);
+    let x = hub_at(&*t, ts, h);
     let n = x.count as usize;
     let store = m.store;
-    change_store(t, h, n, store);
-    records::set_count(t, records::HUBS_AT, h, m.count);
+    change_store(t, ts, h, n, store);
+    records::set_count(t, records::hubs_at(ts), h, m.count);
 }
 
 // "A request that is met answers 1." The waiter met with it, if there is one, becomes ready.
-fn meet(t: &mut [u32], keys: &[u32], c: Call, m: Meeting)
+fn meet(t: &mut [u32], ts: usize, keys: &[u32], c: Call, m: Meeting)
+    requires { ⌜ Table ts (now t) ⌝ }
     requires { ⌜ c .caller < 16 ⌝ }
     requires { ⌜ c .target < 16 ⌝ }
-    requires { ⌜ length (now t) ≡ 600 ⌝ }
-    ensures { λ _. ⌜ ((s : State) → Valid s → refusalFor HubRequest s c ≡ 0
-        → says (hub s (c .target) .held) (Met m) ≡ verdict s c → now (t .entry) ≡ words one s
-        → now (t .exit) ≡ words one (serve (keyOf (now (keys .entry))) HubRequest s c)) ⌝ }
+    requires { ⌜ Below (messages (width ts)) (Met m) ⌝ }
+    ensures { λ _. ⌜ ((L : Layout) (s : State) → Laid ts L → Valid s → refusalFor HubRequest s c ≡ 0
+        → says (hub s (c .target) .held) (Met m) ≡ verdict s c → now (t .entry) ≡ words L s
+        → now (t .exit) ≡ words L (serve (keyOf (now (keys .entry))) HubRequest s c)) ⌝ }
 {
     let caller = TaskNo(c.caller as usize);
     let h = HubNo(c.target as usize);
     let waiter = m.waiter;
-    hold_hub(t, h, m);
-    moves::give_answer(t, caller, rules::OK, m.word);
+    hold_hub(t, ts, h, m);
+    moves::give_answer(t, ts, caller, rules::OK, m.word);
     if 1 <= waiter {
         if waiter <= 16 {
-            moves::wake_task(t, keys, TaskNo((waiter - 1) as usize), rules::OK, m.its);
+            moves::wake_task(t, ts, keys, TaskNo((waiter - 1) as usize), rules::OK, m.its);
         }
     }
 }
 
 // "The word of a put to a Port or FIFO is kept; any other word is stored as 0."
-fn kept_word(kind: u32, side: u32, word: u32) -> u32
+fn kept_word(kind: u32, side: u32, word: u64) -> u64
+    ensures { λ r. ⌜ r ≤ word ⌝ }
     ensures { λ r. ⌜ ((h : Hub) (c : Call) → kind ≡ h .kind → side ≡ c .side → word ≡ c .word → r ≡ kept h c) ⌝ }
 {
     if side != rules::PUT {
@@ -188,17 +216,20 @@ fn kept_word(kind: u32, side: u32, word: u32) -> u32
 }
 
 // "gets state 3, the hub, side and ticks, answer 0"
-fn make_waiting(t: &mut [u32], c: Call, word: u32)
+fn make_waiting(t: &mut [u32], ts: usize, c: Call, word: u64)
+    requires { ⌜ Table ts (now t) ⌝ }
     requires { ⌜ c .caller < 16 ⌝ }
     requires { ⌜ c .target < 16 ⌝ }
-    ensures { λ _. ⌜ ((s : State) → length (s .tasks) ≤ 16 → c .caller < length (s .tasks)
-        → now (t .entry) ≡ words one s
-        → now (t .exit) ≡ words one (setTask (c .caller) (waits (c .target) (c .ticks) (c .side) word (task s (c .caller))) s)) ⌝ }
+    requires { ⌜ word < messages (width ts) ⌝ }
+    ensures { λ _. ⌜ ((L : Layout) (s : State) → Laid ts L → length (s .tasks) ≤ 16 → c .caller < length (s .tasks)
+        → now (t .entry) ≡ words L s
+        → now (t .exit) ≡ words L (setTask (c .caller) (waits (c .target) (c .ticks) (c .side) word (task s (c .caller))) s)) ⌝ }
 {
     let caller = TaskNo(c.caller as usize);
-    let x = moves::task_at(&*t, caller);
+    let x = moves::task_at(&*t, ts, caller);
     moves::set_task(
         t,
+        ts,
         caller,
         TaskRecord {
             state: rules::WAITING,
@@ -214,40 +245,42 @@ fn make_waiting(t: &mut [u32], c: Call, word: u32)
 }
 
 // "the caller leaves the ready list, ... and joins the hub's list behind all entries of its own or a more urgent priority"
-fn wait_there(t: &mut [u32], keys: &[u32], c: Call)
+fn wait_there(t: &mut [u32], ts: usize, keys: &[u32], c: Call)
+    requires { ⌜ Table ts (now t) ⌝ }
     requires { ⌜ c .caller < 16 ⌝ }
     requires { ⌜ c .target < 16 ⌝ }
-    requires { ⌜ length (now t) ≡ 600 ⌝ }
-    ensures { λ _. ⌜ ((s : State) → Sound s → c .caller < length (s .tasks) → c .target < length (s .hubs)
-        → now (t .entry) ≡ words one s → now (t .exit) ≡ words one (wait (keyOf (now (keys .entry))) s c)) ⌝ }
+    ensures { λ _. ⌜ ((L : Layout) (s : State) → Laid ts L → Sound s → c .caller < length (s .tasks)
+        → c .target < length (s .hubs)
+        → now (t .entry) ≡ words L s → now (t .exit) ≡ words L (wait (keyOf (now (keys .entry))) s c)) ⌝ }
 {
     let caller = TaskNo(c.caller as usize);
     let h = HubNo(c.target as usize);
-    let x = hub_at(&*t, h);
-    let word = kept_word(x.kind, c.side, c.word);
-    moves::leave_list(t, caller);
-    make_waiting(t, c, word);
-    moves::join_hub(t, records::TASK_SIZE, keys, h, caller);
+    let x = hub_at(&*t, ts, h);
+    let word = kept_word(x.kind, c.side, c.word as u64);
+    moves::leave_list(t, ts, caller);
+    make_waiting(t, ts, c, word);
+    moves::join_hub(t, ts, keys, h, caller);
 }
 
 // Service 1, accepted: met, failed, or not now, which under NW fails and under W and WT waits.
-pub fn request(t: &mut [u32], keys: &[u32], c: Call)
+pub fn request(t: &mut [u32], ts: usize, keys: &[u32], c: Call)
+    requires { ⌜ Table ts (now t) ⌝ }
     requires { ⌜ c .caller < 16 ⌝ }
     requires { ⌜ c .target < 16 ⌝ }
-    requires { ⌜ length (now t) ≡ 600 ⌝ }
-    ensures { λ _. ⌜ ((s : State) → Valid s → refusalFor HubRequest s c ≡ 0 → now (t .entry) ≡ words one s
-        → now (t .exit) ≡ words one (serve (keyOf (now (keys .entry))) HubRequest s c)) ⌝ }
+    ensures { λ _. ⌜ ((L : Layout) (s : State) → Laid ts L → Valid s → refusalFor HubRequest s c ≡ 0
+        → now (t .entry) ≡ words L s
+        → now (t .exit) ≡ words L (serve (keyOf (now (keys .entry))) HubRequest s c)) ⌝ }
 {
     let caller = TaskNo(c.caller as usize);
-    let v = judge(&*t, c);
+    let v = judge(&*t, ts, c);
     match v {
-        Verdict::Met(m) => meet(t, keys, c, m),
-        Verdict::Fail => moves::give_answer(t, caller, rules::FAIL, 0),
+        Verdict::Met(m) => meet(t, ts, keys, c, m),
+        Verdict::Fail => moves::give_answer(t, ts, caller, rules::FAIL, 0),
         Verdict::NotNow => {
             if c.mode == rules::NW {
-                moves::give_answer(t, caller, rules::FAIL, 0);
+                moves::give_answer(t, ts, caller, rules::FAIL, 0);
             } else {
-                wait_there(t, keys, c);
+                wait_there(t, ts, keys, c);
             }
         }
     }

@@ -6,6 +6,7 @@ pub mod Changes
 pub mod Cut
 pub mod Hubs
 pub mod Kept
+pub mod Layouts
 pub mod Lengths
 pub mod Listed
 pub mod Numbers

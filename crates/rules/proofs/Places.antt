@@ -2,14 +2,15 @@
 -- table's length and contents; the place of each part, as a cut, and its words; one more record, behind those in use.
 -- Not here: rows of words as such (Rows.antt), a table that is read (Reading.antt). Assumes nothing.
 use Prim.Native.Nat.{_*_, _+_, _-_, _<_, _≤_, suc, ℕ}
-use Rattle.lists.proofs.Laws.{length-entries, length-padded}
+use Rattle.lists.proofs.Laws.{length-entries}
 use Rattle.lists.proofs.Padding.{zero-at}
 use Rattle.lists.specs.Lists.{entries}
 use Rattle.rules.proofs.Cut.{Cut, cut-along, cut-get, cut-here, cut-part, cut-set, cut-sets, cut-within}
+use Rattle.rules.proofs.Layouts.{Sized}
 use Rattle.rules.proofs.Rows.{cut-next, cut-row, length-rows, more, rest-zero, rowOf, rows-empty, rows-same}
 use Rattle.rules.specs.Calls.{addHub, addTask}
 use Rattle.rules.specs.Lists.{holding, queued}
-use Rattle.rules.specs.Table.{Hub, Layout, Sized, State, Task, contents, hub, hubWords, hubsAt, inactive, noHub, one, part, readyAt, rows, setHub, setReady, setTask, size, storeOf, storePart, storesAt, task, tasksAt, waitPart, waitWords, waitsAt, words}
+use Rattle.rules.specs.Table.{Hub, Layout, State, Task, contents, hub, hubWords, hubsAt, inactive, noHub, part, readyAt, rows, setHub, setReady, setTask, size, storeOf, storePart, storeSize, storeWords, storesAt, task, taskSize, taskWords, tasksAt, waitPart, waitWords, waitsAt, words}
 use Rattle.rules.specs.WellFormed.{unusedZero, zeroFrom}
 use lib.ListN.{getD, length, length-append, length-replicate, length-set, replicate, set}
 use lib.Seq.{set-getD, sets}
@@ -23,11 +24,8 @@ use native.Mathlib.Omega.{arith}
 
 -- ---- sizes, and how many words stand before each body
 
-pub one-sized : Sized one
-one-sized = record { task = λ t. refl; store = length-padded 8 }
-
 abbrev toHubs : Layout → State → List ℕ
-toHubs L s = contents L s ++ rows (L .taskSize) (L .taskWords) 16 (s .tasks)
+toHubs L s = contents L s ++ rows (taskSize L) (taskWords L) 16 (s .tasks)
 
 abbrev toReady : Layout → State → List ℕ
 toReady L s = toHubs L s ++ rows 4 hubWords 16 (s .hubs)
@@ -48,7 +46,7 @@ length-contents L s = refl
 module _ (L : Layout) (z : Sized L) (s : State) where
   length-toHubs : length (toHubs L s) ≡ hubsAt L
   unfolding contents
-  length-toHubs = rw length-append (ap (λ (n : ℕ). 8 + n) (length-rows (L .taskSize) (L .taskWords) (z .task) 16 (s .tasks)))
+  length-toHubs = rw length-append (ap (λ (n : ℕ). 8 + n) (length-rows (taskSize L) (taskWords L) (z .task) 16 (s .tasks)))
 
   length-toReady : length (toReady L s) ≡ readyAt L
   length-toReady = rw (length-append (toHubs L s), length-toHubs, length-rows 4 hubWords (λ h. refl) 16 (s .hubs))
@@ -62,10 +60,10 @@ module _ (L : Layout) (z : Sized L) (s : State) where
   pub length-words : length (words L s) ≡ size L
   unfolding words
   length-words =
-      let e : words L s ≡ toStores L s ++ rows (L .storeSize) (storeOf L) 16 (s .hubs) = simp append-assoc in
+      let e : words L s ≡ toStores L s ++ rows (storeSize L) (storeOf L) 16 (s .hubs) = simp append-assoc in
       ap length e
-      ∙ length-append (toStores L s) (rows (L .storeSize) (storeOf L) 16 (s .hubs))
-      ∙ rw (length-toStores, length-rows (L .storeSize) (storeOf L) (λ h. z .store (h .held)) 16 (s .hubs))
+      ∙ length-append (toStores L s) (rows (storeSize L) (storeOf L) 16 (s .hubs))
+      ∙ rw (length-toStores, length-rows (storeSize L) (storeOf L) (λ h. z .store (h .held)) 16 (s .hubs))
 
 -- ---- the contents: two words that count the records, and no other change
 
@@ -100,31 +98,31 @@ same-hub s h = ap (λ (hs : List Hub). record { tasks = s .tasks; hubs = hs; rea
 -- ---- a task record, and the ready list
 
 module _ (L : Layout) (z : Sized L) (s : State) where
-  pub cut-task : (i : ℕ) → i < 16 → i < length (s .tasks) → Cut (λ (y : Task). words L (setTask i y s)) (L .taskWords) (tasksAt + i * L .taskSize)
+  pub cut-task : (i : ℕ) → i < 16 → i < length (s .tasks) → Cut (λ (y : Task). words L (setTask i y s)) (taskWords L) (tasksAt + i * taskSize L)
   unfolding setTask words
   cut-task i h hi =
       cut-within
       (contents L s)
-      (rows 4 hubWords 16 (s .hubs) ++ (entries 16 (s .ready) ++ (rows 16 waitWords 16 (s .hubs) ++ rows (L .storeSize) (storeOf L) 16 (s .hubs))))
+      (rows 4 hubWords 16 (s .hubs) ++ (entries 16 (s .ready) ++ (rows 16 waitWords 16 (s .hubs) ++ rows (storeSize L) (storeOf L) 16 (s .hubs))))
       tasksAt
-      (i * L .taskSize)
+      (i * taskSize L)
       (length-contents L s)
       (λ y. rw (contents-task L s i y))
-      (cut-row (L .taskSize) (L .taskWords) (z .task) 16 (s .tasks) i h hi)
+      (cut-row (taskSize L) (taskWords L) (z .task) 16 (s .tasks) i h hi)
 
   pub cut-ready : Cut (λ (l : List ℕ). words L (setReady l s)) (entries 16) (readyAt L)
   unfolding contents setReady words
   cut-ready =
       cut-here
       (toReady L s)
-      (rows 16 waitWords 16 (s .hubs) ++ rows (L .storeSize) (storeOf L) 16 (s .hubs))
+      (rows 16 waitWords 16 (s .hubs) ++ rows (storeSize L) (storeOf L) 16 (s .hubs))
       (readyAt L)
       (length-toReady L z s)
       (λ l. simp append-assoc)
 
-  pub task-word : (i k : ℕ) → i < 16 → i < length (s .tasks) → k < L .taskSize → getD (words L s) (tasksAt + i * L .taskSize + k) 0 ≡ getD (L .taskWords (task s i)) k 0
+  pub task-word : (i k : ℕ) → i < 16 → i < length (s .tasks) → k < taskSize L → getD (words L s) (tasksAt + i * taskSize L + k) 0 ≡ getD (taskWords L (task s i)) k 0
   task-word i k h hi hk =
-      ap (λ (x : State). getD (words L x) (tasksAt + i * L .taskSize + k) 0) (sym (same-task s i))
+      ap (λ (x : State). getD (words L x) (tasksAt + i * taskSize L + k) 0) (sym (same-task s i))
       ∙ cut-get (cut-task i h hi) (task s i) k (rw (z .task (task s i)) hk)
 
   pub ready-word : (k : ℕ) → k < 16 → getD (words L s) (readyAt L + k) 0 ≡ getD (entries 16 (s .ready)) k 0
@@ -154,14 +152,14 @@ module _ (L : Layout) (z : Sized L) (s : State) (h : ℕ) (lt : h < 16) (used : 
   cut-hub-record b =
       cut-within
       (toHubs L (setHub h b s))
-      (entries 16 (s .ready) ++ (rows 16 waitWords 16 (set (s .hubs) h b) ++ rows (L .storeSize) (storeOf L) 16 (set (s .hubs) h b)))
+      (entries 16 (s .ready) ++ (rows 16 waitWords 16 (set (s .hubs) h b) ++ rows (storeSize L) (storeOf L) 16 (set (s .hubs) h b)))
       (hubsAt L)
       (h * 4)
       (length-toHubs L z (setHub h b s))
       (λ y. rw (
         contents-hub L s h (recorded y b) b,
         rows-same 16 waitWords 16 (s .hubs) h (recorded y b) b refl,
-        rows-same (L .storeSize) (storeOf L) 16 (s .hubs) h (recorded y b) b refl,
+        rows-same (storeSize L) (storeOf L) 16 (s .hubs) h (recorded y b) b refl,
       )
       (simp append-assoc))
       (cut-along (λ (y : Hub). recorded y b) (cut-row 4 hubWords (λ x. refl) 16 (s .hubs) h lt used))
@@ -171,26 +169,26 @@ module _ (L : Layout) (z : Sized L) (s : State) (h : ℕ) (lt : h < 16) (used : 
   cut-waiters b =
       cut-within
       (toWaits L (setHub h b s))
-      (rows (L .storeSize) (storeOf L) 16 (set (s .hubs) h b))
+      (rows (storeSize L) (storeOf L) 16 (set (s .hubs) h b))
       (waitsAt L)
       (h * 16)
       (length-toWaits L z (setHub h b s))
       (λ l. rw (
         contents-hub L s h (queued l b) b,
         rows-same 4 hubWords 16 (s .hubs) h (queued l b) b refl,
-        rows-same (L .storeSize) (storeOf L) 16 (s .hubs) h (queued l b) b refl,
+        rows-same (storeSize L) (storeOf L) 16 (s .hubs) h (queued l b) b refl,
       )
       (simp append-assoc))
       (cut-along (λ (l : List ℕ). queued l b) (cut-row 16 waitWords length-waitWords 16 (s .hubs) h lt used))
 
-  pub cut-store : (n : ℕ) (b : Hub) → Cut (λ (ws : List ℕ). words L (setHub h (holding n ws b) s)) (L .storeWords) (storesAt L + h * L .storeSize)
+  pub cut-store : (n : ℕ) (b : Hub) → Cut (λ (ws : List ℕ). words L (setHub h (holding n ws b) s)) (storeWords L) (storesAt L + h * storeSize L)
   unfolding holding setHub words
   cut-store n b =
       cut-within
       (toStores L (setHub h (holding n [] b) s))
       []
       (storesAt L)
-      (h * L .storeSize)
+      (h * storeSize L)
       (length-toStores L z (setHub h (holding n [] b) s))
       (λ ws. rw (
         contents-hub L s h (holding n ws b) (holding n [] b),
@@ -198,7 +196,7 @@ module _ (L : Layout) (z : Sized L) (s : State) (h : ℕ) (lt : h < 16) (used : 
         rows-same 16 waitWords 16 (s .hubs) h (holding n ws b) (holding n [] b) refl,
       )
       (simp (append-assoc, append-nil)))
-      (cut-along (λ (ws : List ℕ). holding n ws b) (cut-row (L .storeSize) (storeOf L) (λ x. z .store (x .held)) 16 (s .hubs) h lt used))
+      (cut-along (λ (ws : List ℕ). holding n ws b) (cut-row (storeSize L) (storeOf L) (λ x. z .store (x .held)) 16 (s .hubs) h lt used))
 
   -- the count alone is written
   pub set-count : (m n : ℕ) (ws : List ℕ) (b : Hub) → set (words L (setHub h (holding m ws b) s)) (hubsAt L + h * 4 + 1) n ≡ words L (setHub h (holding n ws b) s)
@@ -216,10 +214,10 @@ module _ (L : Layout) (z : Sized L) (s : State) (h : ℕ) (lt : h < 16) (used : 
       ap (λ (x : State). getD (words L x) (waitsAt L + h * 16 + k) 0) (sym (same-hub s h))
       ∙ cut-get (cut-waiters (hub s h)) (hub s h .waiters) k (rw (length-waitWords (hub s h)) hk)
 
-  pub store-word : (k : ℕ) → k < L .storeSize → getD (words L s) (storesAt L + h * L .storeSize + k) 0 ≡ getD (storeOf L (hub s h)) k 0
+  pub store-word : (k : ℕ) → k < storeSize L → getD (words L s) (storesAt L + h * storeSize L + k) 0 ≡ getD (storeOf L (hub s h)) k 0
   unfolding holding
   store-word k hk =
-      ap (λ (x : State). getD (words L x) (storesAt L + h * L .storeSize + k) 0) (sym (same-hub s h))
+      ap (λ (x : State). getD (words L x) (storesAt L + h * storeSize L + k) 0) (sym (same-hub s h))
       ∙ cut-get (cut-store (hub s h .count) (hub s h)) (hub s h .held) k (rw (z .store (hub s h .held)) hk)
 
   pub wait-part : waitPart L (words L s) h ≡ waitWords (hub s h)
@@ -232,7 +230,7 @@ module _ (L : Layout) (z : Sized L) (s : State) (h : ℕ) (lt : h < 16) (used : 
   unfolding holding
   store-part =
       ap (λ (x : State). storePart L (words L x) h) (sym (same-hub s h))
-      ∙ cut-part (cut-store (hub s h .count) (hub s h)) (hub s h .held) (L .storeSize) (z .store (hub s h .held))
+      ∙ cut-part (cut-store (hub s h .count) (hub s h)) (hub s h .held) (storeSize L) (z .store (hub s h .held))
 
 -- ---- behind the records in use
 
@@ -240,7 +238,7 @@ module _ (L : Layout) (z : Sized L) (s : State) (tasks : length (s .tasks) ≤ 1
   pub unused-zero : unusedZero L (words L s) ≡ true
   unfolding unusedZero words
   unused-zero =
-      let stores = rows (L .storeSize) (storeOf L) 16 (s .hubs) in
+      let stores = rows (storeSize L) (storeOf L) 16 (s .hubs) in
       let lists = rows 16 waitWords 16 (s .hubs) ++ stores in
       let afterTasks = rows 4 hubWords 16 (s .hubs) ++ (entries 16 (s .ready) ++ lists) in
       let atHubs : words L s ≡ toHubs L s ++ (rows 4 hubWords 16 (s .hubs) ++ (entries 16 (s .ready) ++ lists)) = simp append-assoc in
@@ -249,21 +247,21 @@ module _ (L : Layout) (z : Sized L) (s : State) (tasks : length (s .tasks) ≤ 1
       rw (
         tasks-word L s,
         hubs-word L s,
-        rest-zero (L .taskSize) (L .taskWords) (z .task) 16 (s .tasks) tasks (contents L s) afterTasks tasksAt (length-contents L s),
+        rest-zero (taskSize L) (taskWords L) (z .task) 16 (s .tasks) tasks (contents L s) afterTasks tasksAt (length-contents L s),
         ap (zeroFrom (hubsAt L + length (s .hubs) * 4) (readyAt L)) atHubs
             ∙ rest-zero 4 hubWords (λ h. refl) 16 (s .hubs) hubs (toHubs L s) (entries 16 (s .ready) ++ lists) (hubsAt L) (length-toHubs L z s),
         ap (zeroFrom (waitsAt L + length (s .hubs) * 16) (storesAt L)) atWaits
             ∙ rest-zero 16 waitWords length-waitWords 16 (s .hubs) hubs (toWaits L s) stores (waitsAt L) (length-toWaits L z s),
-        ap (zeroFrom (storesAt L + length (s .hubs) * L .storeSize) (size L)) atStores
-            ∙ rest-zero (L .storeSize) (storeOf L) (λ h. z .store (h .held)) 16 (s .hubs) hubs (toStores L s) [] (storesAt L) (length-toStores L z s),
+        ap (zeroFrom (storesAt L + length (s .hubs) * storeSize L) (size L)) atStores
+            ∙ rest-zero (storeSize L) (storeOf L) (λ h. z .store (h .held)) 16 (s .hubs) hubs (toStores L s) [] (storesAt L) (length-toStores L z s),
       )
 
 -- a word of a task record that is not in use
 module _ (L : Layout) (z : Sized L) (s : State) (few : length (s .tasks) ≤ 16) where
-  pub task-word-unused : (i k : ℕ) → length (s .tasks) ≤ i → i < 16 → k < L .taskSize → getD (words L s) (tasksAt + i * L .taskSize + k) 0 ≡ 0
+  pub task-word-unused : (i k : ℕ) → length (s .tasks) ≤ i → i < 16 → k < taskSize L → getD (words L s) (tasksAt + i * taskSize L + k) 0 ≡ 0
   unfolding contents words
   task-word-unused i k unused h hk =
-      let w = L .taskSize in
+      let w = taskSize L in
       let T = length (s .tasks) in
       let upTo : T * w + (i - T) * w ≡ i * w = sym (add-mul T (i - T) w) ∙ ap (λ (n : ℕ). n * w) (add-sub-of-le unused) in
       let all : T * w + (16 - T) * w ≡ 16 * w = sym (add-mul T (16 - T) w) ∙ ap (λ (n : ℕ). n * w) (add-sub-of-le few) in
@@ -272,28 +270,28 @@ module _ (L : Layout) (z : Sized L) (s : State) (few : length (s .tasks) ≤ 16)
       let inside : (i - T) * w + k < tasksAt + 16 * w - (tasksAt + T * w) = omega (arith, suc-mul (i - T) w) in
       ap (λ (n : ℕ). getD (words L s) n 0) place
       ∙ zero-at (words L s) (tasksAt + T * w) (tasksAt + 16 * w - (tasksAt + T * w)) ((i - T) * w + k) inside
-      (rest-zero w (L .taskWords) (z .task) 16 (s .tasks) few (contents L s)
-      (rows 4 hubWords 16 (s .hubs) ++ (entries 16 (s .ready) ++ (rows 16 waitWords 16 (s .hubs) ++ rows (L .storeSize) (storeOf L) 16 (s .hubs))))
+      (rest-zero w (taskWords L) (z .task) 16 (s .tasks) few (contents L s)
+      (rows 4 hubWords 16 (s .hubs) ++ (entries 16 (s .ready) ++ (rows 16 waitWords 16 (s .hubs) ++ rows (storeSize L) (storeOf L) 16 (s .hubs))))
       tasksAt refl)
 
 -- ---- one more record
 
 module _ (L : Layout) (z : Sized L) (s : State) where
-  pub add-task : (p : ℕ) → length (s .tasks) < 16 → set (sets (words L s) (tasksAt + length (s .tasks) * L .taskSize) (L .taskWords (inactive p))) 1 (suc (length (s .tasks))) ≡ words L (addTask p s)
+  pub add-task : (p : ℕ) → length (s .tasks) < 16 → set (sets (words L s) (tasksAt + length (s .tasks) * taskSize L) (taskWords L (inactive p))) 1 (suc (length (s .tasks))) ≡ words L (addTask p s)
   unfolding addTask contents words
   add-task p h =
-      ap (λ (l : List ℕ). set l 1 (suc (length (s .tasks)))) (cut-sets next none (some (inactive p)) (length-replicate {A = ℕ} (L .taskSize) 0 ∙ sym (z .task (inactive p))))
+      ap (λ (l : List ℕ). set l 1 (suc (length (s .tasks)))) (cut-sets next none (some (inactive p)) (length-replicate {A = ℕ} (taskSize L) 0 ∙ sym (z .task (inactive p))))
       ∙ rw (length-append (s .tasks) (inactive p ∷ []), add-one)
     where
       rest : List ℕ
-      rest = rows 4 hubWords 16 (s .hubs) ++ (entries 16 (s .ready) ++ (rows 16 waitWords 16 (s .hubs) ++ rows (L .storeSize) (storeOf L) 16 (s .hubs)))
+      rest = rows 4 hubWords 16 (s .hubs) ++ (entries 16 (s .ready) ++ (rows 16 waitWords 16 (s .hubs) ++ rows (storeSize L) (storeOf L) 16 (s .hubs)))
 
-      next : Cut (λ (o : Option Task). contents L s ++ (rows (L .taskSize) (L .taskWords) 16 (more (s .tasks) o) ++ rest)) (rowOf (L .taskSize) (L .taskWords)) (tasksAt + length (s .tasks) * L .taskSize)
+      next : Cut (λ (o : Option Task). contents L s ++ (rows (taskSize L) (taskWords L) 16 (more (s .tasks) o) ++ rest)) (rowOf (taskSize L) (taskWords L)) (tasksAt + length (s .tasks) * taskSize L)
       next =
-          cut-within (contents L s) rest tasksAt (length (s .tasks) * L .taskSize) refl (λ o. refl) (cut-next (L .taskSize) (L .taskWords) (z .task) 16 (s .tasks) h)
+          cut-within (contents L s) rest tasksAt (length (s .tasks) * taskSize L) refl (λ o. refl) (cut-next (taskSize L) (taskWords L) (z .task) 16 (s .tasks) h)
 
   -- a hub that has no waiter and holds nothing: its list and its store are zeros already
-  pub add-hub : L .storeWords [] ≡ replicate (L .storeSize) 0 → (y : Hub) → y .waiters ≡ [] → y .held ≡ [] → length (s .hubs) < 16 → set (sets (words L s) (hubsAt L + length (s .hubs) * 4) (hubWords y)) 2 (suc (length (s .hubs))) ≡ words L (addHub y s)
+  pub add-hub : storeWords L [] ≡ replicate (storeSize L) 0 → (y : Hub) → y .waiters ≡ [] → y .held ≡ [] → length (s .hubs) < 16 → set (sets (words L s) (hubsAt L + length (s .hubs) * 4) (hubWords y)) 2 (suc (length (s .hubs))) ≡ words L (addHub y s)
   unfolding addHub contents entries words
   add-hub empty y noWaiter noWord h =
       ap (λ (l : List ℕ). set l 2 (suc (length (s .hubs)))) (cut-sets next none (some y) refl)
@@ -301,15 +299,15 @@ module _ (L : Layout) (z : Sized L) (s : State) where
         length-append (s .hubs) (y ∷ []),
         add-one,
         rows-empty 16 waitWords 16 (s .hubs) y zeros,
-        rows-empty (L .storeSize) (storeOf L) 16 (s .hubs) y (ap (L .storeWords) noWord ∙ empty),
+        rows-empty (storeSize L) (storeOf L) 16 (s .hubs) y (ap (storeWords L) noWord ∙ empty),
       )
     where
       zeros : waitWords y ≡ replicate 16 0
       zeros = rw noWaiter
 
       rest : List ℕ
-      rest = entries 16 (s .ready) ++ (rows 16 waitWords 16 (s .hubs) ++ rows (L .storeSize) (storeOf L) 16 (s .hubs))
+      rest = entries 16 (s .ready) ++ (rows 16 waitWords 16 (s .hubs) ++ rows (storeSize L) (storeOf L) 16 (s .hubs))
 
-      next : Cut (λ (o : Option Hub). contents L s ++ (rows (L .taskSize) (L .taskWords) 16 (s .tasks) ++ (rows 4 hubWords 16 (more (s .hubs) o) ++ rest))) (rowOf 4 hubWords) (hubsAt L + length (s .hubs) * 4)
+      next : Cut (λ (o : Option Hub). contents L s ++ (rows (taskSize L) (taskWords L) 16 (s .tasks) ++ (rows 4 hubWords 16 (more (s .hubs) o) ++ rest))) (rowOf 4 hubWords) (hubsAt L + length (s .hubs) * 4)
       next =
-          cut-within (toHubs L s) rest (hubsAt L) (length (s .hubs) * 4) (length-toHubs L z s) (λ o. sym (append-assoc (contents L s) (rows (L .taskSize) (L .taskWords) 16 (s .tasks)) (rows 4 hubWords 16 (more (s .hubs) o) ++ rest))) (cut-next 4 hubWords (λ x. refl) 16 (s .hubs) h)
+          cut-within (toHubs L s) rest (hubsAt L) (length (s .hubs) * 4) (length-toHubs L z s) (λ o. sym (append-assoc (contents L s) (rows (taskSize L) (taskWords L) 16 (s .tasks)) (rows 4 hubWords 16 (more (s .hubs) o) ++ rest))) (cut-next 4 hubWords (λ x. refl) 16 (s .hubs) h)

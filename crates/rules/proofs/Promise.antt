@@ -4,11 +4,12 @@
 -- Not here: that the code does it (crate kernel). Assumes nothing.
 use Prim.Native.Nat.{_≤_, suc, zero, ℕ}
 use Rattle.rules.proofs.After.{after-answer, after-valid, well-formed-not-2, words-well-formed}
+use Rattle.rules.proofs.Layouts.{one-laid}
 use Rattle.rules.proofs.Reading.{read-words}
 use Rattle.rules.proofs.Room.{valid-room}
 use Rattle.rules.specs.Calls.{served, serviceOf}
-use Rattle.rules.specs.Refusals.{need, refusal, refusalFor, refusalOf}
-use Rattle.rules.specs.Reply.{answerNumber, refusalNumber, replyBy, replyTo, summaryOf, tableAfter, tableBy}
+use Rattle.rules.specs.Refusals.{need, refusal, refusalFor, refusalIn, refusalOf}
+use Rattle.rules.specs.Reply.{answerNumber, refusalNumber, replyBy, replyIn, replyTo, summaryOf, tableAfter, tableBy, tableIn}
 use Rattle.rules.specs.Table.{one, read, task}
 use Rattle.rules.specs.WellFormed.{wellFormed}
 use Rattle.rules.specs.declared.Answer.the-variants.{Accepted, Refused}
@@ -29,7 +30,7 @@ use native.Mathlib.Omega.{arith}
 
 -- "An accepted call has refusal 0"
 pub refusal-is : (t : List ℕ) (c : Call) → refusalNumber (replyTo t c .answer) ≡ refusalOf t c
-unfolding replyBy replyTo
+unfolding replyBy replyIn
 refusal-is t c = by (refusalOf t c)
   where
     by : (n : ℕ) → refusalNumber (replyBy n (served (read one t) c) c .answer) ≡ n
@@ -39,24 +40,24 @@ refusal-is t c = by (refusalOf t c)
 -- "A refused call gives answer 0, next 0, and no word of the table changes."
 
 pub refused-leaves : (t : List ℕ) (c : Call) (r : ℕ) → refusalOf t c ≡ suc r → (tableAfter t c ≡ t) × (replyTo t c ≡ record { answer = Refused (suc r); next = 0 })
-unfolding replyBy replyTo tableAfter tableBy
+unfolding replyBy replyIn tableBy tableIn
 refused-leaves t c r e = (rw e, rw e)
 
 -- "0 Blank: ... whatever stood there"
 
 pub blank-accepted : (t : List ℕ) (c : Call) → length t ≡ 600 → c .service ≡ 0 → refusalOf t c ≡ 0
-unfolding need refusal refusalFor refusalOf serviceOf
+unfolding need refusal refusalFor refusalIn serviceOf
 blank-accepted t c long e = rw (eq-eqb (length t) 600 long, eq-eqb (c .service) 0 e, e)
 
 -- ---- an accepted call leaves a well-formed table, in which the state after the call stands
 
 pub well-formed-after : (t : List ℕ) (c : Call) → refusalOf t c ≡ 0 → wellFormed (tableAfter t c) ≡ true
-unfolding tableAfter tableBy
-well-formed-after t c e = rw e (words-well-formed (served (read one t) c) (after-valid t c e))
+unfolding tableBy tableIn
+well-formed-after t c e = rw e (words-well-formed (served (read one t) c) (after-valid one t c e))
 
 pub read-after : (t : List ℕ) (c : Call) → refusalOf t c ≡ 0 → read one (tableAfter t c) ≡ served (read one t) c
-unfolding tableAfter tableBy
-read-after t c e = rw e (read-words (served (read one t) c) (valid-room (served (read one t) c) (after-valid t c e)))
+unfolding tableBy tableIn
+read-after t c e = rw e (read-words one one-laid (served (read one t) c) (valid-room (served (read one t) c) (after-valid one t c e)))
 
 -- ---- calls in a row: once a table is well formed it stays so, whatever is called, and refusal 2 never comes
 
@@ -84,7 +85,7 @@ never-2 t b long blank cs c =
 -- ---- the answer
 
 pub answer-is-word : (t : List ℕ) (c : Call) → refusalOf t c ≡ 0 → 1 ≤ c .service → c .service ≤ 7 → answerNumber (replyTo t c .answer) ≡ task (read one (tableAfter t c)) (c .caller) .answer
-unfolding replyBy replyTo
+unfolding replyBy replyIn
 answer-is-word t c e lo hi = rw (e, read-after t c e) (after-answer t c e lo hi)
 
 -- "TO reaches a task by Tick, so no call returns 3."

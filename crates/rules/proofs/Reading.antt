@@ -1,17 +1,19 @@
--- The words of a state, read. In order: how many records are read, and which; what a layout must have so that its words can
--- be read (`Legible`); the words of a state, read, are that state, and are written as the paper has it.
+-- The words of a state, read, for any layout that is `Laid`. In order: how many records are read, and which; a record and a
+-- store, read; the words of a state, read, are that state, and are written as the paper has it.
 -- Not here: any other table (Written.antt), and the tests on the state itself (Tests.antt). Assumes nothing.
 use Prim.Native.Nat.{_*_, _+_, _<_, _≤_, suc, suc-le-suc, zero, ℕ}
 use Rattle.lists.proofs.Laws.{numbers-entries}
-use Rattle.lists.proofs.Padding.{allZero-replicate, drop-padded, packed-entries, padded-none, take-padded}
+use Rattle.lists.proofs.Padding.{allZero-replicate, packed-entries}
 use Rattle.lists.specs.Lists.{allZero, numbers, packed}
-use Rattle.rules.proofs.Places.{hub-word, hubs-word, length-words, one-sized, ready-part, store-part, task-word, tasks-word, unused-zero, wait-part}
+use Rattle.rules.proofs.Layouts.{Laid, answer-at, message-word, sized}
+use Rattle.rules.proofs.Places.{hub-word, hubs-word, length-words, ready-part, store-part, task-word, tasks-word, unused-zero, wait-part}
+use Rattle.rules.proofs.Rows.{row-word, rows-behind, rows-none}
 use Rattle.rules.proofs.Tests.{t-below-all}
 use Rattle.rules.proofs.Valid.{Held, Room}
-use Rattle.rules.specs.Table.{Event, Fifo, Hub, Kind, Layout, NoKind, Port, Resource, Semaphore, Sized, State, Task, contents, heldIn, hub, hubAt, hubWordAt, hubsAt, inactive, kindOf, noHub, one, part, read, readyAt, size, storeOf, storePart, storesAt, tab, task, taskAt, tasksAt, waitPart, waitsAt, words}
+use Rattle.rules.specs.Table.{Event, Fifo, Hub, Kind, Layout, NoKind, Port, Resource, Semaphore, State, Task, contents, heldIn, hub, hubAt, hubWordAt, hubsAt, inactive, kindOf, noHub, part, read, readyAt, size, storeFrom, storeOf, storePart, storeSize, storeWords, storesAt, tab, task, taskAt, taskFrom, taskSize, taskWords, tasksAt, waitPart, waitsAt, words}
 use Rattle.rules.specs.WellFormed.{contentsRight, listsPacked, storeRight, storesRight, written}
 use borrow.Author.Tests.{eq-eqb, le-leb}
-use lib.ListN.{drop, getD, length, replicate}
+use lib.ListN.{getD, length}
 use mathlib.Core.Bool.{true}
 use mathlib.Core.List.{List, [], _∷_}
 use mathlib.Core.Path.{_∙_, _≡_, ap, ap₂, refl, sym}
@@ -21,7 +23,7 @@ use native.Mathlib.Omega.{arith}
 -- ---- the records that are read
 
 module _ {A : Type 0} (f : ℕ → A) where
-  length-tab : (n i : ℕ) → length (tab n i f) ≡ n
+  pub length-tab : (n i : ℕ) → length (tab n i f) ≡ n
   unfolding tab
   length-tab zero i = refl
   length-tab (suc n) i = ap suc (length-tab n (suc i))
@@ -61,34 +63,26 @@ module _ (L : Layout) (t : List ℕ) where
   unfolding read
   read-hub h used = getD-tab (hubAt L t) noHub (getD t 2 0) 0 h used ∙ ap (hubAt L t) (zero-add h)
 
--- ---- a layout whose words can be read
+-- ---- a record and a store of any layout, read
 
-pub record Legible (L : Layout) : Type 0 where
-  pub sized : Sized L
-  pub fields : (y : Task) (w : ℕ → ℕ) → ((k : ℕ) → k < L .taskSize → w k ≡ getD (L .taskWords y) k 0) → L .taskFrom w ≡ y
-  pub empty : L .storeWords [] ≡ replicate (L .storeSize) 0
-  pub held : (ws : List ℕ) → length ws ≤ 8 → L .storeFrom (length ws) (L .storeWords ws) ≡ ws
-  pub behind : (ws : List ℕ) → length ws ≤ 8 → allZero (drop (L .storeUsed (length ws)) (L .storeWords ws)) ≡ true
-
-pub one-legible : Legible one
-one-legible = record {
-  sized = one-sized;
-  fields = λ y w e. λ j. record {
+module _ {ts : ℕ} (L : Layout) (y : Laid ts L) where
+  record-back : (x : Task) (w : ℕ → ℕ) → ((k : ℕ) → k < taskSize L → w k ≡ getD (taskWords L x) k 0) → taskFrom L w ≡ x
+  record-back x w e = λ j. record {
     state = e 0 (omega arith) j;
     suspended = e 1 (omega arith) j;
     priority = e 2 (omega arith) j;
     hub = e 3 (omega arith) j;
     ticks = e 4 (omega arith) j;
     side = e 5 (omega arith) j;
-    word = e 6 (omega arith) j;
-    answer = e 7 (omega arith) j;
-  };
-  empty = padded-none 8;
-  held = take-padded 8;
-  behind = λ ws h. drop-padded 8 ws;
-}
+    word = y .back (x .word) (λ k. w (6 + k)) (λ k h. e (6 + k) (omega arith) ∙ message-word L (y .long) x k h) j;
+    answer = (e (6 + L .width) (omega arith) ∙ answer-at L (y .long) x) j;
+  }
 
-module _ (L : Layout) (y : Legible L) where
+  messages-back : (ws : List ℕ) → length ws ≤ 8 → storeFrom L (length ws) (storeWords L ws) ≡ ws
+  messages-back ws h =
+      tab-getD (λ i. L .messageFrom (λ k. getD (storeWords L ws) (i * L .width + k) 0)) 0 ws 0
+      (λ i hi. rw zero-add (y .back (getD ws i 0) _ (λ k hk. row-word (L .width) (L .message) (y .long) 8 ws i k 0 (omega arith) hi hk)))
+
   -- a store read and tested, by kind
   held-back : (k : Kind) (x : Hub) → Held k x → length (x .held) ≤ 8 → heldIn L k (x .count) (storeOf L x) ≡ x .held
   unfolding Held heldIn
@@ -96,11 +90,11 @@ module _ (L : Layout) (y : Legible L) where
   held-back Event x e h = sym e
   held-back Semaphore x e h = sym e
   held-back Port x e h = sym e
-  held-back Fifo x e h = rw e (y .held (x .held) h)
+  held-back Fifo x e h = rw e (messages-back (x .held) h)
   held-back Resource x e h = sym e
 
   none-right : (x : Hub) → x .held ≡ [] → allZero (storeOf L x) ≡ true
-  none-right x e = rw (e, y .empty) (allZero-replicate (L .storeSize))
+  none-right x e = rw (e, rows-none (L .width) (L .message) 8) (allZero-replicate (storeSize L))
 
   store-right : (k : Kind) (x : Hub) → Held k x → length (x .held) ≤ 8 → storeRight L k (x .count) (storeOf L x) ≡ true
   unfolding Held storeRight
@@ -108,26 +102,26 @@ module _ (L : Layout) (y : Legible L) where
   store-right Event x e h = none-right x e
   store-right Semaphore x e h = none-right x e
   store-right Port x e h = none-right x e
-  store-right Fifo x e h = rw e (y .behind (x .held) h)
+  store-right Fifo x e h = rw e (rows-behind (L .width) (L .message) (y .long) 8 (x .held) h)
   store-right Resource x e h = none-right x e
 
   module _ (s : State) (r : Room s) where
     task-back : (i : ℕ) → i < length (s .tasks) → taskAt L (words L s) i ≡ task s i
     unfolding taskAt
     task-back i h =
-        y .fields (task s i) (λ k. getD (words L s) (tasksAt + i * L .taskSize + k) 0)
-        (λ k hk. task-word L (y .sized) s i k (omega (arith, r .tasks)) h hk)
+        record-back (task s i) (λ k. getD (words L s) (tasksAt + i * taskSize L + k) 0)
+        (λ k hk. task-word L (sized y) s i k (omega (arith, r .tasks)) h hk)
 
     hub-back : (h : ℕ) → h < length (s .hubs) → hubAt L (words L s) h ≡ hub s h
     unfolding hubAt
     hub-back h used =
         let lt : h < 16 = omega (arith, r .hubs) in
-        let word = hub-word L (y .sized) s h lt used in
+        let word = hub-word L (sized y) s h lt used in
         let wait : numbers (waitPart L (words L s) h) ≡ hub s h .waiters =
-        rw (wait-part L (y .sized) s h lt used) (numbers-entries 16 (hub s h .waiters) (r .waiters h)) in
+        rw (wait-part L (sized y) s h lt used) (numbers-entries 16 (hub s h .waiters) (r .waiters h)) in
         let held : heldIn L (kindOf (hubWordAt L (words L s) h 0)) (hubWordAt L (words L s) h 1) (storePart L (words L s) h) ≡ hub s h .held =
         rw
-        (word 0 (omega arith), word 1 (omega arith), store-part L (y .sized) s h lt used)
+        (word 0 (omega arith), word 1 (omega arith), store-part L (sized y) s h lt used)
         (held-back (kindOf (hub s h .kind)) (hub s h) (r .held h used) (r .stores h)) in
         λ j. record {
           kind = word 0 (omega arith) j;
@@ -138,15 +132,15 @@ module _ (L : Layout) (y : Legible L) where
           held = held j;
         }
 
-    pub read-words-of : read L (words L s) ≡ s
+    pub read-words : read L (words L s) ≡ s
     unfolding read
-    read-words-of =
+    read-words =
         let tasks : tab (length (s .tasks)) 0 (taskAt L (words L s)) ≡ s .tasks =
         tab-getD (taskAt L (words L s)) (inactive 0) (s .tasks) 0 (λ k h. rw zero-add (task-back k h)) in
         let hubs : tab (length (s .hubs)) 0 (hubAt L (words L s)) ≡ s .hubs =
         tab-getD (hubAt L (words L s)) noHub (s .hubs) 0 (λ k h. rw zero-add (hub-back k h)) in
         let ready : numbers (part (readyAt L) 16 (words L s)) ≡ s .ready =
-        rw (ready-part L (y .sized) s) (numbers-entries 16 (s .ready) (r .ready)) in
+        rw (ready-part L (sized y) s) (numbers-entries 16 (s .ready) (r .ready)) in
         rw (tasks-word L s, hubs-word L s, tasks, hubs, ready)
 
     contents-right : contentsRight L (words L s) ≡ true
@@ -167,8 +161,8 @@ module _ (L : Layout) (y : Legible L) where
     unfolding listsPacked
     lists-packed =
         rw
-        (ready-part L (y .sized) s, packed-entries 16 (s .ready), hubs-word L s)
-        (t-below-all (λ h. packed (waitPart L (words L s) h)) (length (s .hubs)) .conv (λ h used. rw (wait-part L (y .sized) s h (omega (arith, r .hubs)) used) (packed-entries 16 (hub s h .waiters))))
+        (ready-part L (sized y) s, packed-entries 16 (s .ready), hubs-word L s)
+        (t-below-all (λ h. packed (waitPart L (words L s) h)) (length (s .hubs)) .conv (λ h used. rw (wait-part L (sized y) s h (omega (arith, r .hubs)) used) (packed-entries 16 (hub s h .waiters))))
 
     stores-right : storesRight L (words L s) ≡ true
     unfolding storesRight
@@ -178,26 +172,18 @@ module _ (L : Layout) (y : Legible L) where
         (t-below-all (λ h. storeRight L (kindOf (hubWordAt L (words L s) h 0)) (hubWordAt L (words L s) h 1) (storePart L (words L s) h)) (length (s .hubs)) .conv
         (λ h used.
         let lt : h < 16 = omega (arith, r .hubs) in
-        let word = hub-word L (y .sized) s h lt used in
+        let word = hub-word L (sized y) s h lt used in
         rw
-        (word 0 (omega arith), word 1 (omega arith), store-part L (y .sized) s h lt used)
+        (word 0 (omega arith), word 1 (omega arith), store-part L (sized y) s h lt used)
         (store-right (kindOf (hub s h .kind)) (hub s h) (r .held h used) (r .stores h))))
 
-    pub written-words-of : written L (words L s) ≡ true
+    pub written-words : written L (words L s) ≡ true
     unfolding written
-    written-words-of =
+    written-words =
         rw (
-          eq-eqb (length (words L s)) (size L) (length-words L (y .sized) s),
+          eq-eqb (length (words L s)) (size L) (length-words L (sized y) s),
           contents-right,
-          unused-zero L (y .sized) s (r .tasks) (r .hubs),
+          unused-zero L (sized y) s (r .tasks) (r .hubs),
           lists-packed,
           stores-right,
         )
-
--- ---- edition 1
-
-pub read-words : (s : State) → Room s → read one (words one s) ≡ s
-read-words = read-words-of one one-legible
-
-pub written-words : (s : State) → Room s → written one (words one s) ≡ true
-written-words = written-words-of one one-legible

@@ -1,16 +1,20 @@
 -- Rows of words: the words of each entry, as many as there are, then zeros. In order: a row written alike, no rows, an empty
--- row; the length of all; row i, and one row more, each as a cut; behind the rows in use, zeros.
+-- row; the length of all; row i, and one row more, each as a cut; a word of a row; the first row gone; behind the rows in use,
+-- zeros.
 -- Not here: which rows a table has (Places.antt). Assumes nothing.
 use Prim.Native.Nat.{_*_, _+_, _-_, _<_, _≤_, suc, zero, ℕ}
+use Rattle.lists.proofs.Laws.{removeFirst-row}
 use Rattle.lists.proofs.Padding.{allZero-replicate}
-use Rattle.rules.proofs.Cut.{Cut, cut-here, cut-move, cut-part, cut-within}
+use Rattle.lists.specs.Lists.{allZero, removeFirst}
+use Rattle.rules.proofs.Cut.{Cut, cut-get, cut-here, cut-move, cut-part, cut-within}
 use Rattle.rules.specs.Table.{rows}
 use Rattle.rules.specs.WellFormed.{zeroFrom}
-use lib.ListN.{length, length-append, length-replicate, replicate, replicate-append-replicate, set}
+use lib.ListN.{drop, getD, length, length-append, length-replicate, replicate, replicate-append-replicate, set}
+use lib.Seq.{drop-at, set-getD}
 use mathlib.Core.Bool.{true}
 use mathlib.Core.List.{List, [], _++_, _∷_, append-assoc, append-nil}
 use mathlib.Core.Option.{Option, none, some}
-use mathlib.Core.Path.{_≡_, ap, refl, sym}
+use mathlib.Core.Path.{_∙_, _≡_, ap, refl, sym}
 use native.Mathlib.Nat.{add-mul, add-sub-of-le, le-of-suc-le-suc, not-suc-le-zero, sub-zero, suc-mul, zero-mul}
 use native.Mathlib.Omega.{arith}
 
@@ -87,6 +91,12 @@ module _ {A : Type 0} (w : ℕ) (f : A → List ℕ) (wide : (a : A) → length 
       next none = rw append-nil
       next (some y) = rw append-nil
 
+  -- a word of row i
+  pub row-word : (n : ℕ) (xs : List A) (i k : ℕ) (d : A) → i < n → i < length xs → k < w → getD (rows w f n xs) (i * w + k) 0 ≡ getD (f (getD xs i d)) k 0
+  row-word n xs i k d hn hx hk =
+      ap (λ (l : List A). getD (rows w f n l) (i * w + k) 0) (sym (set-getD xs i d))
+      ∙ cut-get (cut-row n xs i hn hx) (getD xs i d) k (rw (wide (getD xs i d)) hk)
+
   -- behind the rows in use
   rows-rest : (n : ℕ) (xs : List A) → length xs ≤ n → rows w f n xs ≡ rows w f (length xs) xs ++ replicate ((n - length xs) * w) 0
   unfolding rows
@@ -95,6 +105,26 @@ module _ {A : Type 0} (w : ℕ) (f : A → List ℕ) (wide : (a : A) → length 
   rows-rest (suc n) (x ∷ xs) h =
       let e : suc n - suc (length xs) ≡ n - length xs = omega arith in
       rw (e, rows-rest n xs (le-of-suc-le-suc h), append-assoc)
+
+  -- the first row goes, and a row of zeros comes last
+  rows-more : (n : ℕ) (xs : List A) → length xs ≤ n → rows w f n xs ++ replicate w 0 ≡ rows w f (suc n) xs
+  unfolding rows
+  rows-more zero [] h = rw append-nil
+  rows-more zero (x ∷ xs) h = absurd (not-suc-le-zero h)
+  rows-more (suc n) [] h = append-assoc (replicate w 0) (rows w f n []) (replicate w 0) ∙ rw (rows-more n [] (omega arith))
+  rows-more (suc n) (x ∷ xs) h = append-assoc (f x) (rows w f n xs) (replicate w 0) ∙ rw (rows-more n xs (le-of-suc-le-suc h))
+
+  pub rows-shift : (n : ℕ) (xs : List A) → length xs ≤ suc n → removeFirst w (rows w f (suc n) xs) ≡ rows w f (suc n) (drop 1 xs)
+  unfolding rows
+  rows-shift n [] h =
+      removeFirst-row w (replicate w 0) (rows w f n []) (length-replicate {A = ℕ} w 0) ∙ rows-more n [] (omega arith)
+  rows-shift n (x ∷ xs) h = removeFirst-row w (f x) (rows w f n xs) (wide x) ∙ rows-more n xs (le-of-suc-le-suc h)
+
+  pub rows-behind : (n : ℕ) (xs : List A) → length xs ≤ n → allZero (drop (length xs * w) (rows w f n xs)) ≡ true
+  rows-behind n xs h =
+      rw
+      (rows-rest n xs h, drop-at (rows w f (length xs) xs) (replicate ((n - length xs) * w) 0) (length xs * w) (length-rows (length xs) xs))
+      (allZero-replicate ((n - length xs) * w))
 
   pub rest-zero : (n : ℕ) (xs : List A) → length xs ≤ n → (pre post : List ℕ) (b : ℕ) → length pre ≡ b → zeroFrom (b + length xs * w) (b + n * w) (pre ++ (rows w f n xs ++ post)) ≡ true
   rest-zero n xs h pre post b e =

@@ -2,8 +2,8 @@
 use Prim.Native.Nat.{suc, ℕ}
 use Rattle.rules.specs.Calls.{AddHub, AddTask, Blank, HubRequest, Resume, Service, Sleep, Start, Stop, Suspend, Tick, Unknown, Yield, serviceOf}
 use Rattle.rules.specs.Lists.{next}
-use Rattle.rules.specs.Table.{Event, Fifo, Kind, NoKind, Port, Resource, Semaphore, State, kindOf, one, read, size}
-use Rattle.rules.specs.WellFormed.{wellFormed, within}
+use Rattle.rules.specs.Table.{Event, Fifo, Kind, Layout, NoKind, Port, Resource, Semaphore, State, kindOf, one, read, size}
+use Rattle.rules.specs.WellFormed.{wellFormedIn, within}
 use Rattle.rules.specs.declared.Call.{Call}
 use lib.Dec.{eqb, leb, ltb}
 use lib.ListN.{getD, length}
@@ -79,6 +79,10 @@ refusal s c = refusalFor (serviceOf (c .service)) s c
 abbrev pub isBlank : Call → Bool
 isBlank c = eqb (c .service) 0
 
-unfoldable pub refusalOf : List ℕ → Call → ℕ
-refusalOf t c =
-    need (eqb (length t) (size one)) 1 (need (isBlank c || wellFormed t) 2 (refusal (read one t) c))
+unfoldable pub refusalIn : Layout → List ℕ → Call → ℕ
+refusalIn L t c =
+    need (eqb (length t) (size L)) 1 (need (isBlank c || wellFormedIn L t) 2 (refusal (read L t) c))
+
+-- edition 1
+abbrev pub refusalOf : List ℕ → Call → ℕ
+refusalOf = refusalIn one

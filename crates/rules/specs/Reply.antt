@@ -4,9 +4,9 @@ use Prim.Native.Nat.{_*_, _+_, _^_, suc, zero, ℕ}
 use Rattle.lists.specs.Lists.{bit}
 use Rattle.rules.specs.Calls.{AddHub, AddTask, Blank, HubRequest, Resume, Service, Sleep, Start, Stop, Suspend, Tick, Unknown, Yield, served, serviceOf}
 use Rattle.rules.specs.Lists.{next}
-use Rattle.rules.specs.Refusals.{need, refusalOf}
-use Rattle.rules.specs.Table.{State, one, read, size, task, words}
-use Rattle.rules.specs.WellFormed.{waitsFor, wellFormed}
+use Rattle.rules.specs.Refusals.{need, refusalIn}
+use Rattle.rules.specs.Table.{Layout, State, one, read, size, task, words}
+use Rattle.rules.specs.WellFormed.{waitsFor, wellFormedIn}
 use Rattle.rules.specs.declared.Answer.the-variants.{Accepted, Refused}
 use Rattle.rules.specs.declared.Answer.{Answer}
 use Rattle.rules.specs.declared.Call.{Call}
@@ -66,17 +66,25 @@ unfoldable pub replyBy : ℕ → State → Call → Reply
 replyBy zero s′ c = record { answer = Accepted (outcome s′ c); next = next s′ }
 replyBy (suc r) s′ c = record { answer = Refused (suc r); next = 0 }
 
-unfoldable pub replyTo : List ℕ → Call → Reply
-replyTo t c = replyBy (refusalOf t c) (served (read one t) c) c
+unfoldable pub replyIn : Layout → List ℕ → Call → Reply
+replyIn L t c = replyBy (refusalIn L t c) (served (read L t) c) c
+
+-- edition 1
+abbrev pub replyTo : List ℕ → Call → Reply
+replyTo = replyIn one
 
 -- ---- the table after the call: "no word of the table changes" where it is refused
 
-unfoldable pub tableBy : ℕ → List ℕ → State → List ℕ
-tableBy zero t s′ = words one s′
-tableBy (suc r) t s′ = t
+unfoldable pub tableBy : Layout → ℕ → List ℕ → State → List ℕ
+tableBy L zero t s′ = words L s′
+tableBy L (suc r) t s′ = t
 
-unfoldable pub tableAfter : List ℕ → Call → List ℕ
-tableAfter t c = tableBy (refusalOf t c) t (served (read one t) c)
+unfoldable pub tableIn : Layout → List ℕ → Call → List ℕ
+tableIn L t c = tableBy L (refusalIn L t c) t (served (read L t) c)
+
+-- edition 1
+abbrev pub tableAfter : List ℕ → Call → List ℕ
+tableAfter = tableIn one
 
 -- ---- "Hub summary: given a table and a hub"
 
@@ -91,8 +99,12 @@ summaryBy zero m = record { refusal = 0; mask = m; count = ones m }
 summaryBy (suc r) m = record { refusal = suc r; mask = 0; count = 0 }
 
 -- "Refused with 1, 2 or 5, then both are 0."
-unfoldable pub summaryOf : List ℕ → ℕ → Summary
-summaryOf t h =
+unfoldable pub summaryIn : Layout → List ℕ → ℕ → Summary
+summaryIn L t h =
     summaryBy
-    (need (eqb (length t) (size one)) 1 (need (wellFormed t) 2 (need (ltb h (length (read one t .hubs))) 5 0)))
-    (maskBelow 16 (waitsFor (read one t) h))
+    (need (eqb (length t) (size L)) 1 (need (wellFormedIn L t) 2 (need (ltb h (length (read L t .hubs))) 5 0)))
+    (maskBelow 16 (waitsFor (read L t) h))
+
+-- edition 1
+abbrev pub summaryOf : List ℕ → ℕ → Summary
+summaryOf = summaryIn one

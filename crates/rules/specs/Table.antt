@@ -2,12 +2,11 @@
 -- the table read back. In the paper's order: task record, hub record, the state, the layout, the words, reading.
 -- Not here: when a table is well formed (WellFormed.antt), what a call does (Calls.antt). The laws are in proofs/.
 use Prim.Native.Nat.{_*_, _+_, suc, zero, ℕ}
-use Rattle.lists.specs.Lists.{entries, numbers, padded}
+use Rattle.lists.specs.Lists.{entries, numbers}
 use lib.Dec.{eqb}
 use lib.ListN.{drop, getD, length, replicate, set, take}
 use mathlib.Core.Bool.{Bool, not}
 use mathlib.Core.List.{List, [], _++_, _∷_}
-use mathlib.Core.Path.{_≡_}
 
 -- ---- "Task record"
 
@@ -95,58 +94,48 @@ setReady l s = record { tasks = s .tasks; hubs = s .hubs; ready = l }
 
 -- ---- the layout: what an edition fixes of the table
 
--- how many words a task record and a store have, how each is written and read, and how many words of a store n messages
--- take; all other bodies are the same in each edition
+-- its number, how many words a message has, and how a message is written and read; what follows from these stands below,
+-- and all other bodies are the same in each edition
 pub record Layout : Type 0 where
   pub edition : ℕ
-  pub taskSize : ℕ
-  pub storeSize : ℕ
-  pub taskWords : Task → List ℕ
-  pub taskFrom : (ℕ → ℕ) → Task
-  pub storeWords : List ℕ → List ℕ
-  pub storeFrom : ℕ → List ℕ → List ℕ
-  pub storeUsed : ℕ → ℕ
+  pub width : ℕ
+  pub message : ℕ → List ℕ
+  pub messageFrom : (ℕ → ℕ) → ℕ
 
--- edition 1: a task record in the paper's order, and a store's words as they are, then zeros
-abbrev pub taskWords1 : Task → List ℕ
-taskWords1 t =
-    t .state ∷ t .suspended ∷ t .priority ∷ t .hub ∷ t .ticks ∷ t .side ∷ t .word ∷ t .answer ∷ []
+-- edition 1: a message is one word, as it is
+abbrev pub one : Layout
+one = record { edition = 1; width = 1; message = λ m. m ∷ []; messageFrom = λ w. w 0 }
 
-abbrev pub taskFrom1 : (ℕ → ℕ) → Task
-taskFrom1 w = record {
+-- a task record in the paper's order: 8 words in edition 1
+abbrev pub taskSize : Layout → ℕ
+taskSize L = 7 + L .width
+
+abbrev pub taskWords : Layout → Task → List ℕ
+taskWords L t =
+    t .state ∷ t .suspended ∷ t .priority ∷ t .hub ∷ t .ticks ∷ t .side ∷ (L .message (t .word) ++ t .answer ∷ [])
+
+abbrev pub taskFrom : Layout → (ℕ → ℕ) → Task
+taskFrom L w = record {
   state = w 0;
   suspended = w 1;
   priority = w 2;
   hub = w 3;
   ticks = w 4;
   side = w 5;
-  word = w 6;
-  answer = w 7;
+  word = L .messageFrom (λ k. w (6 + k));
+  answer = w (6 + L .width);
 }
 
-abbrev pub one : Layout
-one = record {
-  edition = 1;
-  taskSize = 8;
-  storeSize = 8;
-  taskWords = taskWords1;
-  taskFrom = taskFrom1;
-  storeWords = padded 8;
-  storeFrom = take;
-  storeUsed = λ n. n;
-}
-
--- a layout whose records and stores have the sizes that it says
-pub record Sized (L : Layout) : Type 0 where
-  pub task : (t : Task) → length (L .taskWords t) ≡ L .taskSize
-  pub store : (ws : List ℕ) → length (L .storeWords ws) ≡ L .storeSize
+-- a store of 8 messages: 8 words in edition 1
+abbrev pub storeSize : Layout → ℕ
+storeSize L = 8 * L .width
 
 -- "where each body starts": in edition 1 8, 136, 200, 216, 472, and 600 words in all
 abbrev pub tasksAt : ℕ
 tasksAt = 8
 
 abbrev pub hubsAt : Layout → ℕ
-hubsAt L = tasksAt + 16 * L .taskSize
+hubsAt L = tasksAt + 16 * taskSize L
 
 abbrev pub readyAt : Layout → ℕ
 readyAt L = hubsAt L + 16 * 4
@@ -158,7 +147,7 @@ abbrev pub storesAt : Layout → ℕ
 storesAt L = waitsAt L + 16 * 16
 
 abbrev pub size : Layout → ℕ
-size L = storesAt L + 16 * L .storeSize
+size L = storesAt L + 16 * storeSize L
 
 -- ---- the words
 
@@ -188,17 +177,21 @@ hubWords h = h .kind ∷ h .count ∷ h .limit ∷ h .start ∷ []
 abbrev pub waitWords : Hub → List ℕ
 waitWords h = entries 16 (h .waiters)
 
+-- a store's messages, oldest first, then zeros
+abbrev pub storeWords : Layout → List ℕ → List ℕ
+storeWords L ws = rows (L .width) (L .message) 8 ws
+
 abbrev pub storeOf : Layout → Hub → List ℕ
-storeOf L h = L .storeWords (h .held)
+storeOf L h = storeWords L (h .held)
 
 -- contents; 16 task records; 16 hub records; ready list; 16 waiting lists, one per hub; 16 stores, one per hub.
 -- "Everything unused is 0."
 unfoldable pub words : Layout → State → List ℕ
 words L s =
     contents L s
-    ++ (rows (L .taskSize) (L .taskWords) 16 (s .tasks)
+    ++ (rows (taskSize L) (taskWords L) 16 (s .tasks)
     ++ (rows 4 hubWords 16 (s .hubs)
-    ++ (entries 16 (s .ready) ++ (rows 16 waitWords 16 (s .hubs) ++ rows (L .storeSize) (storeOf L) 16 (s .hubs)))))
+    ++ (entries 16 (s .ready) ++ (rows 16 waitWords 16 (s .hubs) ++ rows (storeSize L) (storeOf L) 16 (s .hubs)))))
 
 -- ---- a table read: whatever the words are, T tasks, H hubs and the ready list
 
@@ -212,7 +205,7 @@ tab zero i f = []
 tab (suc n) i f = f i ∷ tab n (suc i) f
 
 unfoldable pub taskAt : Layout → List ℕ → ℕ → Task
-taskAt L t i = L .taskFrom (λ k. getD t (tasksAt + i * L .taskSize + k) 0)
+taskAt L t i = taskFrom L (λ k. getD t (tasksAt + i * taskSize L + k) 0)
 
 abbrev pub hubWordAt : Layout → List ℕ → ℕ → ℕ → ℕ
 hubWordAt L t h k = getD t (hubsAt L + h * 4 + k) 0
@@ -221,7 +214,11 @@ abbrev pub waitPart : Layout → List ℕ → ℕ → List ℕ
 waitPart L t h = part (waitsAt L + h * 16) 16 t
 
 abbrev pub storePart : Layout → List ℕ → ℕ → List ℕ
-storePart L t h = part (storesAt L + h * L .storeSize) (L .storeSize) t
+storePart L t h = part (storesAt L + h * storeSize L) (storeSize L) t
+
+-- the first n messages of a store
+abbrev pub storeFrom : Layout → ℕ → List ℕ → List ℕ
+storeFrom L n store = tab n 0 (λ j. L .messageFrom (λ k. getD store (j * L .width + k) 0))
 
 -- "A FIFO's store holds its words, oldest first": its count says how many. Other stores hold none.
 unfoldable pub heldIn : Layout → Kind → ℕ → List ℕ → List ℕ
@@ -229,7 +226,7 @@ heldIn L NoKind count store = []
 heldIn L Event count store = []
 heldIn L Semaphore count store = []
 heldIn L Port count store = []
-heldIn L Fifo count store = L .storeFrom count store
+heldIn L Fifo count store = storeFrom L count store
 heldIn L Resource count store = []
 
 unfoldable pub hubAt : Layout → List ℕ → ℕ → Hub

@@ -1,9 +1,10 @@
 -- "Well formed means the above, and": a computed test for each of the paper's clauses, in its order, over the words where it
--- speaks of words and over the state read from them where it speaks of tasks and hubs. `wellFormed` is the whole of it.
+-- speaks of words and over the state read from them where it speaks of tasks and hubs. `wellFormedIn` is the whole of it, `wellFormed` that of
+-- edition 1.
 -- Not here: what each test says as a statement, and that calls keep it (proofs/).
 use Prim.Native.Nat.{_*_, _+_, _-_, pred, suc, zero, ℕ}
 use Rattle.lists.specs.Lists.{allZero, bit, occ, packed}
-use Rattle.rules.specs.Table.{Event, Fifo, Get, Hub, Inactive, Kind, Layout, NoKind, NoSide, NoStage, Port, Put, Ready, Resource, Semaphore, Side, Sleeping, Stage, State, Task, Waiting, hub, hubWordAt, hubsAt, kindOf, one, part, read, readyAt, sideOf, size, stageOf, storePart, storesAt, task, tasksAt, waitPart, waitsAt}
+use Rattle.rules.specs.Table.{Event, Fifo, Get, Hub, Inactive, Kind, Layout, NoKind, NoSide, NoStage, Port, Put, Ready, Resource, Semaphore, Side, Sleeping, Stage, State, Task, Waiting, hub, hubWordAt, hubsAt, kindOf, one, part, read, readyAt, sideOf, size, stageOf, storePart, storeSize, storesAt, task, taskSize, tasksAt, waitPart, waitsAt}
 use lib.Dec.{eqb, leb, ltb}
 use lib.ListN.{drop, getD, length}
 use mathlib.Core.Bool.{Bool, _&&_, _||_, false, not, true}
@@ -42,9 +43,9 @@ zeroFrom a b t = allZero (part a (b - a) t)
 -- "Everything unused is 0": behind the task records, hub records, waiting lists and stores in use
 unfoldable pub unusedZero : Layout → List ℕ → Bool
 unusedZero L t =
-    zeroFrom (tasksAt + getD t 1 0 * L .taskSize) (hubsAt L) t
+    zeroFrom (tasksAt + getD t 1 0 * taskSize L) (hubsAt L) t
     && (zeroFrom (hubsAt L + getD t 2 0 * 4) (readyAt L) t
-    && (zeroFrom (waitsAt L + getD t 2 0 * 16) (storesAt L) t && zeroFrom (storesAt L + getD t 2 0 * L .storeSize) (size L) t))
+    && (zeroFrom (waitsAt L + getD t 2 0 * 16) (storesAt L) t && zeroFrom (storesAt L + getD t 2 0 * storeSize L) (size L) t))
 
 -- "A list holds task number plus 1 per entry, first entry first": entries, then zeros
 unfoldable pub listsPacked : Layout → List ℕ → Bool
@@ -56,7 +57,7 @@ storeRight L NoKind count store = allZero store
 storeRight L Event count store = allZero store
 storeRight L Semaphore count store = allZero store
 storeRight L Port count store = allZero store
-storeRight L Fifo count store = allZero (drop (L .storeUsed count) store)
+storeRight L Fifo count store = allZero (drop (count * L .width) store)
 storeRight L Resource count store = allZero store
 
 unfoldable pub storesRight : Layout → List ℕ → Bool
@@ -187,5 +188,9 @@ unfoldable pub valid : State → Bool
 valid s =
     hubsRight s && (listsExact s && (inOrder s && (tasksRight s && waitersRight s)))
 
-unfoldable pub wellFormed : List ℕ → Bool
-wellFormed t = written one t && valid (read one t)
+unfoldable pub wellFormedIn : Layout → List ℕ → Bool
+wellFormedIn L t = written L t && valid (read L t)
+
+-- edition 1
+abbrev pub wellFormed : List ℕ → Bool
+wellFormed = wellFormedIn one

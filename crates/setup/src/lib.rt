@@ -1,8 +1,10 @@
-// Services 0, 9 and 10 in the words of an edition 1 table, and the keys that order its lists.
+// Services 0, 9 and 10 in the words of a table, and the keys that order its lists.
 // Not here: when these calls are refused, and the start of a task that is added.
 ghost use Prim.Native.Nat.{_<_, _≤_, ℕ};
+ghost use Rattle.records.specs.Records.{Table};
+ghost use Rattle.rules.proofs.Layouts.{Laid};
 ghost use Rattle.rules.specs.Calls.{addHub, addTask, blank};
-ghost use Rattle.rules.specs.Table.{State, one, words};
+ghost use Rattle.rules.specs.Table.{Layout, State, words};
 ghost use Rattle.rules.specs.WellFormed.{urgency};
 ghost use lib.ListN.{getD, length, replicate};
 ghost use mathlib.Core.List.{[]};
@@ -11,9 +13,6 @@ use records::HubNo;
 use records::HubRecord;
 use records::TaskNo;
 use records::TaskRecord;
-
-// "contents: edition 1"
-const EDITION: u32 = 1;
 
 fn clear(t: &mut [u32])
     ensures { λ _. ⌜ now (t .exit) ≡ replicate (length (now (t .entry))) 0 ⌝ }
@@ -25,31 +24,31 @@ fn clear(t: &mut [u32])
     }
 }
 
-// "contents 1, 0, 0, 8, 136, 200, 216, 472 and the other words 0"
-pub fn blank(t: &mut [u32])
-    requires { ⌜ length (now t) ≡ 600 ⌝ }
-    ensures { λ _. ⌜ now (t .exit) ≡ words one blank ⌝ }
+// "contents 1, 0, 0, 8, 136, 200, 216, 472 and the other words 0"; an edition's number is how many words a message has
+pub fn blank(t: &mut [u32], ts: usize)
+    requires { ⌜ Table ts (now t) ⌝ }
+    ensures { λ _. ⌜ ((L : Layout) → Laid ts L → now (t .exit) ≡ words L blank) ⌝ }
 {
     clear(t);
-    t[0] = EDITION;
+    t[0] = records::width_of(ts) as u32;
     t[3] = records::TASKS_AT as u32;
-    t[4] = records::HUBS_AT as u32;
-    t[5] = records::READY_AT as u32;
-    t[6] = records::WAITS_AT as u32;
-    t[7] = records::STORES_AT as u32;
+    t[4] = records::hubs_at(ts) as u32;
+    t[5] = records::ready_at(ts) as u32;
+    t[6] = records::waits_at(ts, HubNo(0)) as u32;
+    t[7] = records::stores_at(ts) as u32;
 }
 
 // "Each takes the next number": a task of this priority, inactive.
-pub fn add_task(t: &mut [u32], priority: u32)
-    requires { ⌜ length (now t) ≡ 600 ⌝ }
+pub fn add_task(t: &mut [u32], ts: usize, priority: u32)
+    requires { ⌜ Table ts (now t) ⌝ }
     requires { ⌜ getD (now t) 1 0 < 16 ⌝ }
-    ensures { λ _. ⌜ ((s : State) → length (s .tasks) < 16 → now (t .entry) ≡ words one s
-        → now (t .exit) ≡ words one (addTask priority s)) ⌝ }
+    ensures { λ _. ⌜ ((L : Layout) (s : State) → Laid ts L → length (s .tasks) < 16 → now (t .entry) ≡ words L s
+        → now (t .exit) ≡ words L (addTask priority s)) ⌝ }
 {
     let n = t[records::TASKS] as usize;
     records::set_task(
         t,
-        records::TASK_SIZE,
+        ts,
         TaskNo(n),
         TaskRecord {
             state: rules::INACTIVE,
@@ -66,17 +65,17 @@ pub fn add_task(t: &mut [u32], priority: u32)
 }
 
 // "target is kind, ticks the limit, word the start, count = start"
-pub fn add_hub(t: &mut [u32], kind: u32, limit: u32, start: u32)
-    requires { ⌜ length (now t) ≡ 600 ⌝ }
+pub fn add_hub(t: &mut [u32], ts: usize, kind: u32, limit: u32, start: u32)
+    requires { ⌜ Table ts (now t) ⌝ }
     requires { ⌜ getD (now t) 2 0 < 16 ⌝ }
-    ensures { λ _. ⌜ ((s : State) → length (s .hubs) < 16 → now (t .entry) ≡ words one s
+    ensures { λ _. ⌜ ((L : Layout) (s : State) → Laid ts L → length (s .hubs) < 16 → now (t .entry) ≡ words L s
         → now (t .exit)
-        ≡ words one (addHub record { kind = kind; count = start; limit = limit; start = start; waiters = []; held = [] } s)) ⌝ }
+        ≡ words L (addHub record { kind = kind; count = start; limit = limit; start = start; waiters = []; held = [] } s)) ⌝ }
 {
     let n = t[records::HUBS] as usize;
     records::set_hub(
         t,
-        records::HUBS_AT,
+        records::hubs_at(ts),
         HubNo(n),
         HubRecord {
             kind,
@@ -89,20 +88,15 @@ pub fn add_hub(t: &mut [u32], kind: u32, limit: u32, start: u32)
 }
 
 // The key of each task number, by which it joins a list: its own priority; of a number not in use 0.
-pub fn keys(t: &[u32]) -> [u32; 16]
-    ensures { λ r. ⌜ ((s : State) → length (s .tasks) ≤ 16 → now (t .entry) ≡ words one s
+pub fn keys(t: &[u32], ts: usize) -> [u32; 16]
+    requires { ⌜ Table ts (now t) ⌝ }
+    ensures { λ r. ⌜ ((L : Layout) (s : State) → Laid ts L → length (s .tasks) ≤ 16 → now (t .entry) ≡ words L s
         → (j : ℕ) → getD r j 0 ≡ urgency s j) ⌝ }
 {
     let mut ks = [0u32; 16];
     let mut i = 0;
     while i < 16 {
-        ks[i] = records::field(
-            t,
-            records::TASKS_AT,
-            records::TASK_SIZE,
-            i,
-            records::PRIORITY,
-        );
+        ks[i] = records::field(t, records::TASKS_AT, ts, i, records::PRIORITY);
         i += 1;
     }
     ks

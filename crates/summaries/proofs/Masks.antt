@@ -10,7 +10,7 @@ use Rattle.records.specs.declared.HubNo.{HubNo}
 use Rattle.refusals.proofs.Found.{hub-in-use, hub-number}
 use Rattle.refusals.specs.Lookup.{foundHub}
 use Rattle.refusals.specs.declared.FoundHub.the-variants.{InUse}
-use Rattle.rules.proofs.After.{read-valid, well-formed-long}
+use Rattle.rules.proofs.After.{long-in, valid-in}
 use Rattle.rules.proofs.Cases.{and-l}
 use Rattle.rules.proofs.Changes.{inUse}
 use Rattle.rules.proofs.Reading.{read-hub, read-hubs}
@@ -18,8 +18,8 @@ use Rattle.rules.proofs.Standing.{listed-waits}
 use Rattle.rules.proofs.Valid.{Valid}
 use Rattle.rules.proofs.Written.{written-says}
 use Rattle.rules.specs.Reply.{maskBelow}
-use Rattle.rules.specs.Table.{Hub, State, hub, hubAt, one, read, waitPart}
-use Rattle.rules.specs.WellFormed.{waitsFor, wellFormed}
+use Rattle.rules.specs.Table.{Hub, Layout, State, hub, hubAt, read, size, waitPart}
+use Rattle.rules.specs.WellFormed.{waitsFor, wellFormedIn}
 use Rattle.summaries.specs.Mask.{bitOf, maskOf}
 use borrow.Author.Tests.{eqb-false, eqb-true, ltb-false, ltb-true, ne-eqb}
 use lib.Dec.{eqb, lit<, ltb}
@@ -145,23 +145,23 @@ waiters-mask s v h =
     (λ i k. omega (arith, inUse s i 1 (listed-waits s (v .listed) h i k .0), v .tasks))
 
 -- a hub that is found in a table: that it is in use, where its list stands, and the list's mask
-pub record FoundIn (t : List ℕ) (n h : ℕ) : Type 0 where
+pub record FoundIn (L : Layout) (t : List ℕ) (n h : ℕ) : Type 0 where
   pub used : n < getD t 2 0
   pub below : h < 16
-  pub long : length t ≡ 600
-  pub packed : packed (waitPart one t h) ≡ true
-  pub mask : maskOf (numbers (waitPart one t h)) ≡ maskBelow 16 (waitsFor (read one t) n)
+  pub long : length t ≡ size L
+  pub packed : packed (waitPart L t h) ≡ true
+  pub mask : maskOf (numbers (waitPart L t h)) ≡ maskBelow 16 (waitsFor (read L t) n)
 
-pub found-in : (t : List ℕ) (n : ℕ) (h : HubNo) → wellFormed t ≡ true → InUse h ≡ foundHub t n → FoundIn t n (h .0)
-unfolding foundHub hubAt wellFormed
-found-in t n h w e =
+pub found-in : (L : Layout) (t : List ℕ) (n : ℕ) (h : HubNo) → wellFormedIn L t ≡ true → InUse h ≡ foundHub t n → FoundIn L t n (h .0)
+unfolding foundHub hubAt wellFormedIn
+found-in L t n h w e =
     let b = hub-in-use t n h e in
     let same = hub-number t n h e in
     let used : n < getD t 2 0 = ltb-true n (getD t 2 0) b in
     record {
       used = used;
-      below = rw same (omega (arith, read-valid t w .hubs, read-hubs one t));
-      long = well-formed-long t w;
-      packed = rw same (written-says one t (and-l _ _ w) .waiters n used);
-      mask = rw same (ap (λ (x : Hub). maskOf (x .waiters)) (sym (read-hub one t n used)) ∙ waiters-mask (read one t) (read-valid t w) n);
+      below = rw same (omega (arith, valid-in L t w .hubs, read-hubs L t));
+      long = long-in L t w;
+      packed = rw same (written-says L t (and-l _ _ w) .waiters n used);
+      mask = rw same (ap (λ (x : Hub). maskOf (x .waiters)) (sym (read-hub L t n used)) ∙ waiters-mask (read L t) (valid-in L t w) n);
     }

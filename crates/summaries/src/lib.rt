@@ -4,7 +4,9 @@ use refusals::FoundHub;
 use rules::Summary;
 ghost use Prim.Native.Nat.{_<_, _≤_};
 ghost use Rattle.lists.specs.Lists.{numbers, packed};
-ghost use Rattle.rules.specs.Reply.{summaryOf};
+ghost use Rattle.rules.proofs.Layouts.{Laid};
+ghost use Rattle.rules.specs.Reply.{summaryIn};
+ghost use Rattle.rules.specs.Table.{Layout};
 ghost use Rattle.summaries.specs.Mask.{bitOf, maskOf, refusedWith};
 ghost use mathlib.Core.Bool.{true};
 ghost use mathlib.Core.Path.{_≡_};
@@ -43,20 +45,22 @@ fn mask_of(list: &[u32]) -> u32
     mask
 }
 
-pub fn summarise(t: &[u32], hub: u32) -> Summary
-    ensures { λ r. ⌜ r ≡ summaryOf (now (t .entry)) hub ⌝ }
+pub fn summarise(t: &[u32], ts: usize, hub: u32) -> Summary
+    requires { ⌜ 8 ≤ ts ⌝ }
+    requires { ⌜ ts ≤ 9 ⌝ }
+    ensures { λ r. ⌜ ((L : Layout) → Laid ts L → r ≡ summaryIn L (now (t .entry)) hub) ⌝ }
 {
-    if t.len() != records::TABLE_SIZE {
+    if t.len() != records::table_size(ts) {
         return refused(rules::WRONG_LENGTH);
     }
-    if !wellformed::well_formed(t) {
+    if !wellformed::well_formed(t, ts) {
         return refused(rules::NOT_WELL_FORMED);
     }
     let found = refusals::find_hub(t, hub);
     let FoundHub::InUse(h) = found else {
         return refused(rules::NOT_IN_USE);
     };
-    let at = records::WAITS_AT + h.0 * records::LIST_SIZE;
+    let at = records::waits_at(ts, h);
     let mask = mask_of(&t[at..at + records::LIST_SIZE]);
     Summary {
         refusal: 0,

@@ -5,40 +5,46 @@ use records::TaskRecord;
 use rules::Call;
 ghost use Prim.Native.Nat.{_<_, _≤_, ℕ};
 ghost use Rattle.moves.specs.Moves.{Sound, keyOf, taskOf};
+ghost use Rattle.records.specs.Records.{Table};
+ghost use Rattle.rules.proofs.Layouts.{Laid};
 ghost use Rattle.rules.specs.Calls.{Resume, Sleep, Start, Stop, Suspend, Yield, flag, mayStop, maySuspend, serve};
-ghost use Rattle.rules.specs.Table.{State, inactive, one, setTask, words};
+ghost use Rattle.rules.specs.Table.{Layout, State, inactive, setTask, words};
 ghost use lib.ListN.{length};
 ghost use mathlib.Core.Path.{_≡_};
 
 // "Start an inactive task: ready, behind its equals."
-pub fn start_task(t: &mut [u32], keys: &[u32], c: Call)
+pub fn start_task(t: &mut [u32], ts: usize, keys: &[u32], c: Call)
+    requires { ⌜ Table ts (now t) ⌝ }
     requires { ⌜ c .caller < 16 ⌝ }
     requires { ⌜ c .target < 16 ⌝ }
-    requires { ⌜ length (now t) ≡ 600 ⌝ }
-    ensures { λ _. ⌜ ((s : State) → Sound s → c .caller < length (s .tasks) → c .target < length (s .tasks)
-        → now (t .entry) ≡ words one s → now (t .exit) ≡ words one (serve (keyOf (now (keys .entry))) Start s c)) ⌝ }
+    ensures { λ _. ⌜ ((L : Layout) (s : State) → Laid ts L → Sound s → c .caller < length (s .tasks)
+        → c .target < length (s .tasks)
+        → now (t .entry) ≡ words L s → now (t .exit) ≡ words L (serve (keyOf (now (keys .entry))) Start s c)) ⌝ }
 {
     let caller = TaskNo(c.caller as usize);
     let i = TaskNo(c.target as usize);
-    let x = moves::task_at(&*t, i);
+    let x = moves::task_at(&*t, ts, i);
     let state = x.state;
     if state != rules::INACTIVE {
-        moves::give_answer(t, caller, rules::FAIL, 0);
+        moves::give_answer(t, ts, caller, rules::FAIL, 0);
         return;
     }
-    moves::make_ready(t, i, 0, 0);
-    moves::join_ready(t, records::TASK_SIZE, keys, i);
-    moves::give_answer(t, caller, rules::OK, 0);
+    moves::make_ready(t, ts, i, 0, 0);
+    moves::join_ready(t, ts, keys, i);
+    moves::give_answer(t, ts, caller, rules::OK, 0);
 }
 
 // "made inactive with all but state and priority 0"
-fn make_inactive(t: &mut [u32], i: TaskNo, priority: u32)
+fn make_inactive(t: &mut [u32], ts: usize, i: TaskNo, priority: u32)
+    requires { ⌜ Table ts (now t) ⌝ }
     requires { ⌜ i .0 < 16 ⌝ }
-    ensures { λ _. ⌜ ((s : State) → length (s .tasks) ≤ 16 → i .0 < length (s .tasks) → now (t .entry) ≡ words one s
-        → now (t .exit) ≡ words one (setTask (i .0) (inactive priority) s)) ⌝ }
+    ensures { λ _. ⌜ ((L : Layout) (s : State) → Laid ts L → length (s .tasks) ≤ 16 → i .0 < length (s .tasks)
+        → now (t .entry) ≡ words L s
+        → now (t .exit) ≡ words L (setTask (i .0) (inactive priority) s)) ⌝ }
 {
     moves::set_task(
         t,
+        ts,
         i,
         TaskRecord {
             state: rules::INACTIVE,
@@ -61,35 +67,38 @@ fn may_stop(x: TaskRecord, c: Call) -> bool
 }
 
 // Stop: "taken from any list, made inactive".
-pub fn stop_task(t: &mut [u32], c: Call)
+pub fn stop_task(t: &mut [u32], ts: usize, c: Call)
+    requires { ⌜ Table ts (now t) ⌝ }
     requires { ⌜ c .caller < 16 ⌝ }
     requires { ⌜ c .target < 16 ⌝ }
-    requires { ⌜ length (now t) ≡ 600 ⌝ }
-    ensures { λ _. ⌜ ((key : ℕ → ℕ) (s : State) → Sound s → c .caller < length (s .tasks)
-        → c .target < length (s .tasks) → now (t .entry) ≡ words one s
-        → now (t .exit) ≡ words one (serve key Stop s c)) ⌝ }
+    ensures { λ _. ⌜ ((L : Layout) (key : ℕ → ℕ) (s : State) → Laid ts L → Sound s → c .caller < length (s .tasks)
+        → c .target < length (s .tasks) → now (t .entry) ≡ words L s
+        → now (t .exit) ≡ words L (serve key Stop s c)) ⌝ }
 {
     let caller = TaskNo(c.caller as usize);
     let i = TaskNo(c.target as usize);
-    let x = moves::task_at(&*t, i);
+    let x = moves::task_at(&*t, ts, i);
     if !may_stop(x, c) {
-        moves::give_answer(t, caller, rules::FAIL, 0);
+        moves::give_answer(t, ts, caller, rules::FAIL, 0);
         return;
     }
-    moves::leave_list(t, i);
-    make_inactive(t, i, x.priority);
-    moves::give_answer(t, caller, rules::OK, 0);
+    moves::leave_list(t, ts, i);
+    make_inactive(t, ts, i, x.priority);
+    moves::give_answer(t, ts, caller, rules::OK, 0);
 }
 
 // The flag of task i, and nothing else.
-fn set_flag(t: &mut [u32], i: TaskNo, f: u32)
+fn set_flag(t: &mut [u32], ts: usize, i: TaskNo, f: u32)
+    requires { ⌜ Table ts (now t) ⌝ }
     requires { ⌜ i .0 < 16 ⌝ }
-    ensures { λ _. ⌜ ((s : State) → length (s .tasks) ≤ 16 → i .0 < length (s .tasks) → now (t .entry) ≡ words one s
-        → now (t .exit) ≡ words one (flag f (i .0) s)) ⌝ }
+    ensures { λ _. ⌜ ((L : Layout) (s : State) → Laid ts L → length (s .tasks) ≤ 16 → i .0 < length (s .tasks)
+        → now (t .entry) ≡ words L s
+        → now (t .exit) ≡ words L (flag f (i .0) s)) ⌝ }
 {
-    let x = moves::task_at(&*t, i);
+    let x = moves::task_at(&*t, ts, i);
     moves::set_task(
         t,
+        ts,
         i,
         TaskRecord {
             state: x.state,
@@ -112,69 +121,74 @@ fn may_suspend(x: TaskRecord, c: Call) -> bool
 }
 
 // Suspend: "flag set, state and lists kept".
-pub fn suspend_task(t: &mut [u32], c: Call)
+pub fn suspend_task(t: &mut [u32], ts: usize, c: Call)
+    requires { ⌜ Table ts (now t) ⌝ }
     requires { ⌜ c .caller < 16 ⌝ }
     requires { ⌜ c .target < 16 ⌝ }
-    ensures { λ _. ⌜ ((key : ℕ → ℕ) (s : State) → Sound s → c .caller < length (s .tasks)
-        → c .target < length (s .tasks) → now (t .entry) ≡ words one s
-        → now (t .exit) ≡ words one (serve key Suspend s c)) ⌝ }
+    ensures { λ _. ⌜ ((L : Layout) (key : ℕ → ℕ) (s : State) → Laid ts L → Sound s → c .caller < length (s .tasks)
+        → c .target < length (s .tasks) → now (t .entry) ≡ words L s
+        → now (t .exit) ≡ words L (serve key Suspend s c)) ⌝ }
 {
     let caller = TaskNo(c.caller as usize);
     let i = TaskNo(c.target as usize);
-    let x = moves::task_at(&*t, i);
+    let x = moves::task_at(&*t, ts, i);
     if !may_suspend(x, c) {
-        moves::give_answer(t, caller, rules::FAIL, 0);
+        moves::give_answer(t, ts, caller, rules::FAIL, 0);
         return;
     }
-    set_flag(t, i, 1);
-    moves::give_answer(t, caller, rules::OK, 0);
+    set_flag(t, ts, i, 1);
+    moves::give_answer(t, ts, caller, rules::OK, 0);
 }
 
 // "Resume a suspended task: flag cleared."
-pub fn resume_task(t: &mut [u32], c: Call)
+pub fn resume_task(t: &mut [u32], ts: usize, c: Call)
+    requires { ⌜ Table ts (now t) ⌝ }
     requires { ⌜ c .caller < 16 ⌝ }
     requires { ⌜ c .target < 16 ⌝ }
-    ensures { λ _. ⌜ ((key : ℕ → ℕ) (s : State) → Sound s → c .caller < length (s .tasks)
-        → c .target < length (s .tasks) → now (t .entry) ≡ words one s
-        → now (t .exit) ≡ words one (serve key Resume s c)) ⌝ }
+    ensures { λ _. ⌜ ((L : Layout) (key : ℕ → ℕ) (s : State) → Laid ts L → Sound s → c .caller < length (s .tasks)
+        → c .target < length (s .tasks) → now (t .entry) ≡ words L s
+        → now (t .exit) ≡ words L (serve key Resume s c)) ⌝ }
 {
     let caller = TaskNo(c.caller as usize);
     let i = TaskNo(c.target as usize);
-    let x = moves::task_at(&*t, i);
+    let x = moves::task_at(&*t, ts, i);
     let suspended = x.suspended;
     if suspended == 0 {
-        moves::give_answer(t, caller, rules::FAIL, 0);
+        moves::give_answer(t, ts, caller, rules::FAIL, 0);
         return;
     }
-    set_flag(t, i, 0);
-    moves::give_answer(t, caller, rules::OK, 0);
+    set_flag(t, ts, i, 0);
+    moves::give_answer(t, ts, caller, rules::OK, 0);
 }
 
 // "Yield: caller goes behind its equals, answer 1."
-pub fn yield_turn(t: &mut [u32], keys: &[u32], c: Call)
+pub fn yield_turn(t: &mut [u32], ts: usize, keys: &[u32], c: Call)
+    requires { ⌜ Table ts (now t) ⌝ }
     requires { ⌜ c .caller < 16 ⌝ }
-    requires { ⌜ length (now t) ≡ 600 ⌝ }
-    ensures { λ _. ⌜ ((s : State) → Sound s → c .caller < length (s .tasks) → now (t .entry) ≡ words one s
-        → now (t .exit) ≡ words one (serve (keyOf (now (keys .entry))) Yield s c)) ⌝ }
+    ensures { λ _. ⌜ ((L : Layout) (s : State) → Laid ts L → Sound s → c .caller < length (s .tasks)
+        → now (t .entry) ≡ words L s
+        → now (t .exit) ≡ words L (serve (keyOf (now (keys .entry))) Yield s c)) ⌝ }
 {
     let caller = TaskNo(c.caller as usize);
-    moves::leave_list(t, caller);
-    moves::give_answer(t, caller, rules::OK, 0);
-    moves::join_ready(t, records::TASK_SIZE, keys, caller);
+    moves::leave_list(t, ts, caller);
+    moves::give_answer(t, ts, caller, rules::OK, 0);
+    moves::join_ready(t, ts, keys, caller);
 }
 
 // "Sleep (ticks): state 4, these ticks, answer 0, out of the ready list."
-pub fn sleep_task(t: &mut [u32], c: Call)
+pub fn sleep_task(t: &mut [u32], ts: usize, c: Call)
+    requires { ⌜ Table ts (now t) ⌝ }
     requires { ⌜ c .caller < 16 ⌝ }
-    requires { ⌜ length (now t) ≡ 600 ⌝ }
-    ensures { λ _. ⌜ ((key : ℕ → ℕ) (s : State) → Sound s → c .caller < length (s .tasks) → now (t .entry) ≡ words one s
-        → now (t .exit) ≡ words one (serve key Sleep s c)) ⌝ }
+    ensures { λ _. ⌜ ((L : Layout) (key : ℕ → ℕ) (s : State) → Laid ts L → Sound s → c .caller < length (s .tasks)
+        → now (t .entry) ≡ words L s
+        → now (t .exit) ≡ words L (serve key Sleep s c)) ⌝ }
 {
     let caller = TaskNo(c.caller as usize);
-    moves::leave_list(t, caller);
-    let x = moves::task_at(&*t, caller);
+    moves::leave_list(t, ts, caller);
+    let x = moves::task_at(&*t, ts, caller);
     moves::set_task(
         t,
+        ts,
         caller,
         TaskRecord {
             state: rules::SLEEPING,

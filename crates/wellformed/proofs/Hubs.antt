@@ -1,12 +1,13 @@
--- A hub by its words: its record, its list and its store, one after the other; and the hubs below h, with the marks so far.
+-- A hub by its words: its record, its store and its list, one after the other; and the hubs below h, with the marks so far.
 -- Not here: the walk of a list (Turns.antt). Assumes nothing.
 use Prim.Native.Nat.{_*_, _+_, _-_, _<_, _≤_, suc, zero, zero-le, ℕ}
 use Rattle.lists.proofs.Laws.{length-numbers}
 use Rattle.lists.specs.Lists.{allZero, numbers, occ}
+use Rattle.rules.proofs.Layouts.{Laid}
 use Rattle.rules.proofs.Reading.{read-hub, read-tasks}
 use Rattle.rules.proofs.Tests.{t-kind}
 use Rattle.rules.proofs.Valid.{Range}
-use Rattle.rules.specs.Table.{Fifo, Hub, hub, hubAt, kindOf, one, read, waitPart}
+use Rattle.rules.specs.Table.{Fifo, Hub, Layout, hub, hubAt, hubsAt, kindOf, read, storeSize, storesAt, waitPart, waitsAt}
 use Rattle.rules.specs.WellFormed.{forAll, kindRight, storeRight}
 use Rattle.wellformed.proofs.Parts.{so-many}
 use Rattle.wellformed.proofs.Turns.{entry-side, forAll-fail, forAll-none, forAll-step, numbers-end, occ-le}
@@ -37,47 +38,63 @@ module _ {test : Bool} {met : ℕ → ℕ} {m : List ℕ} where
 
 -- ---- a store by the number of its hub's kind: a FIFO's, and any other
 
-pub store-fifo : (n count : ℕ) (store : List ℕ) → n ≡ 4 → storeRight one (kindOf n) count store ≡ allZero (drop count store)
-unfolding kindOf storeRight
-store-fifo n count store e = rw e
+module _ (L : Layout) where
+  pub store-fifo : (n count w : ℕ) (store : List ℕ) → n ≡ 4 → w ≡ L .width → storeRight L (kindOf n) count store ≡ allZero (drop (count * w) store)
+  unfolding kindOf storeRight
+  store-fifo n count w store e f = rw (e, f)
 
-pub store-other : (n count : ℕ) (store : List ℕ) → (n ≡ 4 → ⊥) → storeRight one (kindOf n) count store ≡ allZero store
-unfolding kindOf storeRight
-store-other zero count store d = refl
-store-other (suc zero) count store d = refl
-store-other (suc (suc zero)) count store d = refl
-store-other (suc (suc (suc zero))) count store d = refl
-store-other (suc (suc (suc (suc zero)))) count store d = absurd (d refl)
-store-other (suc (suc (suc (suc (suc zero))))) count store d = refl
-store-other (suc (suc (suc (suc (suc (suc n)))))) count store d = refl
+  pub store-other : (n count : ℕ) (store : List ℕ) → (n ≡ 4 → ⊥) → storeRight L (kindOf n) count store ≡ allZero store
+  unfolding kindOf storeRight
+  store-other zero count store d = refl
+  store-other (suc zero) count store d = refl
+  store-other (suc (suc zero)) count store d = refl
+  store-other (suc (suc (suc zero))) count store d = refl
+  store-other (suc (suc (suc (suc zero)))) count store d = absurd (d refl)
+  store-other (suc (suc (suc (suc (suc zero))))) count store d = refl
+  store-other (suc (suc (suc (suc (suc (suc n)))))) count store d = refl
 
--- ---- the words of a hub's record
-
-module _ (t : List ℕ) (h : ℕ) (u : h < getD t 2 0) where
-  kind-word : hub (read one t) h .kind ≡ getD t (136 + h * 4) 0
+module _ (L : Layout) (t : List ℕ) (h : ℕ) (u : h < getD t 2 0) where
+  pub wait-words : hub (read L t) h .waiters ≡ numbers (waitPart L t h)
   unfolding hubAt
-  kind-word = ap (λ (x : Hub). x .kind) (read-hub one t h u) ∙ rw add-zero
+  wait-words = ap (λ (x : Hub). x .waiters) (read-hub L t h u)
 
-  count-word : hub (read one t) h .count ≡ getD t (136 + h * 4 + 1) 0
-  unfolding hubAt
-  count-word = ap (λ (x : Hub). x .count) (read-hub one t h u)
+  -- ---- a hub by the words of its record, which starts at word b
 
-  limit-word : hub (read one t) h .limit ≡ getD t (136 + h * 4 + 2) 0
-  unfolding hubAt
-  limit-word = ap (λ (x : Hub). x .limit) (read-hub one t h u)
+  module _ (b : ℕ) (at : b ≡ hubsAt L + h * 4) where
+    -- what is read from these words, and the hub's list and store
+    abbrev here : Hub
+    here = record {
+      kind = getD t b 0;
+      count = getD t (b + 1) 0;
+      limit = getD t (b + 2) 0;
+      start = getD t (b + 3) 0;
+      waiters = hubAt L t h .waiters;
+      held = hubAt L t h .held;
+    }
 
-  pub wait-words : hub (read one t) h .waiters ≡ numbers (waitPart one t h)
-  unfolding hubAt
-  wait-words = ap (λ (x : Hub). x .waiters) (read-hub one t h u)
+    hub-here : hub (read L t) h ≡ here
+    unfolding hubAt
+    hub-here = read-hub L t h u ∙ rw (at, add-zero)
 
-  -- a row of n words, as the code lends it
-  abbrev lent : ℕ → ℕ → List ℕ
-  lent a n = take (a + h * n + n - (a + h * n)) (drop (a + h * n) t)
+    pub kind-arm : (n : ℕ) → getD t b 0 ≡ n → kindTest L t h ≡ kindRight (kindOf n) (getD t 1 0) here
+    unfolding kindTest
+    kind-arm n q = rw (hub-here, q)
+
+    -- ---- its store, which starts at word a
+
+    pub fifo-fits : kindTest L t h ≡ true → getD t b 0 ≡ 4 → getD t (b + 1) 0 ≤ 8
+    unfolding Range kindOf
+    fifo-fits a e =
+        let q = t-kind Fifo (getD t 1 0) here .yes (sym (kind-arm 4 e) ∙ a) in omega (arith, q .0, q .2)
+
+    pub store-as : (a n : ℕ) → a ≡ storesAt L + h * storeSize L → n ≡ storeSize L → storeTest L t h ≡ storeRight L (kindOf (getD t b 0)) (getD t (b + 1) 0) (take (a + n - a) (drop a t))
+    unfolding storeTest
+    store-as a n place long = rw (so-many a n t, place, long, hub-here)
 
   -- ---- its list, by the first word
 
   abbrev queue : List ℕ → Bool
-  queue l = queueRight (read one t) h (hub (read one t) h) l
+  queue l = queueRight (read L t) h (hub (read L t) h) l
 
   module _ (l m : List ℕ) where
     abbrev first : ℕ
@@ -90,100 +107,78 @@ module _ (t : List ℕ) (h : ℕ) (u : h < getD t 2 0) where
     module _ (some : first ≡ 0 → ⊥) where
       pub queue-far : getD t 1 0 < first → Marked false (queue l) (λ j. occ j (numbers l)) m m
       unfolding queueRight
-      queue-far f = marked-no (rw (ne-eqb first 0 some, read-tasks one t, lt-leb first (getD t 1 0) f))
+      queue-far f = marked-no (rw (ne-eqb first 0 some, read-tasks L t, lt-leb first (getD t 1 0) f))
 
-      module _ (near : first ≤ getD t 1 0) where
+      -- the first entry's task has its record at word p
+      module _ {ts : ℕ} (y : Laid ts L) (p : ℕ) (stands : p ≡ 8 + (first - 1) * ts) (b : ℕ) (at : b ≡ hubsAt L + h * 4) (near : first ≤ getD t 1 0) where
         abbrev mayDo : Bool
-        mayDo = may (getD t (first * 8 + 5) 0) (getD t (136 + h * 4) 0) (getD t (136 + h * 4 + 1) 0) (getD t (136 + h * 4 + 2) 0)
+        mayDo = may (getD t (p + 5) 0) (getD t b 0) (getD t (b + 1) 0) (getD t (b + 2) 0)
 
-        queue-is : queue l ≡ (mayDo && walks (read one t) (suc h) (getD t (first * 8 + 5) 0) (ownerOf (getD t (136 + h * 4) 0) (getD t (136 + h * 4 + 1) 0)) 0 l)
+        queue-is : queue l ≡ (mayDo && walks (read L t) (suc h) (getD t (p + 5) 0) (ownerOf (getD t b 0) (getD t (b + 1) 0)) 0 l)
         unfolding queueRight
         queue-is =
             rw (
               ne-eqb first 0 some,
-              read-tasks one t,
+              read-tasks L t,
               le-leb first (getD t 1 0) near,
-              entry-side t first some near,
-              kind-word,
-              count-word,
-              limit-word,
+              entry-side L y t first p some near stands,
+              hub-here b at,
             )
 
         pub queue-barred : mayDo ≡ false → Marked false (queue l) (λ j. occ j (numbers l)) m m
         queue-barred e = marked-no (queue-is ∙ rw e)
 
-        pub queue-walked : mayDo ≡ true → (owner : ℕ) → owner ≡ ownerOf (getD t (136 + h * 4) 0) (getD t (136 + h * 4 + 1) 0) → {r : Bool} {n : List ℕ} → Marked r (walks (read one t) (h + 1) (getD t (first * 8 + 5) 0) owner 0 l) (λ j. occ j (numbers l)) m n → Marked r (queue l) (λ j. occ j (numbers l)) m n
+        pub queue-walked : mayDo ≡ true → (owner : ℕ) → owner ≡ ownerOf (getD t b 0) (getD t (b + 1) 0) → {r : Bool} {n : List ℕ} → Marked r (walks (read L t) (h + 1) (getD t (p + 5) 0) owner 0 l) (λ j. occ j (numbers l)) m n → Marked r (queue l) (λ j. occ j (numbers l)) m n
         queue-walked e owner q w = marked-as (rw (add-one, q) (sym (queue-is ∙ rw e))) (λ j. refl) w
 
-  -- the list as the code lends it is the hub's
-  pub queue-as : {m n : List ℕ} {r : Bool} → Marked r (queue (lent 216 16)) (λ j. occ j (numbers (lent 216 16))) m n → Marked r (queueTest t h) (waitsOf t h) m n
+  -- the list as the code lends it, from word a on, is the hub's
+  pub queue-as : (a : ℕ) → a ≡ waitsAt L + h * 16 → {m n : List ℕ} {r : Bool} → Marked r (queue (take (a + 16 - a) (drop a t))) (λ j. occ j (numbers (take (a + 16 - a) (drop a t)))) m n → Marked r (queueTest L t h) (waitsOf L t h) m n
   unfolding queueTest
-  queue-as w = marked-as (rw (so-many (216 + h * 16) 16 t)) (λ j. rw (so-many (216 + h * 16) 16 t, wait-words)) w
-
-  -- ---- its record, by kind
-
-  kind-at : hubAt one t h .kind ≡ getD t (136 + h * 4) 0
-  unfolding hubAt
-  kind-at = rw add-zero
-
-  pub kind-arm : (n : ℕ) → getD t (136 + h * 4) 0 ≡ n → kindTest t h ≡ kindRight (kindOf n) (getD t 1 0) (hubAt one t h)
-  unfolding kindTest
-  kind-arm n q = rw (read-hub one t h u, kind-at ∙ q)
-
-  -- ---- its store
-
-  pub fifo-fits : kindTest t h ≡ true → getD t (136 + h * 4) 0 ≡ 4 → getD t (136 + h * 4 + 1) 0 ≤ 8
-  unfolding Range hubAt kindOf
-  fifo-fits a e =
-      let q = t-kind Fifo (getD t 1 0) (hubAt one t h) .yes (sym (kind-arm 4 e) ∙ a) in omega (arith, q .0, q .2)
-
-  pub store-as : storeTest t h ≡ storeRight one (kindOf (getD t (136 + h * 4) 0)) (getD t (136 + h * 4 + 1) 0) (lent 472 8)
-  unfolding storeTest
-  store-as = rw (so-many (472 + h * 8) 8 t, kind-word, count-word)
+  queue-as a at w = marked-as (rw (so-many a 16 t, at)) (λ j. rw (so-many a 16 t, at, wait-words)) w
 
 -- ---- the three together
 
-module _ (t : List ℕ) (h : ℕ) (m : List ℕ) where
-  pub hub-kind-no : kindTest t h ≡ false → Marked false (hubRight t h) (waitsOf t h) m m
+module _ (L : Layout) (t : List ℕ) (h : ℕ) (m : List ℕ) where
+  pub hub-kind-no : kindTest L t h ≡ false → Marked false (hubRight L t h) (waitsOf L t h) m m
   unfolding hubRight
   hub-kind-no e = marked-no (rw e)
 
-  pub hub-store-no : kindTest t h ≡ true → storeTest t h ≡ false → Marked false (hubRight t h) (waitsOf t h) m m
+  pub hub-store-no : kindTest L t h ≡ true → storeTest L t h ≡ false → Marked false (hubRight L t h) (waitsOf L t h) m m
   unfolding hubRight
   hub-store-no a e = marked-no (rw (a, e))
 
-  pub hub-queue : kindTest t h ≡ true → storeTest t h ≡ true → {r : Bool} {n : List ℕ} → Marked r (queueTest t h) (waitsOf t h) m n → Marked r (hubRight t h) (waitsOf t h) m n
+  pub hub-queue : kindTest L t h ≡ true → storeTest L t h ≡ true → {r : Bool} {n : List ℕ} → Marked r (queueTest L t h) (waitsOf L t h) m n → Marked r (hubRight L t h) (waitsOf L t h) m n
   unfolding hubRight
   hub-queue a b w = marked-as (rw (a, b)) (λ j. refl) w
 
 -- ---- the hubs below h, with the marks so far
 
-pub record Passing (t m₀ m : List ℕ) (h : ℕ) : Type 0 where
+pub record Passing (L : Layout) (t m₀ m : List ℕ) (h : ℕ) : Type 0 where
   pub inside : h ≤ getD t 2 0
   pub long : length m ≡ length m₀
-  pub right : forAll h (hubRight t) ≡ true
-  pub marks : (j : ℕ) → getD m j 0 ≡ getD m₀ j 0 + metAt (read one t) h j
+  pub right : forAll h (hubRight L t) ≡ true
+  pub marks : (j : ℕ) → getD m j 0 ≡ getD m₀ j 0 + metAt (read L t) h j
 
-module _ (t m₀ : List ℕ) where
+module _ (L : Layout) (t m₀ : List ℕ) where
   abbrev hubs : Bool
-  hubs = forAll (getD t 2 0) (hubRight t)
+  hubs = forAll (getD t 2 0) (hubRight L t)
 
   abbrev met : ℕ → ℕ
-  met = metAt (read one t) (getD t 2 0)
+  met = metAt (read L t) (getD t 2 0)
 
-  met-le : (h : ℕ) → h ≤ getD t 2 0 → (j : ℕ) → metAt (read one t) h j ≤ h * 16
+  met-le : (h : ℕ) → h ≤ getD t 2 0 → (j : ℕ) → metAt (read L t) h j ≤ h * 16
   unfolding metAt
   met-le zero u j = zero-le
   met-le (suc h) u j =
-      let a : occ j (hub (read one t) h .waiters) ≤ 16 = rw (wait-words t h u) (omega (arith, occ-le j (numbers (waitPart one t h)), length-numbers (waitPart one t h), length-take 16 (drop (216 + h * 16) t))) in
+      let a : occ j (hub (read L t) h .waiters) ≤ 16 = rw (wait-words L t h u) (omega (arith, occ-le j (numbers (waitPart L t h)), length-numbers (waitPart L t h), length-take 16 (drop (waitsAt L + h * 16) t))) in
       omega (arith, met-le h (omega arith) j)
 
-  pub passing-begin : Passing t m₀ m₀ 0
+  pub passing-begin : Passing L t m₀ m₀ 0
   unfolding metAt
-  passing-begin = record { inside = zero-le; long = refl; right = forAll-none (hubRight t); marks = λ j. sym (add-zero (getD m₀ j 0)) }
+  passing-begin = record { inside = zero-le; long = refl; right = forAll-none (hubRight L t); marks = λ j. sym (add-zero (getD m₀ j 0)) }
 
-  module _ (m : List ℕ) (h : ℕ) (w : Passing t m₀ m h) where
-    pub passing-low : Used t → Marks 16 m₀ → h < getD t 2 0 → Marks 256 m
+  module _ (m : List ℕ) (h : ℕ) (w : Passing L t m₀ m h) where
+    pub passing-low : {ts : ℕ} → Used ts t → Marks 16 m₀ → h < getD t 2 0 → Marks 256 m
     passing-low o ok u = record {
       long = w .long ∙ ok .long;
       low = λ j. omega (arith, w .marks j, ok .low j, met-le h (w .inside) j, o .hubs);
@@ -198,19 +193,19 @@ module _ (t m₀ : List ℕ) where
           marks = λ f j. rw q at (w .marks j);
         }
 
-    module _ (u : h < getD t 2 0) (r : Bool) (n : List ℕ) (g : Marked r (hubRight t h) (λ j. occ j (hub (read one t) h .waiters)) m n) where
+    module _ (u : h < getD t 2 0) (r : Bool) (n : List ℕ) (g : Marked r (hubRight L t h) (λ j. occ j (hub (read L t) h .waiters)) m n) where
       pub passing-no : r ≡ false → Marked false hubs met m₀ n
       passing-no e = record {
-        right = sym (forAll-fail (hubRight t) (getD t 2 0) h u (sym (g .right) ∙ e));
+        right = sym (forAll-fail (hubRight L t) (getD t 2 0) h u (sym (g .right) ∙ e));
         long = g .long ∙ w .long;
         marks = λ f. absurd (false≢true f);
       }
 
-      pub passing-step : r ≡ true → Passing t m₀ n (h + 1)
+      pub passing-step : r ≡ true → Passing L t m₀ n (h + 1)
       unfolding metAt
       passing-step e = record {
         inside = omega arith;
         long = g .long ∙ w .long;
-        right = forAll-step (hubRight t) h (w .right) (sym (g .right) ∙ e);
+        right = forAll-step (hubRight L t) h (w .right) (sym (g .right) ∙ e);
         marks = λ j. rw add-one (omega (arith, g .marks e j, w .marks j));
       }

@@ -1,5 +1,5 @@
 -- Parts of a slice as the code lends them: from a to a + n, and from k to the end. Assumes nothing.
-use Prim.Native.Nat.{_*_, _+_, _-_, _≤_, ℕ}
+use Prim.Native.Nat.{_+_, _-_, _≤_, ℕ}
 use Rattle.rules.proofs.Written.{length-part}
 use lib.ListN.{drop, length, length-drop, take}
 use lib.Seq.{take-all}
@@ -13,6 +13,6 @@ so-many a n t = let e : a + n - a ≡ n = omega arith in ap (λ (k : ℕ). take 
 pub to-end : (k : ℕ) (t : List ℕ) → take (length t - k) (drop k t) ≡ drop k t
 to-end k t = take-all (length t - k) (drop k t) (rw (length-drop k t) (omega arith))
 
--- row h of n words from a on
-pub row-long : (t : List ℕ) (a h n : ℕ) → a + h * n + n ≤ length t → length (take (a + h * n + n - (a + h * n)) (drop (a + h * n) t)) ≡ n
-row-long t a h n b = ap length (so-many (a + h * n) n t) ∙ length-part t (a + h * n) n b
+-- n words, where there are so many
+pub lent-long : (t : List ℕ) (a n : ℕ) → a + n ≤ length t → length (take (a + n - a) (drop a t)) ≡ n
+lent-long t a n h = ap length (so-many a n t) ∙ length-part t a n h

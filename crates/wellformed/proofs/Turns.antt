@@ -4,20 +4,23 @@
 use Prim.Native.Nat.{_*_, _+_, _-_, _<_, _≤_, pred, suc, zero, zero-le, ℕ}
 use Rattle.lists.proofs.Laws.{boolCase, length-numbers}
 use Rattle.lists.specs.Lists.{allZero, bit, numbers, occ}
+use Rattle.messages.proofs.Laws.{at-one, at-two}
+use Rattle.messages.specs.Messages.{messageAt}
 use Rattle.rules.proofs.Cases.{and-l}
+use Rattle.rules.proofs.Layouts.{Laid}
 use Rattle.rules.proofs.Reading.{read-hub, read-task, read-tasks}
-use Rattle.rules.specs.Table.{Hub, State, Task, hub, hubAt, one, read, stageOf, task, taskAt}
+use Rattle.rules.specs.Table.{Hub, Layout, State, Task, hub, hubAt, hubsAt, read, stageOf, task, taskAt, taskSize, tasksAt}
 use Rattle.rules.specs.WellFormed.{fieldsRight, forAll, stageRight}
 use Rattle.wellformed.proofs.Parts.{so-many, to-end}
 use Rattle.wellformed.specs.Walks.{Marked, Marks, listed, meets, recordOf, recordRight, taskRight, walks}
-use borrow.Author.Tests.{eq-eqb, eqb-false, eqb-true, le-leb, leb-true, lt-leb, ne-eqb}
-use lib.Dec.{eqb, leb}
+use borrow.Author.Tests.{eq-eqb, eqb-false, eqb-true, le-leb, leb-true, lt-leb, ltb-false, ltb-true, ne-eqb}
+use lib.Dec.{eqb, leb, ltb}
 use lib.ListN.{drop, drop-of-length-le, getD, length, length-set, set, take}
 use lib.Seq.{drop-cons, getD-drop, getD-set-other, getD-set-same, getD-take}
 use mathlib.Core.Bool.{Bool, _&&_, and-false, false, false≢true, not, true}
 use mathlib.Core.List.{List, [], _∷_}
 use mathlib.Core.Path.{_∙_, _≡_, ap, refl, sym}
-use native.Mathlib.Nat.{add-zero, not-suc-le-zero}
+use native.Mathlib.Nat.{add-assoc, add-zero, not-suc-le-zero}
 use native.Mathlib.Numerals.{add-one}
 use native.Mathlib.Omega.{arith}
 
@@ -41,64 +44,89 @@ module _ (l : List ℕ) (k : ℕ) (h : k < length l) where
   unfolding numbers
   numbers-turn n = rw (drop-cons l k 0 h, ne-eqb (getD l k 0) 0 n)
 
--- ---- an entry, by its task's words
+-- ---- an entry, by the words of its task's record, which starts at word b
 
 -- what the code tests of an entry that is a task in use
-abbrev fits : List ℕ → ℕ → ℕ → ℕ → ℕ → ℕ → Bool
-fits t a d owner p e =
-    eqb (getD t (e * 8 + 3) 0) a && (eqb (getD t (e * 8 + 5) 0) d && (leb p (getD t (e * 8 + 2) 0) && not (eqb e owner)))
+abbrev fits : List ℕ → ℕ → ℕ → ℕ → ℕ → ℕ → ℕ → Bool
+fits t b a d owner p e =
+    eqb (getD t (b + 3) 0) a && (eqb (getD t (b + 5) 0) d && (leb p (getD t (b + 2) 0) && not (eqb e owner)))
 
-module _ (t : List ℕ) (e : ℕ) (n : e ≡ 0 → ⊥) (u : e ≤ getD t 1 0) where
-  known : task (read one t) (pred e) ≡ taskAt one t (pred e)
-  known = read-task one t (pred e) (omega arith)
+module _ {ts : ℕ} (L : Layout) (y : Laid ts L) (t : List ℕ) (e b : ℕ) (n : e ≡ 0 → ⊥) (u : e ≤ getD t 1 0) (at : b ≡ 8 + (e - 1) * ts) where
+  known : task (read L t) (pred e) ≡ taskAt L t (pred e)
+  known = read-task L t (pred e) (omega arith)
 
-  entry-priority : task (read one t) (pred e) .priority ≡ getD t (e * 8 + 2) 0
+  start : tasksAt + pred e * taskSize L ≡ b
+  start = let q : e - 1 ≡ pred e = omega arith in rw (at, q, y .size)
+
+  entry-priority : task (read L t) (pred e) .priority ≡ getD t (b + 2) 0
   unfolding taskAt
-  entry-priority = let q : 8 + pred e * 8 + 2 ≡ e * 8 + 2 = omega arith in ap (λ (x : Task). x .priority) known ∙ ap (λ (k : ℕ). getD t k 0) q
+  entry-priority = ap (λ (x : Task). x .priority) known ∙ ap (λ (k : ℕ). getD t (k + 2) 0) start
 
-  entry-hub : task (read one t) (pred e) .hub ≡ getD t (e * 8 + 3) 0
+  entry-hub : task (read L t) (pred e) .hub ≡ getD t (b + 3) 0
   unfolding taskAt
-  entry-hub = let q : 8 + pred e * 8 + 3 ≡ e * 8 + 3 = omega arith in ap (λ (x : Task). x .hub) known ∙ ap (λ (k : ℕ). getD t k 0) q
+  entry-hub = ap (λ (x : Task). x .hub) known ∙ ap (λ (k : ℕ). getD t (k + 3) 0) start
 
-  pub entry-side : task (read one t) (pred e) .side ≡ getD t (e * 8 + 5) 0
+  pub entry-side : task (read L t) (pred e) .side ≡ getD t (b + 5) 0
   unfolding taskAt
-  entry-side = let q : 8 + pred e * 8 + 5 ≡ e * 8 + 5 = omega arith in ap (λ (x : Task). x .side) known ∙ ap (λ (k : ℕ). getD t k 0) q
+  entry-side = ap (λ (x : Task). x .side) known ∙ ap (λ (k : ℕ). getD t (k + 5) 0) start
 
-  pub meets-words : (a d owner p : ℕ) → meets (read one t) a d owner p e ≡ fits t a d owner p e
+  pub meets-words : (a d owner p : ℕ) → meets (read L t) a d owner p e ≡ fits t b a d owner p e
   unfolding meets
-  meets-words a d owner p = rw (read-tasks one t, le-leb e (getD t 1 0) u, entry-hub, entry-side, entry-priority)
+  meets-words a d owner p = rw (read-tasks L t, le-leb e (getD t 1 0) u, entry-hub, entry-side, entry-priority)
 
-pub meets-far : (t : List ℕ) (a d owner p e : ℕ) → getD t 1 0 < e → meets (read one t) a d owner p e ≡ false
+pub meets-far : (L : Layout) (t : List ℕ) (a d owner p e : ℕ) → getD t 1 0 < e → meets (read L t) a d owner p e ≡ false
 unfolding meets
-meets-far t a d owner p e h = rw (read-tasks one t, lt-leb e (getD t 1 0) h)
+meets-far L t a d owner p e h = rw (read-tasks L t, lt-leb e (getD t 1 0) h)
 
 -- ---- a task's record by its words, and the kind of the hub that it names
 
-pub hub-kind : (t : List ℕ) (n : ℕ) → (n ≡ 0 → ⊥) → n ≤ getD t 2 0 → hub (read one t) (pred n) .kind ≡ getD t (132 + n * 4) 0
+pub hub-kind : (L : Layout) (t : List ℕ) (n b : ℕ) → (n ≡ 0 → ⊥) → n ≤ getD t 2 0 → b + 4 ≡ hubsAt L + n * 4 → hub (read L t) (pred n) .kind ≡ getD t b 0
 unfolding hubAt
-hub-kind t n z u =
-    let q : 136 + pred n * 4 + 0 ≡ 132 + n * 4 = omega arith in
-    ap (λ (x : Hub). x .kind) (read-hub one t (pred n) (omega arith)) ∙ ap (λ (k : ℕ). getD t k 0) q
+hub-kind L t n b z u at =
+    let q : hubsAt L + pred n * 4 + 0 ≡ b = omega arith in
+    ap (λ (x : Hub). x .kind) (read-hub L t (pred n) (omega arith)) ∙ ap (λ (k : ℕ). getD t k 0) q
+
+-- a message, by the words that it is read from
+message-same : (w : ℕ) (l t : List ℕ) (p q : ℕ) → getD l p 0 ≡ getD t q 0 → (1 < w → getD l (p + 1) 0 ≡ getD t (q + 1) 0) → messageAt w l p ≡ messageAt w t q
+message-same w l t p q e f =
+    boolCase (ltb 1 w)
+    (λ b. let h = ltb-true 1 w b in rw (at-two w h l p, at-two w h t q, e, f h))
+    (λ b. let h = ltb-false 1 w b in rw (at-one w h l p, at-one w h t q, e))
 
 -- the words of task i, as the code lends them, hold its record
-pub record-task : (t : List ℕ) (i mark : ℕ) → i < getD t 1 0 → recordRight (read one t) (recordOf (take (8 + i * 8 + 8 - (8 + i * 8)) (drop (8 + i * 8) t))) mark ≡ taskRight (read one t) i mark
-unfolding taskAt taskRight
-record-task t i mark u = rw (read-task one t i u, so-many (8 + i * 8) 8 t) (ap (λ (x : Task). recordRight (read one t) x mark) same)
-  where
-    word : (k : ℕ) → k < 8 → getD (take 8 (drop (8 + i * 8) t)) k 0 ≡ getD t (8 + i * 8 + k) 0
-    word k h = getD-take 8 (drop (8 + i * 8) t) k 0 h ∙ getD-drop (8 + i * 8) t k 0
+module _ {ts : ℕ} (L : Layout) (y : Laid ts L) (t : List ℕ) (i b : ℕ) (u : i < getD t 1 0) (at : b ≡ 8 + i * ts) where
+  abbrev lent : List ℕ
+  lent = take ts (drop b t)
 
-    same : recordOf (take 8 (drop (8 + i * 8) t)) ≡ taskAt one t i
-    same = λ j. record {
-      state = word 0 (omega arith) j;
-      suspended = word 1 (omega arith) j;
-      priority = word 2 (omega arith) j;
-      hub = word 3 (omega arith) j;
-      ticks = word 4 (omega arith) j;
-      side = word 5 (omega arith) j;
-      word = word 6 (omega arith) j;
-      answer = word 7 (omega arith) j;
-    }
+  abbrev first : ℕ
+  first = tasksAt + i * taskSize L
+
+  word : (k : ℕ) → k < ts → getD lent k 0 ≡ getD t (first + k) 0
+  word k h = getD-take ts (drop b t) k 0 h ∙ getD-drop b t k 0 ∙ rw (at, y .size)
+
+  message : L .messageFrom (λ k. getD lent (6 + k) 0) ≡ L .messageFrom (λ k. getD t (first + (6 + k)) 0)
+  message =
+      y .reads lent 6
+      ∙ message-same (L .width) lent t 6 (first + 6) (word 6 (omega arith)) (λ h. word 7 (omega arith) ∙ ap (λ (k : ℕ). getD t k 0) (sym (add-assoc first 6 1)))
+      ∙ sym (y .reads t (first + 6))
+      ∙ (λ j. L .messageFrom (λ k. getD t (add-assoc first 6 k j) 0))
+
+  same : recordOf L lent ≡ taskAt L t i
+  unfolding taskAt
+  same = λ j. record {
+    state = word 0 (omega arith) j;
+    suspended = word 1 (omega arith) j;
+    priority = word 2 (omega arith) j;
+    hub = word 3 (omega arith) j;
+    ticks = word 4 (omega arith) j;
+    side = word 5 (omega arith) j;
+    word = message j;
+    answer = word (6 + L .width) (omega arith) j;
+  }
+
+  pub record-task : (mark : ℕ) → recordRight (read L t) (recordOf L (take (b + ts - b) (drop b t))) mark ≡ taskRight (read L t) i mark
+  unfolding taskRight
+  record-task mark = rw (read-task L t i u, so-many b ts t) (ap (λ (x : Task). recordRight (read L t) x mark) same)
 
 module _ (s : State) (x : Task) (mark : ℕ) where
   pub record-range : fieldsRight x ≡ false → recordRight s x mark ≡ false
@@ -125,33 +153,33 @@ occ-le j (x ∷ xs) = boolCase (eqb x j) (λ b. rw b (omega (arith, occ-le j xs)
 -- ---- a walk of a list of 16 words
 
 -- what it gives back
-abbrev Walked : List ℕ → List ℕ → ℕ → ℕ → ℕ → List ℕ → Bool → List ℕ → Type 0
-Walked t l a d owner m₀ r m = Marked r (walks (read one t) a d owner 0 l) (λ j. occ j (numbers l)) m₀ m
+abbrev Walked : Layout → List ℕ → List ℕ → ℕ → ℕ → ℕ → List ℕ → Bool → List ℕ → Type 0
+Walked L t l a d owner m₀ r m = Marked r (walks (read L t) a d owner 0 l) (λ j. occ j (numbers l)) m₀ m
 
 -- at place k, where the last priority was p and the marks are m
 
-pub record Walking (t l : List ℕ) (a d owner : ℕ) (m₀ m : List ℕ) (p k : ℕ) : Type 0 where
+pub record Walking (L : Layout) (t l : List ℕ) (a d owner : ℕ) (m₀ m : List ℕ) (p k : ℕ) : Type 0 where
   pub inside : k ≤ 16
   pub long : length m ≡ length m₀
-  pub rest : walks (read one t) a d owner 0 l ≡ walks (read one t) a d owner p (drop k l)
+  pub rest : walks (read L t) a d owner 0 l ≡ walks (read L t) a d owner p (drop k l)
   pub met : (j : ℕ) → getD m j 0 + occ j (numbers (drop k l)) ≡ getD m₀ j 0 + occ j (numbers l)
 
-module _ (t l : List ℕ) (a d owner : ℕ) (m₀ : List ℕ) where
-  pub walking-begin : {n : ℕ} → Marks n m₀ → Walking t l a d owner m₀ m₀ 0 0
+module _ (L : Layout) (t l : List ℕ) (a d owner : ℕ) (m₀ : List ℕ) where
+  pub walking-begin : {n : ℕ} → Marks n m₀ → Walking L t l a d owner m₀ m₀ 0 0
   walking-begin w = record { inside = zero-le; long = refl; rest = refl; met = λ j. refl }
 
-  module _ (m : List ℕ) (p k : ℕ) (w : Walking t l a d owner m₀ m p k) (n : length l ≡ 16) where
+  module _ (m : List ℕ) (p k : ℕ) (w : Walking L t l a d owner m₀ m p k) (n : length l ≡ 16) where
     pub walking-low : {b : ℕ} → Marks b m₀ → (j : ℕ) → getD m j 0 ≤ b + 16
     walking-low ok j = omega (arith, w .met j, ok .low j, occ-le j (numbers l), length-numbers l)
 
-    refused : walks (read one t) a d owner p (drop k l) ≡ false → Walked t l a d owner m₀ false m
+    refused : walks (read L t) a d owner p (drop k l) ≡ false → Walked L t l a d owner m₀ false m
     refused e = record { right = sym (w .rest ∙ e); long = w .long; marks = λ f. absurd (false≢true f) }
 
-    accepted : (r : Bool) → r ≡ walks (read one t) a d owner p (drop k l) → numbers (drop k l) ≡ [] → Walked t l a d owner m₀ r m
+    accepted : (r : Bool) → r ≡ walks (read L t) a d owner p (drop k l) → numbers (drop k l) ≡ [] → Walked L t l a d owner m₀ r m
     unfolding occ
     accepted r e z = record { right = e ∙ sym (w .rest); long = w .long; marks = λ f j. sym (add-zero (getD m j 0)) ∙ rw z at (w .met j) }
 
-    pub walking-full : 16 ≤ k → Walked t l a d owner m₀ true m
+    pub walking-full : 16 ≤ k → Walked L t l a d owner m₀ true m
     unfolding numbers walks
     walking-full h =
         let z : drop k l ≡ [] = drop-of-length-le l {i = k} (omega arith) in accepted true (rw z) (rw z)
@@ -160,28 +188,28 @@ module _ (t l : List ℕ) (a d owner : ℕ) (m₀ : List ℕ) where
       inner : k < length l
       inner = omega arith
 
-      pub walking-end : getD l k 0 ≡ 0 → (r : Bool) → r ≡ allZero (take (length l - k) (drop k l)) → Walked t l a d owner m₀ r m
+      pub walking-end : getD l k 0 ≡ 0 → (r : Bool) → r ≡ allZero (take (length l - k) (drop k l)) → Walked L t l a d owner m₀ r m
       walking-end e r q =
-          accepted r (q ∙ ap allZero (to-end k l) ∙ sym (walks-end l k inner (read one t) a d owner p e)) (numbers-end l k inner e)
+          accepted r (q ∙ ap allZero (to-end k l) ∙ sym (walks-end l k inner (read L t) a d owner p e)) (numbers-end l k inner e)
 
       module _ (some : getD l k 0 ≡ 0 → ⊥) where
-        turned : walks (read one t) a d owner p (drop k l) ≡ (meets (read one t) a d owner p (getD l k 0) && walks (read one t) a d owner (task (read one t) (pred (getD l k 0)) .priority) (drop (suc k) l))
-        turned = walks-turn l k inner (read one t) a d owner p some
+        turned : walks (read L t) a d owner p (drop k l) ≡ (meets (read L t) a d owner p (getD l k 0) && walks (read L t) a d owner (task (read L t) (pred (getD l k 0)) .priority) (drop (suc k) l))
+        turned = walks-turn l k inner (read L t) a d owner p some
 
-        pub walking-miss : meets (read one t) a d owner p (getD l k 0) ≡ false → Walked t l a d owner m₀ false m
+        pub walking-miss : meets (read L t) a d owner p (getD l k 0) ≡ false → Walked L t l a d owner m₀ false m
         walking-miss e = refused (turned ∙ rw e)
 
-        module _ (e : meets (read one t) a d owner p (getD l k 0) ≡ true) where
+        module _ (e : meets (read L t) a d owner p (getD l k 0) ≡ true) where
           pub walking-used : getD l k 0 ≤ getD t 1 0
           unfolding meets
-          walking-used = rw (read-tasks one t) at (leb-true (getD l k 0) _ (and-l _ _ e))
+          walking-used = rw (read-tasks L t) at (leb-true (getD l k 0) _ (and-l _ _ e))
 
-          pub walking-hit : length m₀ ≡ 16 → getD t 1 0 ≤ 16 → Walking t l a d owner m₀ (set m (getD l k 0 - 1) (getD m (getD l k 0 - 1) 0 + 1)) (getD t (getD l k 0 * 8 + 2) 0) (k + 1)
+          pub walking-hit : {ts : ℕ} → Laid ts L → (b : ℕ) → b ≡ 8 + (getD l k 0 - 1) * ts → length m₀ ≡ 16 → getD t 1 0 ≤ 16 → Walking L t l a d owner m₀ (set m (getD l k 0 - 1) (getD m (getD l k 0 - 1) 0 + 1)) (getD t (b + 2) 0) (k + 1)
           unfolding occ
-          walking-hit all few = record {
+          walking-hit y b at all few = record {
             inside = omega arith;
             long = length-set m (getD l k 0 - 1) (getD m (getD l k 0 - 1) 0 + 1) ∙ w .long;
-            rest = rw add-one (w .rest ∙ turned ∙ rw (e, entry-priority t (getD l k 0) some walking-used));
+            rest = rw add-one (w .rest ∙ turned ∙ rw (e, entry-priority L y t (getD l k 0) b some walking-used at));
             met = λ j.
                 let q : getD l k 0 - 1 ≡ pred (getD l k 0) = omega arith in
                 let x = rw (numbers-turn l k inner some) at (w .met j) in

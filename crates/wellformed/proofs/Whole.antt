@@ -1,16 +1,17 @@
--- The tests of this crate, taken together, are `wellFormed`: `passed-well` and `well-passed`.
+-- The tests of this crate, taken together, are `wellFormedIn`, in any layout: `passed-well` and `well-passed`.
 -- Not here: what a walk of a list says (Queues.antt), exact lists by marks (Marks.antt). Assumes nothing.
 use Prim.Native.Nat.{_+_, _<_, _≤_, pred, suc, zero, ℕ}
 use Rattle.lists.proofs.Laws.{boolCase, length-numbers}
 use Rattle.lists.specs.Lists.{numbers, occ, packed}
+use Rattle.records.specs.Records.{tableSize}
 use Rattle.rules.proofs.Cases.{and-l, and-r}
 use Rattle.rules.proofs.Reading.{read-hub, read-hubs, read-tasks}
 use Rattle.rules.proofs.Standing.{listed-ready, listed-waiting, listed-waits}
 use Rattle.rules.proofs.Tests.{t-all, t-each, t-is, t-kind, t-may, t-oneSide, t-records, t-sorted, t-task, tested}
 use Rattle.rules.proofs.Valid.{Valid}
 use Rattle.rules.proofs.Written.{Written, read-fits, written-says}
-use Rattle.rules.specs.Table.{Hub, State, Task, hub, hubAt, hubWordAt, inactive, kindOf, one, part, read, sideOf, stageOf, storePart, task, waitPart}
-use Rattle.rules.specs.WellFormed.{contentsRight, fieldsRight, forAll, hubsRight, inOrder, kindRight, listsExact, listsPacked, mayWait, stageRight, storeRight, storesRight, tasksRight, unusedZero, urgency, valid, waitersRight, wellFormed, written}
+use Rattle.rules.specs.Table.{Hub, Layout, State, Task, hub, hubAt, hubWordAt, inactive, kindOf, part, read, readyAt, sideOf, size, stageOf, storePart, task, waitPart}
+use Rattle.rules.specs.WellFormed.{contentsRight, fieldsRight, forAll, hubsRight, inOrder, kindRight, listsExact, listsPacked, mayWait, stageRight, storeRight, storesRight, tasksRight, unusedZero, urgency, valid, waitersRight, wellFormedIn, written}
 use Rattle.wellformed.proofs.Hubs.{wait-words}
 use Rattle.wellformed.proofs.Marks.{Placed, exact-marks, marks-exact, ready-shape}
 use Rattle.wellformed.proofs.Queues.{Entry, Line, Queue, first-in, first-none, low-zero, may-wait, queue-holds, queue-says, walks-holds, walks-says}
@@ -25,23 +26,26 @@ use mathlib.Core.Path.{_∙_, _≡_, ap, refl, sym}
 use native.Mathlib.Omega.{arith}
 
 -- how often task i is met in all lists
-abbrev markOf : List ℕ → ℕ → ℕ
-markOf t i = occ i (read one t .ready) + metAt (read one t) (getD t 2 0) i
+abbrev markOf : Layout → List ℕ → ℕ → ℕ
+markOf L t i = occ i (read L t .ready) + metAt (read L t) (getD t 2 0) i
 
-pub record Passed (t : List ℕ) : Type 0 where
-  pub used : Used t
-  pub contents : contentsRight one t ≡ true
-  pub unused : unusedZero one t ≡ true
-  pub ready : walks (read one t) 0 0 0 0 (part 200 16 t) ≡ true
-  pub hubs : forAll (getD t 2 0) (hubRight t) ≡ true
-  pub tasks : forAll (getD t 1 0) (λ i. taskRight (read one t) i (markOf t i)) ≡ true
+pub record Passed (L : Layout) (t : List ℕ) : Type 0 where
+  pub long : length t ≡ size L
+  pub contents : contentsRight L t ≡ true
+  pub unused : unusedZero L t ≡ true
+  pub ready : walks (read L t) 0 0 0 0 (part (readyAt L) 16 t) ≡ true
+  pub hubs : forAll (getD t 2 0) (hubRight L t) ≡ true
+  pub tasks : forAll (getD t 1 0) (λ i. taskRight (read L t) i (markOf L t i)) ≡ true
 
-pub contents-used : (t : List ℕ) → length t ≡ 600 → contentsRight one t ≡ true → Used t
+-- the counts of such a table
+pub contents-used : (L : Layout) (t : List ℕ) {ts : ℕ} → 8 ≤ ts → ts ≤ 9 → length t ≡ tableSize ts → contentsRight L t ≡ true → Used ts t
 unfolding contentsRight
-contents-used t l e =
-    let a = and-r (eqb (getD t 0 0) 1) _ e in
+contents-used L t low high long e =
+    let a = and-r (eqb (getD t 0 0) (L .edition)) _ e in
     record {
-      long = l;
+      low = low;
+      high = high;
+      long = long;
       tasks = leb-true (getD t 1 0) 16 (and-l _ _ a);
       hubs = leb-true (getD t 2 0) 16 (and-l _ _ (and-r (leb (getD t 1 0) 16) _ a));
     }
@@ -55,31 +59,31 @@ each-so n p = t-all (λ i. p i ≡ true) p (λ i. t-is (p i)) n .conv
 
 -- ---- what passed is well formed
 
-module _ (t : List ℕ) (p : Passed t) where
+module _ (L : Layout) (t : List ℕ) (p : Passed L t) where
   abbrev s : State
-  s = read one t
+  s = read L t
 
-  queue : Queue s 0 0 0 0 (part 200 16 t)
-  queue = walks-says s 0 0 0 0 (part 200 16 t) (p .ready)
+  queue : Queue s 0 0 0 0 (part (readyAt L) 16 t)
+  queue = walks-says s 0 0 0 0 (part (readyAt L) 16 t) (p .ready)
 
   module _ (h : ℕ) (u : h < getD t 2 0) where
-    right : hubRight t h ≡ true
-    right = each-at (getD t 2 0) (hubRight t) (p .hubs) h u
+    right : hubRight L t h ≡ true
+    right = each-at (getD t 2 0) (hubRight L t) (p .hubs) h u
 
     kind-passed : kindRight (kindOf (hub s h .kind)) (length (s .tasks)) (hub s h) ≡ true
     unfolding hubRight kindTest
-    kind-passed = rw (read-tasks one t) (and-l (kindTest t h) _ right)
+    kind-passed = rw (read-tasks L t) (and-l (kindTest L t h) _ right)
 
-    store-passed : storeRight one (kindOf (hubWordAt one t h 0)) (hubWordAt one t h 1) (storePart one t h) ≡ true
+    store-passed : storeRight L (kindOf (hubWordAt L t h 0)) (hubWordAt L t h 1) (storePart L t h) ≡ true
     unfolding hubAt hubRight storeTest
-    store-passed = rw (read-hub one t h u) at (and-l (storeTest t h) _ (and-r (kindTest t h) _ right))
+    store-passed = rw (read-hub L t h u) at (and-l (storeTest L t h) _ (and-r (kindTest L t h) _ right))
 
-    line : Line s h (hub s h) (waitPart one t h)
+    line : Line s h (hub s h) (waitPart L t h)
     unfolding hubRight queueTest
-    line = queue-says s h (hub s h) (waitPart one t h) (and-r (storeTest t h) _ (and-r (kindTest t h) _ right))
+    line = queue-says s h (hub s h) (waitPart L t h) (and-r (storeTest L t h) _ (and-r (kindTest L t h) _ right))
 
-    waits : (i : ℕ) → 1 ≤ occ i (hub s h .waiters) → 1 ≤ occ i (numbers (waitPart one t h))
-    waits i o = rw (wait-words t h u) at o
+    waits : (i : ℕ) → 1 ≤ occ i (hub s h .waiters) → 1 ≤ occ i (numbers (waitPart L t h))
+    waits i o = rw (wait-words L t h u) at o
 
     may-passed : (i : ℕ) → 1 ≤ occ i (hub s h .waiters) → mayWait (sideOf (task s i .side)) (kindOf (hub s h .kind)) (hub s h) i ≡ true
     may-passed i o =
@@ -87,67 +91,67 @@ module _ (t : List ℕ) (p : Passed t) where
         let a = may-wait (task s i .side) (hub s h .kind) (length (s .tasks)) i (hub s h) (t-kind (kindOf (hub s h .kind)) (length (s .tasks)) (hub s h) .yes kind-passed) in
         a ∙ rw (g .side, line .allowed i (waits i o), ne-eqb (suc i) (ownerOf (hub s h .kind) (hub s h .count)) (g .other))
 
-  task-passed : (i : ℕ) → i < getD t 1 0 → taskRight s i (markOf t i) ≡ true
-  task-passed i u = each-at (getD t 1 0) (λ i. taskRight s i (markOf t i)) (p .tasks) i u
+  task-passed : (i : ℕ) → i < getD t 1 0 → taskRight s i (markOf L t i) ≡ true
+  task-passed i u = each-at (getD t 1 0) (λ i. taskRight s i (markOf L t i)) (p .tasks) i u
 
   tasks-passed : tasksRight s ≡ true
   unfolding recordRight taskRight tasksRight
   tasks-passed =
       each-so (length (s .tasks)) _
-      (λ i u. let e = task-passed i (rw (read-tasks one t) at u) in
+      (λ i u. let e = task-passed i (rw (read-tasks L t) at u) in
       rw (and-l (fieldsRight (task s i)) _ e) (and-l _ _ (and-r (fieldsRight (task s i)) _ e)))
 
   placed : Placed s
   unfolding read
   placed = record {
     ready = λ i o. let g = queue .each i o in (g .used, g .hub);
-    waiters = λ h k i o. let u = rw (read-hubs one t) at k in let g = line h u .queue .each i (waits h u i o) in (g .used, g .hub);
+    waiters = λ h k i o. let u = rw (read-hubs L t) at k in let g = line h u .queue .each i (waits h u i o) in (g .used, g .hub);
   }
 
   lists-passed : listsExact s ≡ true
   unfolding recordRight taskRight
   lists-passed =
       marks-exact s (t-records s .yes tasks-passed) placed
-      (λ i u. rw (read-hubs one t) (eqb-true _ _ (and-r (stageRight (stageOf (task s i .state)) s (task s i)) _ (and-r (fieldsRight (task s i)) _ (task-passed i (rw (read-tasks one t) at u))))))
+      (λ i u. rw (read-hubs L t) (eqb-true _ _ (and-r (stageRight (stageOf (task s i .state)) s (task s i)) _ (and-r (fieldsRight (task s i)) _ (task-passed i (rw (read-tasks L t) at u))))))
 
   order-passed : inOrder s ≡ true
   unfolding inOrder read
   order-passed =
       rw
       (t-sorted (urgency s) (s .ready) .conv (queue .sorted))
-      (each-so (length (s .hubs)) _ (λ h k. let u = rw (read-hubs one t) at k in t-sorted (urgency s) (hub s h .waiters) .conv (rw (wait-words t h u) (line h u .queue .sorted))))
+      (each-so (length (s .hubs)) _ (λ h k. let u = rw (read-hubs L t) at k in t-sorted (urgency s) (hub s h .waiters) .conv (rw (wait-words L t h u) (line h u .queue .sorted))))
 
   waiters-passed : waitersRight s ≡ true
   unfolding waitersRight
   waiters-passed =
       each-so (length (s .hubs)) _
-      (λ h k. let u = rw (read-hubs one t) at k in
+      (λ h k. let u = rw (read-hubs L t) at k in
       rw
       (t-oneSide s (hub s h .waiters) .conv (λ i o j r. line h u .queue .each i (waits h u i o) .side ∙ sym (line h u .queue .each j (waits h u j r) .side)))
       (t-each (λ i. mayWait (sideOf (task s i .side)) (kindOf (hub s h .kind)) (hub s h) i ≡ true) _ (λ i. t-is _) (hub s h .waiters) .conv (λ i o. may-passed h u i o)))
 
   hubs-passed : hubsRight s ≡ true
   unfolding hubsRight
-  hubs-passed = each-so (length (s .hubs)) _ (λ h k. kind-passed h (rw (read-hubs one t) at k))
+  hubs-passed = each-so (length (s .hubs)) _ (λ h k. kind-passed h (rw (read-hubs L t) at k))
 
   valid-passed : valid s ≡ true
   unfolding valid
   valid-passed = rw (hubs-passed, lists-passed, order-passed, tasks-passed, waiters-passed)
 
-  written-passed : written one t ≡ true
+  written-passed : written L t ≡ true
   unfolding listsPacked storesRight written
   written-passed =
       rw (
-        eq-eqb (length t) 600 (p .used .long),
+        eq-eqb (length t) (size L) (p .long),
         p .contents,
         p .unused,
         queue .full,
-        each-so (getD t 2 0) (λ h. packed (waitPart one t h)) (λ h u. line h u .queue .full),
+        each-so (getD t 2 0) (λ h. packed (waitPart L t h)) (λ h u. line h u .queue .full),
       )
       (each-so (getD t 2 0) _ store-passed)
 
-  pub passed-well : wellFormed t ≡ true
-  unfolding wellFormed
+  pub passed-well : wellFormedIn L t ≡ true
+  unfolding wellFormedIn
   passed-well = rw (written-passed, valid-passed)
 
 -- ---- what is well formed passes
@@ -159,110 +163,110 @@ in-use s i n e =
     boolCase (ltb i (length (s .tasks))) (ltb-true i _)
     (λ b. absurd (omega (arith, e, ap (λ (x : Task). x .state) (List·getD-eq-default (s .tasks) (inactive 0) (ltb-false i (length (s .tasks)) b)))))
 
-module _ (t : List ℕ) (e : wellFormed t ≡ true) where
-  wrote : written one t ≡ true
-  unfolding wellFormed
+module _ (L : Layout) (t : List ℕ) (e : wellFormedIn L t ≡ true) where
+  wrote : written L t ≡ true
+  unfolding wellFormedIn
   wrote = and-l _ _ e
 
-  says : Written one t
-  says = written-says one t wrote
+  says : Written L t
+  says = written-says L t wrote
 
-  state : Valid (read one t)
-  unfolding wellFormed
-  state = let v = and-r (written one t) _ e in tested (read one t) (read-fits t wrote v) v
+  state : Valid (read L t)
+  unfolding wellFormedIn
+  state = let v = and-r (written L t) _ e in tested (read L t) (read-fits L t wrote v) v
 
-  contents-pass : contentsRight one t ≡ true
+  contents-pass : contentsRight L t ≡ true
   unfolding written
-  contents-pass = and-l _ _ (and-r (eqb (length t) 600) _ wrote)
+  contents-pass = and-l _ _ (and-r (eqb (length t) (size L)) _ wrote)
 
-  ready-pass : walks (read one t) 0 0 0 0 (part 200 16 t) ≡ true
+  ready-pass : walks (read L t) 0 0 0 0 (part (readyAt L) 16 t) ≡ true
   unfolding read
   ready-pass =
-      walks-holds (read one t) 0 0 0 0 (part 200 16 t)
+      walks-holds (read L t) 0 0 0 0 (part (readyAt L) 16 t)
       (record { full = says .ready; each = entry; low = low-zero _ _; sorted = state .ordered .ready })
     where
-      entry : (i : ℕ) → 1 ≤ occ i (read one t .ready) → Entry (read one t) 0 0 0 i
+      entry : (i : ℕ) → 1 ≤ occ i (read L t .ready) → Entry (read L t) 0 0 0 i
       entry i o =
-          let two = listed-ready (read one t) (state .listed) i o in
-          let q = ready-shape (read one t) (task (read one t) i) (state .records .each i) two in
-          record { used = in-use (read one t) i 0 two; hub = q .0; side = q .1; other = λ z. omega arith }
+          let two = listed-ready (read L t) (state .listed) i o in
+          let q = ready-shape (read L t) (task (read L t) i) (state .records .each i) two in
+          record { used = in-use (read L t) i 0 two; hub = q .0; side = q .1; other = λ z. omega arith }
 
   module _ (h : ℕ) (u : h < getD t 2 0) where
     abbrev x : Hub
-    x = hub (read one t) h
+    x = hub (read L t) h
 
-    kind-pass : kindRight (kindOf (x .kind)) (length (read one t .tasks)) x ≡ true
-    kind-pass = t-kind (kindOf (x .kind)) (length (read one t .tasks)) x .conv (state .ranges .range h (rw (read-hubs one t) u))
+    kind-pass : kindRight (kindOf (x .kind)) (length (read L t .tasks)) x ≡ true
+    kind-pass = t-kind (kindOf (x .kind)) (length (read L t .tasks)) x .conv (state .ranges .range h (rw (read-hubs L t) u))
 
-    store-pass : storeRight one (kindOf (x .kind)) (x .count) (storePart one t h) ≡ true
+    store-pass : storeRight L (kindOf (x .kind)) (x .count) (storePart L t h) ≡ true
     unfolding hubAt
-    store-pass = rw (read-hub one t h u) (says .stores h u)
+    store-pass = rw (read-hub L t h u) (says .stores h u)
 
-    module _ (i : ℕ) (o : 1 ≤ occ i (numbers (waitPart one t h))) where
+    module _ (i : ℕ) (o : 1 ≤ occ i (numbers (waitPart L t h))) where
       stands : 1 ≤ occ i (x .waiters)
-      stands = rw (wait-words t h u) o
+      stands = rw (wait-words L t h u) o
 
-      may-pass : (may (task (read one t) i .side) (x .kind) (x .count) (x .limit) && not (eqb (suc i) (ownerOf (x .kind) (x .count)))) ≡ true
+      may-pass : (may (task (read L t) i .side) (x .kind) (x .count) (x .limit) && not (eqb (suc i) (ownerOf (x .kind) (x .count)))) ≡ true
       may-pass =
-          sym (may-wait (task (read one t) i .side) (x .kind) (length (read one t .tasks)) i x (t-kind (kindOf (x .kind)) (length (read one t .tasks)) x .yes kind-pass))
-          ∙ t-may (sideOf (task (read one t) i .side)) (kindOf (x .kind)) x i .conv (state .waits .may h i (listed-waiting (read one t) (state .listed) h i stands))
+          sym (may-wait (task (read L t) i .side) (x .kind) (length (read L t .tasks)) i x (t-kind (kindOf (x .kind)) (length (read L t .tasks)) x .yes kind-pass))
+          ∙ t-may (sideOf (task (read L t) i .side)) (kindOf (x .kind)) x i .conv (state .waits .may h i (listed-waiting (read L t) (state .listed) h i stands))
 
     abbrev first : ℕ
-    first = pred (getD (waitPart one t h) 0 0)
+    first = pred (getD (waitPart L t h) 0 0)
 
-    same-side : (i : ℕ) → 1 ≤ occ i (numbers (waitPart one t h)) → task (read one t) i .side ≡ task (read one t) first .side
+    same-side : (i : ℕ) → 1 ≤ occ i (numbers (waitPart L t h)) → task (read L t) i .side ≡ task (read L t) first .side
     same-side i o =
-        state .waits .oneSide h i first (listed-waiting (read one t) (state .listed) h i (stands i o))
-        (listed-waiting (read one t) (state .listed) h first (stands first (first-in (waitPart one t h) (λ z. first-none (waitPart one t h) z i o))))
+        state .waits .oneSide h i first (listed-waiting (read L t) (state .listed) h i (stands i o))
+        (listed-waiting (read L t) (state .listed) h first (stands first (first-in (waitPart L t h) (λ z. first-none (waitPart L t h) z i o))))
 
-    line-pass : Line (read one t) h x (waitPart one t h)
+    line-pass : Line (read L t) h x (waitPart L t h)
     line-pass = record {
-      side = task (read one t) first .side;
+      side = task (read L t) first .side;
       queue = record {
         full = says .waiters h u;
-        each = λ i o. let three = listed-waits (read one t) (state .listed) h i (stands i o) in
+        each = λ i o. let three = listed-waits (read L t) (state .listed) h i (stands i o) in
             record {
-              used = in-use (read one t) i 1 (three .0);
+              used = in-use (read L t) i 1 (three .0);
               hub = three .1;
               side = same-side i o;
-              other = eqb-false _ _ (not-true _ (and-r (may (task (read one t) i .side) (x .kind) (x .count) (x .limit)) _ (may-pass i o)));
+              other = eqb-false _ _ (not-true _ (and-r (may (task (read L t) i .side) (x .kind) (x .count) (x .limit)) _ (may-pass i o)));
             };
         low = low-zero _ _;
-        sorted = rw (wait-words t h u) at (state .ordered .waiters h);
+        sorted = rw (wait-words L t h u) at (state .ordered .waiters h);
       };
-      allowed = λ i o. rw (same-side i o) at (and-l (may (task (read one t) i .side) (x .kind) (x .count) (x .limit)) _ (may-pass i o));
+      allowed = λ i o. rw (same-side i o) at (and-l (may (task (read L t) i .side) (x .kind) (x .count) (x .limit)) _ (may-pass i o));
     }
 
-    hub-pass : hubRight t h ≡ true
+    hub-pass : hubRight L t h ≡ true
     unfolding hubRight kindTest queueTest storeTest
     hub-pass =
-        rw (rw (read-tasks one t) at kind-pass, store-pass) (queue-holds (read one t) h x (waitPart one t h) line-pass)
+        rw (rw (read-tasks L t) at kind-pass, store-pass) (queue-holds (read L t) h x (waitPart L t h) line-pass)
 
-  task-pass : (i : ℕ) → taskRight (read one t) i (markOf t i) ≡ true
+  task-pass : (i : ℕ) → taskRight (read L t) i (markOf L t i) ≡ true
   unfolding recordRight taskRight
   task-pass i =
-      let q = t-task (read one t) (task (read one t) i) .conv (state .records .each i) in
-      let m : markOf t i ≡ listed (task (read one t) i .state) = rw (read-hubs one t) at (exact-marks (read one t) (state .records) (state .listed) i) in
-      let a : fieldsRight (task (read one t) i) ≡ true = and-l _ _ q in
-      rw (a, and-r (fieldsRight (task (read one t) i)) _ q, eq-eqb (markOf t i) _ m)
+      let q = t-task (read L t) (task (read L t) i) .conv (state .records .each i) in
+      let m : markOf L t i ≡ listed (task (read L t) i .state) = rw (read-hubs L t) at (exact-marks (read L t) (state .records) (state .listed) i) in
+      let a : fieldsRight (task (read L t) i) ≡ true = and-l _ _ q in
+      rw (a, and-r (fieldsRight (task (read L t) i)) _ q, eq-eqb (markOf L t i) _ m)
 
-  pub well-passed : Passed t
+  pub well-passed : Passed L t
   well-passed = record {
-    used = record { long = says .long; tasks = says .tasks; hubs = says .hubs };
+    long = says .long;
     contents = contents-pass;
     unused = says .unused;
     ready = ready-pass;
-    hubs = each-so (getD t 2 0) (hubRight t) hub-pass;
-    tasks = each-so (getD t 1 0) (λ i. taskRight (read one t) i (markOf t i)) (λ i u. task-pass i);
+    hubs = each-so (getD t 2 0) (hubRight L t) hub-pass;
+    tasks = each-so (getD t 1 0) (λ i. taskRight (read L t) i (markOf L t i)) (λ i u. task-pass i);
   }
 
 -- ---- a test that well formed tables pass, and the last one
 
-pub refused : (t : List ℕ) (b : Bool) → (wellFormed t ≡ true → b ≡ true) → b ≡ false → false ≡ wellFormed t
-refused t b f e = boolCase (wellFormed t) (λ w. absurd (false≢true (sym e ∙ f w))) (λ w. sym w)
+pub refused : (L : Layout) (t : List ℕ) (b : Bool) → (wellFormedIn L t ≡ true → b ≡ true) → b ≡ false → false ≡ wellFormedIn L t
+refused L t b f e = boolCase (wellFormedIn L t) (λ w. absurd (false≢true (sym e ∙ f w))) (λ w. sym w)
 
-settled : (t : List ℕ) (b : Bool) → (wellFormed t ≡ true → b ≡ true) → (b ≡ true → wellFormed t ≡ true) → b ≡ wellFormed t
-settled t b f g = boolCase b (λ e. rw (e, g e)) (λ e. rw e (refused t b f e))
+settled : (L : Layout) (t : List ℕ) (b : Bool) → (wellFormedIn L t ≡ true → b ≡ true) → (b ≡ true → wellFormedIn L t ≡ true) → b ≡ wellFormedIn L t
+settled L t b f g = boolCase b (λ e. rw (e, g e)) (λ e. rw e (refused L t b f e))
 
 -- the same test of every number
 forAll-same : (n : ℕ) (p q : ℕ → Bool) → ((i : ℕ) → p i ≡ q i) → forAll n p ≡ forAll n q
@@ -284,18 +288,18 @@ ready-marks l g e n = record {
 }
 
 -- all tests but the last have passed, and the last is of the marks that they left
-pub whole : (t : List ℕ) {m n : List ℕ} (a b r : Bool) → Used t → contentsRight one t ≡ true → unusedZero one t ≡ true
-    → Marked a (walks (read one t) 0 0 0 0 (part 200 16 t)) (λ j. occ j (numbers (part 200 16 t))) (replicate 16 0) m → a ≡ true
-    → Marked b (forAll (getD t 2 0) (hubRight t)) (metAt (read one t) (getD t 2 0)) m n → b ≡ true
-    → r ≡ forAll (getD t 1 0) (λ i. taskRight (read one t) i (getD n i 0)) → r ≡ wellFormed t
+pub whole : (L : Layout) (t : List ℕ) {m n : List ℕ} (a b r : Bool) → length t ≡ size L → contentsRight L t ≡ true → unusedZero L t ≡ true
+    → Marked a (walks (read L t) 0 0 0 0 (part (readyAt L) 16 t)) (λ j. occ j (numbers (part (readyAt L) 16 t))) (replicate 16 0) m → a ≡ true
+    → Marked b (forAll (getD t 2 0) (hubRight L t)) (metAt (read L t) (getD t 2 0)) m n → b ≡ true
+    → r ≡ forAll (getD t 1 0) (λ i. taskRight (read L t) i (getD n i 0)) → r ≡ wellFormedIn L t
 unfolding read
-whole t {m} {n} a b r u c z f fa g gb e =
-    settled t r (λ w. same ∙ well-passed t w .tasks)
-    (λ o. passed-well t (record { used = u; contents = c; unused = z; ready = sym (f .right) ∙ fa; hubs = sym (g .right) ∙ gb; tasks = sym same ∙ o }))
+whole L t {m} {n} a b r long c z f fa g gb e =
+    settled L t r (λ w. same ∙ well-passed L t w .tasks)
+    (λ o. passed-well L t (record { long = long; contents = c; unused = z; ready = sym (f .right) ∙ fa; hubs = sym (g .right) ∙ gb; tasks = sym same ∙ o }))
   where
-    mark : (j : ℕ) → getD n j 0 ≡ markOf t j
+    mark : (j : ℕ) → getD n j 0 ≡ markOf L t j
     mark j = omega (arith, f .marks fa j, g .marks gb j, no-marks 16 j)
 
-    same : r ≡ forAll (getD t 1 0) (λ i. taskRight (read one t) i (markOf t i))
+    same : r ≡ forAll (getD t 1 0) (λ i. taskRight (read L t) i (markOf L t i))
     same =
-        e ∙ forAll-same (getD t 1 0) (λ i. taskRight (read one t) i (getD n i 0)) (λ i. taskRight (read one t) i (markOf t i)) (λ i. ap (taskRight (read one t) i) (mark i))
+        e ∙ forAll-same (getD t 1 0) (λ i. taskRight (read L t) i (getD n i 0)) (λ i. taskRight (read L t) i (markOf L t i)) (λ i. ap (taskRight (read L t) i) (mark i))

@@ -1,8 +1,9 @@
 -- What each function of this crate tests: a list of words in one walk, a hub with its store and its list, a task with its
--- mark. In the code's order. Not here: that together they are `wellFormed` (proofs/).
+-- mark. In the code's order. Not here: that together they are `wellFormedIn` (proofs/).
 use Prim.Native.Nat.{_+_, _≤_, pred, suc, zero, ℕ}
 use Rattle.lists.specs.Lists.{allZero, bit, occ}
-use Rattle.rules.specs.Table.{Hub, State, Task, hub, kindOf, one, read, stageOf, storePart, task, taskFrom1, waitPart}
+use Rattle.records.specs.Records.{tableSize}
+use Rattle.rules.specs.Table.{Hub, Layout, State, Task, hub, kindOf, read, stageOf, storePart, task, taskFrom, waitPart}
 use Rattle.rules.specs.WellFormed.{fieldsRight, kindRight, stageRight, storeRight}
 use lib.Dec.{eqb, leb}
 use lib.ListN.{getD, length}
@@ -10,9 +11,11 @@ use mathlib.Core.Bool.{Bool, _&&_, _||_, cond, not, true}
 use mathlib.Core.List.{List, [], _∷_}
 use mathlib.Core.Path.{_≡_}
 
--- a table whose length and counts are right, so that every place that is read is in it
-pub record Used (t : List ℕ) : Type 0 where
-  pub long : length t ≡ 600
+-- a table of an edition whose counts are right, so that every place that is read is in it
+pub record Used (ts : ℕ) (t : List ℕ) : Type 0 where
+  pub low : 8 ≤ ts
+  pub high : ts ≤ 9
+  pub long : length t ≡ tableSize ts
   pub tasks : getD t 1 0 ≤ 16
   pub hubs : getD t 2 0 ≤ 16
 
@@ -63,21 +66,21 @@ queueRight s h x l =
     && walks s (suc h) (task s (pred (getD l 0 0)) .side) (ownerOf (x .kind) (x .count)) 0 l))
 
 -- a hub of the table: its record, its store, its list, and all three
-unfoldable pub kindTest : List ℕ → ℕ → Bool
-kindTest t h = kindRight (kindOf (hub (read one t) h .kind)) (getD t 1 0) (hub (read one t) h)
+unfoldable pub kindTest : Layout → List ℕ → ℕ → Bool
+kindTest L t h = kindRight (kindOf (hub (read L t) h .kind)) (getD t 1 0) (hub (read L t) h)
 
-unfoldable pub storeTest : List ℕ → ℕ → Bool
-storeTest t h = storeRight one (kindOf (hub (read one t) h .kind)) (hub (read one t) h .count) (storePart one t h)
+unfoldable pub storeTest : Layout → List ℕ → ℕ → Bool
+storeTest L t h = storeRight L (kindOf (hub (read L t) h .kind)) (hub (read L t) h .count) (storePart L t h)
 
-unfoldable pub queueTest : List ℕ → ℕ → Bool
-queueTest t h = queueRight (read one t) h (hub (read one t) h) (waitPart one t h)
+unfoldable pub queueTest : Layout → List ℕ → ℕ → Bool
+queueTest L t h = queueRight (read L t) h (hub (read L t) h) (waitPart L t h)
 
-unfoldable pub hubRight : List ℕ → ℕ → Bool
-hubRight t h = kindTest t h && (storeTest t h && queueTest t h)
+unfoldable pub hubRight : Layout → List ℕ → ℕ → Bool
+hubRight L t h = kindTest L t h && (storeTest L t h && queueTest L t h)
 
 -- how often task j stands in the list of hub h
-abbrev pub waitsOf : List ℕ → ℕ → ℕ → ℕ
-waitsOf t h j = occ j (hub (read one t) h .waiters)
+abbrev pub waitsOf : Layout → List ℕ → ℕ → ℕ → ℕ
+waitsOf L t h j = occ j (hub (read L t) h .waiters)
 
 -- how often task j stands in the lists of the hubs below n
 unfoldable pub metAt : State → ℕ → ℕ → ℕ
@@ -97,6 +100,6 @@ recordRight s x mark = fieldsRight x && (stageRight (stageOf (x .state)) s x && 
 unfoldable pub taskRight : State → ℕ → ℕ → Bool
 taskRight s i mark = recordRight s (task s i) mark
 
--- the record that 8 words hold
-abbrev pub recordOf : List ℕ → Task
-recordOf l = taskFrom1 (λ k. getD l k 0)
+-- the record that a list of words holds
+abbrev pub recordOf : Layout → List ℕ → Task
+recordOf L l = taskFrom L (λ k. getD l k 0)

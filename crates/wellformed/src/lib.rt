@@ -1,50 +1,50 @@
 // Whether a table of words is well formed: refusals 1 and 2. One pass: contents, what is unused, the ready list, each hub
 // with its store and its list, and the task records last. A walk of a list marks the tasks that it meets, and the records
-// say which of them must have been met once.
-use records::ANSWER;
+// say which of them must have been met once. Every place follows from `ts`, the number of words in a task record, and the
+// contracts speak of every layout that has it.
 use records::COUNT;
 use records::HUB;
 use records::HUB_SIZE;
 use records::HUBS;
-use records::HUBS_AT;
+use records::HubNo;
 use records::LIMIT;
 use records::LIST_SIZE;
 use records::MOST_RECORDS;
 use records::PRIORITY;
-use records::READY_AT;
 use records::SIDE;
 use records::START;
 use records::STATE;
-use records::STORE_SIZE;
-use records::STORES_AT;
 use records::SUSPENDED;
-use records::TABLE_SIZE;
-use records::TASK_SIZE;
 use records::TASKS;
 use records::TASKS_AT;
 use records::TICKS;
-use records::WAITS_AT;
+use records::TaskNo;
 use records::WORD;
 ghost use Prim.Native.Nat.{_<_, _≤_};
 ghost use Rattle.lists.specs.Lists.{numbers, occ};
-ghost use Rattle.rules.specs.Table.{Task, Waiting, one, read};
-ghost use Rattle.rules.specs.WellFormed.{contentsRight, forAll, stageRight, unusedZero, wellFormed, zeroFrom};
+ghost use Rattle.records.specs.Records.{Table};
+ghost use Rattle.rules.proofs.Layouts.{Laid};
+ghost use Rattle.rules.specs.Table.{Layout, Task, Waiting, read};
+ghost use Rattle.rules.specs.WellFormed.{contentsRight, forAll, stageRight, unusedZero, wellFormedIn, zeroFrom};
 ghost use Rattle.wellformed.specs.Walks.{Marked, Marks, Used, hubRight, kindTest, may, meets, metAt, ownerOf, queueTest, recordOf, recordRight, storeTest, taskRight, waitsOf, walks};
 ghost use lib.Dec.{eqb, leb};
 ghost use lib.ListN.{getD, length};
 ghost use mathlib.Core.Bool.{_&&_, _||_, true};
 ghost use mathlib.Core.Path.{_≡_};
 
-// "contents: edition 1, tasks T, hubs H, then where each body starts"
-fn contents_right(t: &[u32]) -> bool
-    requires { ⌜ length (now t) ≡ 600 ⌝ }
-    ensures { λ r. ⌜ r ≡ contentsRight one (now (t .entry)) ⌝ }
+// "contents: edition 1, tasks T, hubs H, then where each body starts"; the edition is how many words a message has
+fn contents_right(t: &[u32], ts: usize) -> bool
+    requires { ⌜ Table ts (now t) ⌝ }
+    ensures { λ r. ⌜ ((L : Layout) → Laid ts L → r ≡ contentsRight L (now (t .entry))) ⌝ }
 {
-    (t[0] == 1)
+    (t[0] == records::width_of(ts) as u32)
         & ((t[TASKS] <= MOST_RECORDS)
             & ((t[HUBS] <= MOST_RECORDS)
-                & ((t[3] == 8)
-                    & ((t[4] == 136) & ((t[5] == 200) & ((t[6] == 216) & (t[7] == 472)))))))
+                & ((t[3] == TASKS_AT as u32)
+                    & ((t[4] == records::hubs_at(ts) as u32)
+                        & ((t[5] == records::ready_at(ts) as u32)
+                            & ((t[6] == records::waits_at(ts, HubNo(0)) as u32)
+                                & (t[7] == records::stores_at(ts) as u32)))))))
 }
 
 // Words a to b - 1 are 0.
@@ -56,40 +56,55 @@ fn zero_from(t: &[u32], a: usize, b: usize) -> bool
 }
 
 // "Everything unused is 0"
-fn unused_zero(t: &[u32]) -> bool
-    requires { ⌜ Used (now t) ⌝ }
-    ensures { λ r. ⌜ r ≡ unusedZero one (now (t .entry)) ⌝ }
+fn unused_zero(t: &[u32], ts: usize) -> bool
+    requires { ⌜ Used ts (now t) ⌝ }
+    ensures { λ r. ⌜ ((L : Layout) → Laid ts L → r ≡ unusedZero L (now (t .entry))) ⌝ }
 {
     let n = t[TASKS] as usize;
     let m = t[HUBS] as usize;
-    zero_from(t, TASKS_AT + n * TASK_SIZE, HUBS_AT)
-        & (zero_from(t, HUBS_AT + m * HUB_SIZE, READY_AT)
-            & (zero_from(t, WAITS_AT + m * LIST_SIZE, STORES_AT)
-                & zero_from(t, STORES_AT + m * STORE_SIZE, TABLE_SIZE)))
+    let hubs = records::hubs_at(ts);
+    let stores = records::stores_at(ts);
+    zero_from(t, TASKS_AT + n * ts, hubs)
+        & (zero_from(t, hubs + m * HUB_SIZE, records::ready_at(ts))
+            & (zero_from(t, records::waits_at(ts, HubNo(m)), stores)
+                & zero_from(
+                    t,
+                    stores + m * records::store_size(ts),
+                    records::table_size(ts),
+                )))
 }
 
 // Entry e of a list: a task in use, at this hub and on this side, not more urgent than the entry before it, and not the
 // owner. A task whose record names another hub, or none, is refused here; one in the wrong state by its record.
-fn entry_right(t: &[u32], e: u32, hub: u32, side: u32, owner: u32, last: u32) -> bool
-    requires { ⌜ Used (now t) ⌝ }
+fn entry_right(t: &[u32], ts: usize, e: u32, hub: u32, side: u32, owner: u32, last: u32) -> bool
+    requires { ⌜ Used ts (now t) ⌝ }
     requires { ⌜ 0 < e ⌝ }
-    ensures { λ r. ⌜ r ≡ meets (read one (now (t .entry))) hub side owner last e ⌝ }
+    ensures { λ r. ⌜ ((L : Layout) → Laid ts L → r ≡ meets (read L (now (t .entry))) hub side owner last e) ⌝ }
 {
     if e > t[TASKS] {
         return false;
     }
-    // entry e is task e - 1, and the contents are as long as a task record
-    let b = (e as usize) * TASK_SIZE;
+    // entry e is task e - 1
+    let b = records::task_at(ts, TaskNo((e - 1) as usize));
     (t[b + HUB] == hub) & ((t[b + SIDE] == side) & ((last <= t[b + PRIORITY]) & (e != owner)))
 }
 
 // A list in one walk: entries by rising priority number, then zeros, each entry's task marked.
-fn walk(t: &[u32], list: &[u32], hub: u32, side: u32, owner: u32, marks: &mut [u32; 16]) -> bool
-    requires { ⌜ Used (now t) ⌝ }
+fn walk(
+    t: &[u32],
+    ts: usize,
+    list: &[u32],
+    hub: u32,
+    side: u32,
+    owner: u32,
+    marks: &mut [u32; 16],
+) -> bool
+    requires { ⌜ Used ts (now t) ⌝ }
     requires { ⌜ length (now list) ≡ 16 ⌝ }
     requires { ⌜ Marks 256 (now marks) ⌝ }
-    ensures { λ r. ⌜ Marked r (walks (read one (now (t .entry))) hub side owner 0 (now (list .entry)))
-        (λ j. occ j (numbers (now (list .entry)))) (now (marks .entry)) (now (marks .exit)) ⌝ }
+    ensures { λ r. ⌜ ((L : Layout) → Laid ts L
+        → Marked r (walks (read L (now (t .entry))) hub side owner 0 (now (list .entry)))
+        (λ j. occ j (numbers (now (list .entry)))) (now (marks .entry)) (now (marks .exit))) ⌝ }
 {
     let mut last = 0;
     let mut k = 0;
@@ -98,24 +113,24 @@ fn walk(t: &[u32], list: &[u32], hub: u32, side: u32, owner: u32, marks: &mut [u
         if e == 0 {
             return lists::zeros(&list[k..]);
         }
-        if !entry_right(t, e, hub, side, owner, last) {
+        if !entry_right(t, ts, e, hub, side, owner, last) {
             return false;
         }
-        let i = e as usize;
-        marks[i - 1] = marks[i - 1] + 1;
-        last = t[i * TASK_SIZE + PRIORITY];
+        let i = (e - 1) as usize;
+        marks[i] = marks[i] + 1;
+        last = t[records::task_at(ts, TaskNo(i)) + PRIORITY];
         k += 1;
     }
     true
 }
 
 // The kinds table: count, limit and start of hub h.
-fn kind_right(t: &[u32], h: usize) -> bool
-    requires { ⌜ Used (now t) ⌝ }
+fn kind_right(t: &[u32], ts: usize, h: usize) -> bool
+    requires { ⌜ Used ts (now t) ⌝ }
     requires { ⌜ h < getD (now t) 2 0 ⌝ }
-    ensures { λ r. ⌜ r ≡ kindTest (now (t .entry)) h ⌝ }
+    ensures { λ r. ⌜ ((L : Layout) → Laid ts L → r ≡ kindTest L (now (t .entry)) h) ⌝ }
 {
-    let b = HUBS_AT + h * HUB_SIZE;
+    let b = records::hubs_at(ts) + h * HUB_SIZE;
     let count = t[b + COUNT];
     let limit = t[b + LIMIT];
     let start = t[b + START];
@@ -132,18 +147,18 @@ fn kind_right(t: &[u32], h: usize) -> bool
 }
 
 // "A FIFO's store holds its words, oldest first, then zeros. Other stores are 0."
-fn store_right(t: &[u32], h: usize) -> bool
-    requires { ⌜ Used (now t) ⌝ }
+fn store_right(t: &[u32], ts: usize, h: usize) -> bool
+    requires { ⌜ Used ts (now t) ⌝ }
     requires { ⌜ h < getD (now t) 2 0 ⌝ }
-    requires { ⌜ kindTest (now t) h ≡ true ⌝ }
-    ensures { λ r. ⌜ r ≡ storeTest (now (t .entry)) h ⌝ }
+    requires { ⌜ ((L : Layout) → Laid ts L → kindTest L (now t) h ≡ true) ⌝ }
+    ensures { λ r. ⌜ ((L : Layout) → Laid ts L → r ≡ storeTest L (now (t .entry)) h) ⌝ }
 {
-    let at = STORES_AT + h * STORE_SIZE;
-    let store = &t[at..at + STORE_SIZE];
-    let b = HUBS_AT + h * HUB_SIZE;
+    let at = records::store_at(ts, HubNo(h));
+    let store = &t[at..at + records::store_size(ts)];
+    let b = records::hubs_at(ts) + h * HUB_SIZE;
     if t[b] == rules::FIFO {
         let n = t[b + COUNT] as usize;
-        lists::zeros(&store[n..])
+        lists::zeros(&store[n * records::width_of(ts)..])
     } else {
         lists::zeros(store)
     }
@@ -167,13 +182,15 @@ fn owner_of(kind: u32, count: u32) -> u32
 }
 
 // Hub h's list: the first entry's side may wait, and no entry is on the other.
-fn queue_right(t: &[u32], h: usize, marks: &mut [u32; 16]) -> bool
-    requires { ⌜ Used (now t) ⌝ }
+fn queue_right(t: &[u32], ts: usize, h: usize, marks: &mut [u32; 16]) -> bool
+    requires { ⌜ Used ts (now t) ⌝ }
     requires { ⌜ h < getD (now t) 2 0 ⌝ }
     requires { ⌜ Marks 256 (now marks) ⌝ }
-    ensures { λ r. ⌜ Marked r (queueTest (now (t .entry)) h) (waitsOf (now (t .entry)) h) (now (marks .entry)) (now (marks .exit)) ⌝ }
+    ensures { λ r. ⌜ ((L : Layout) → Laid ts L
+        → Marked r (queueTest L (now (t .entry)) h) (waitsOf L (now (t .entry)) h)
+        (now (marks .entry)) (now (marks .exit))) ⌝ }
 {
-    let at = WAITS_AT + h * LIST_SIZE;
+    let at = records::waits_at(ts, HubNo(h));
     let list = &t[at..at + LIST_SIZE];
     let e = list[0];
     if e == 0 {
@@ -182,43 +199,54 @@ fn queue_right(t: &[u32], h: usize, marks: &mut [u32; 16]) -> bool
     if e > t[TASKS] {
         return false;
     }
-    let side = t[(e as usize) * TASK_SIZE + SIDE];
-    let b = HUBS_AT + h * HUB_SIZE;
+    let side = t[records::task_at(ts, TaskNo((e - 1) as usize)) + SIDE];
+    let b = records::hubs_at(ts) + h * HUB_SIZE;
     let kind = t[b];
     let count = t[b + COUNT];
     if !may_wait(side, kind, count, t[b + LIMIT]) {
         return false;
     }
-    walk(t, list, (h + 1) as u32, side, owner_of(kind, count), marks)
+    walk(
+        t,
+        ts,
+        list,
+        (h + 1) as u32,
+        side,
+        owner_of(kind, count),
+        marks,
+    )
 }
 
 // Hub h: its record, its store and its list.
-fn hub_right(t: &[u32], h: usize, marks: &mut [u32; 16]) -> bool
-    requires { ⌜ Used (now t) ⌝ }
+fn hub_right(t: &[u32], ts: usize, h: usize, marks: &mut [u32; 16]) -> bool
+    requires { ⌜ Used ts (now t) ⌝ }
     requires { ⌜ h < getD (now t) 2 0 ⌝ }
     requires { ⌜ Marks 256 (now marks) ⌝ }
-    ensures { λ r. ⌜ Marked r (hubRight (now (t .entry)) h) (waitsOf (now (t .entry)) h) (now (marks .entry)) (now (marks .exit)) ⌝ }
+    ensures { λ r. ⌜ ((L : Layout) → Laid ts L
+        → Marked r (hubRight L (now (t .entry)) h) (waitsOf L (now (t .entry)) h)
+        (now (marks .entry)) (now (marks .exit))) ⌝ }
 {
-    if !kind_right(t, h) {
+    if !kind_right(t, ts, h) {
         return false;
     }
-    if !store_right(t, h) {
+    if !store_right(t, ts, h) {
         return false;
     }
-    queue_right(t, h, marks)
+    queue_right(t, ts, h, marks)
 }
 
 // All hubs in use.
-fn hubs_right(t: &[u32], marks: &mut [u32; 16]) -> bool
-    requires { ⌜ Used (now t) ⌝ }
+fn hubs_right(t: &[u32], ts: usize, marks: &mut [u32; 16]) -> bool
+    requires { ⌜ Used ts (now t) ⌝ }
     requires { ⌜ Marks 16 (now marks) ⌝ }
-    ensures { λ r. ⌜ Marked r (forAll (getD (now (t .entry)) 2 0) (hubRight (now (t .entry))))
-        (metAt (read one (now (t .entry))) (getD (now (t .entry)) 2 0)) (now (marks .entry)) (now (marks .exit)) ⌝ }
+    ensures { λ r. ⌜ ((L : Layout) → Laid ts L
+        → Marked r (forAll (getD (now (t .entry)) 2 0) (hubRight L (now (t .entry))))
+        (metAt (read L (now (t .entry))) (getD (now (t .entry)) 2 0)) (now (marks .entry)) (now (marks .exit))) ⌝ }
 {
     let m = t[HUBS] as usize;
     let mut h = 0;
     while h < m {
-        if !hub_right(t, h, marks) {
+        if !hub_right(t, ts, h, marks) {
             return false;
         }
         h += 1;
@@ -227,7 +255,7 @@ fn hubs_right(t: &[u32], marks: &mut [u32; 16]) -> bool
 }
 
 // "Inactive: all but state and priority 0."
-fn inactive_right(suspended: u32, hub: u32, ticks: u32, side: u32, word: u32, answer: u32) -> bool
+fn inactive_right(suspended: u32, hub: u32, ticks: u32, side: u32, word: u64, answer: u32) -> bool
     ensures { λ r. ⌜ r ≡ (eqb suspended 0
         && (eqb hub 0 && (eqb ticks 0 && (eqb side 0 && (eqb word 0 && eqb answer 0))))) ⌝ }
 {
@@ -235,24 +263,25 @@ fn inactive_right(suspended: u32, hub: u32, ticks: u32, side: u32, word: u32, an
 }
 
 // "Ready: hub, ticks and side 0; word 0 unless the answer is 1."
-fn ready_right(hub: u32, ticks: u32, side: u32, word: u32, answer: u32) -> bool
+fn ready_right(hub: u32, ticks: u32, side: u32, word: u64, answer: u32) -> bool
     ensures { λ r. ⌜ r ≡ (eqb hub 0 && (eqb ticks 0 && (eqb side 0 && (eqb answer 1 || eqb word 0)))) ⌝ }
 {
     (hub == 0) & ((ticks == 0) & ((side == 0) & ((answer == rules::OK) | (word == 0))))
 }
 
 // "Sleeping: hub, side, word and answer 0, ticks at least 1."
-fn sleeping_right(hub: u32, ticks: u32, side: u32, word: u32, answer: u32) -> bool
+fn sleeping_right(hub: u32, ticks: u32, side: u32, word: u64, answer: u32) -> bool
     ensures { λ r. ⌜ r ≡ (eqb hub 0 && (eqb side 0 && (eqb word 0 && (eqb answer 0 && leb 1 ticks)))) ⌝ }
 {
     (hub == 0) & ((side == 0) & ((word == 0) & ((answer == 0) & (1 <= ticks))))
 }
 
 // "Waiting: hub in use, side 1 or 2, answer 0, word 0 unless it puts to a Port or FIFO."
-fn waiting_right(t: &[u32], hub: u32, side: u32, word: u32, answer: u32) -> bool
-    requires { ⌜ Used (now t) ⌝ }
-    ensures { λ r. ⌜ ((x : Task) → x .hub ≡ hub → x .side ≡ side → x .word ≡ word → x .answer ≡ answer
-        → r ≡ stageRight Waiting (read one (now (t .entry))) x) ⌝ }
+fn waiting_right(t: &[u32], ts: usize, hub: u32, side: u32, word: u64, answer: u32) -> bool
+    requires { ⌜ Used ts (now t) ⌝ }
+    ensures { λ r. ⌜ ((L : Layout) (x : Task) → Laid ts L
+        → x .hub ≡ hub → x .side ≡ side → x .word ≡ word → x .answer ≡ answer
+        → r ≡ stageRight Waiting (read L (now (t .entry))) x) ⌝ }
 {
     if hub == 0 {
         return false;
@@ -261,7 +290,7 @@ fn waiting_right(t: &[u32], hub: u32, side: u32, word: u32, answer: u32) -> bool
         return false;
     }
     // a hub's number plus 1 stands in the record
-    let kind = t[HUBS_AT - HUB_SIZE + (hub as usize) * HUB_SIZE];
+    let kind = t[records::hubs_at(ts) - HUB_SIZE + (hub as usize) * HUB_SIZE];
     ((rules::PUT <= side) & (side <= rules::GET))
         & ((answer == 0)
             & (((side == rules::PUT) & ((kind == rules::PORT) | (kind == rules::FIFO)))
@@ -269,17 +298,19 @@ fn waiting_right(t: &[u32], hub: u32, side: u32, word: u32, answer: u32) -> bool
 }
 
 // A task's record, by its state, and its mark: once if it is ready or waits, else not at all.
-fn task_right(t: &[u32], x: &[u32], mark: u32) -> bool
-    requires { ⌜ Used (now t) ⌝ }
-    requires { ⌜ length (now x) ≡ 8 ⌝ }
-    ensures { λ r. ⌜ r ≡ recordRight (read one (now (t .entry))) (recordOf (now (x .entry))) mark ⌝ }
+fn task_right(t: &[u32], ts: usize, x: &[u32], mark: u32) -> bool
+    requires { ⌜ Used ts (now t) ⌝ }
+    requires { ⌜ length (now x) ≡ ts ⌝ }
+    ensures { λ r. ⌜ ((L : Layout) → Laid ts L
+        → r ≡ recordRight (read L (now (t .entry))) (recordOf L (now (x .entry))) mark) ⌝ }
 {
+    let w = records::width_of(ts);
     let suspended = x[SUSPENDED];
     let hub = x[HUB];
     let ticks = x[TICKS];
     let side = x[SIDE];
-    let word = x[WORD];
-    let answer = x[ANSWER];
+    let word = messages::message(x, WORD, w);
+    let answer = x[WORD + w];
     if !((suspended <= 1)
         & ((x[PRIORITY] <= rules::LAST_PRIORITY)
             & ((ticks <= rules::MOST_TICKS) & (answer <= rules::TIMED_OUT)))) {
@@ -288,22 +319,23 @@ fn task_right(t: &[u32], x: &[u32], mark: u32) -> bool
     match x[STATE] {
         rules::INACTIVE => inactive_right(suspended, hub, ticks, side, word, answer) & (mark == 0),
         rules::READY => ready_right(hub, ticks, side, word, answer) & (mark == 1),
-        rules::WAITING => waiting_right(t, hub, side, word, answer) & (mark == 1),
+        rules::WAITING => waiting_right(t, ts, hub, side, word, answer) & (mark == 1),
         rules::SLEEPING => sleeping_right(hub, ticks, side, word, answer) & (mark == 0),
         _ => false,
     }
 }
 
 // All tasks in use, each with its mark.
-fn tasks_right(t: &[u32], marks: &[u32; 16]) -> bool
-    requires { ⌜ Used (now t) ⌝ }
-    ensures { λ r. ⌜ r ≡ forAll (getD (now (t .entry)) 1 0) (λ i. taskRight (read one (now (t .entry))) i (getD (now (marks .entry)) i 0)) ⌝ }
+fn tasks_right(t: &[u32], ts: usize, marks: &[u32; 16]) -> bool
+    requires { ⌜ Used ts (now t) ⌝ }
+    ensures { λ r. ⌜ ((L : Layout) → Laid ts L → r ≡ forAll (getD (now (t .entry)) 1 0)
+        (λ i. taskRight (read L (now (t .entry))) i (getD (now (marks .entry)) i 0))) ⌝ }
 {
     let n = t[TASKS] as usize;
     let mut i = 0;
     while i < n {
-        let b = TASKS_AT + i * TASK_SIZE;
-        if !task_right(t, &t[b..b + TASK_SIZE], marks[i]) {
+        let b = records::task_at(ts, TaskNo(i));
+        if !task_right(t, ts, &t[b..b + ts], marks[i]) {
             return false;
         }
         i += 1;
@@ -312,24 +344,27 @@ fn tasks_right(t: &[u32], marks: &[u32; 16]) -> bool
 }
 
 // "Well formed": the table of words is written as the paper has it, and what is read from it is right.
-pub fn well_formed(t: &[u32]) -> bool
-    ensures { λ r. ⌜ r ≡ wellFormed (now (t .entry)) ⌝ }
+pub fn well_formed(t: &[u32], ts: usize) -> bool
+    requires { ⌜ 8 ≤ ts ⌝ }
+    requires { ⌜ ts ≤ 9 ⌝ }
+    ensures { λ r. ⌜ ((L : Layout) → Laid ts L → r ≡ wellFormedIn L (now (t .entry))) ⌝ }
 {
-    if t.len() != TABLE_SIZE {
+    if t.len() != records::table_size(ts) {
         return false;
     }
-    if !contents_right(t) {
+    if !contents_right(t, ts) {
         return false;
     }
-    if !unused_zero(t) {
+    if !unused_zero(t, ts) {
         return false;
     }
     let mut marks = [0u32; 16];
-    if !walk(t, &t[READY_AT..WAITS_AT], 0, 0, 0, &mut marks) {
+    let a = records::ready_at(ts);
+    if !walk(t, ts, &t[a..a + LIST_SIZE], 0, 0, 0, &mut marks) {
         return false;
     }
-    if !hubs_right(t, &mut marks) {
+    if !hubs_right(t, ts, &mut marks) {
         return false;
     }
-    tasks_right(t, &marks)
+    tasks_right(t, ts, &marks)
 }

@@ -2,7 +2,7 @@
 use Rattle.clock.proofs.set_ticks.Statement.{statement}
 use Rattle.clock.proofs.set_ticks.Tie as tie
 use Rattle.rules.specs.Lists.{counted}
-use Rattle.rules.specs.Table.{Task, one, setTask, words}
+use Rattle.rules.specs.Table.{Task, setTask, words}
 use borrow.Author.Needs.{needs}
 use mathlib.Core.Path.{_∙_, ap}
 
@@ -17,11 +17,11 @@ same-length c = search needs
 
 returns : tie.Need-returns
 unfolding counted
-returns c = λ s fits used e.
+returns c = λ L s y fits used e.
     let a = c .before .before .before .before .before .before .before .args in
-    let x = c .before .before .before .before .task-at .ensures s fits used e in
-    c .before .before .set-task .ensures s fits used e
-    ∙ ap (λ (y : Task). words one (setTask (a .i .0) (counted (a .n) y) s)) x
+    let x = c .before .before .before .before .task-at .ensures .value L s y fits used e in
+    c .before .before .set-task .ensures L s y fits used e
+    ∙ ap (λ (r : Task). words L (setTask (a .i .0) (counted (a .n) r) s)) x
 
 pub set-ticks-spec : {M : Type 1} → statement M
 set-ticks-spec = tie.close (tie.spec task-at-requires set-task-requires same-length returns)

@@ -2,7 +2,7 @@
 use Rattle.hubtable.proofs.Rows.{counted-get, no-kind}
 use Rattle.hubtable.proofs.on_get.Statement.{statement}
 use Rattle.hubtable.proofs.on_get.Tie as tie
-use Rattle.hubtable.specs.Says.{says}
+use Rattle.hubtable.specs.Says.{Below, says}
 use Rattle.rules.proofs.Valid.{Held}
 use Rattle.rules.specs.HubTable.{onGet}
 use Rattle.rules.specs.Table.{kindOf}
@@ -24,32 +24,41 @@ get-counted-requires c κs = search needs
 
 returns : tie.Need-returns
 unfolding kindOf onGet
-returns c x s T e r held its oldest = rw (ap kindOf (sym (e .kind) ∙ c .before .match .keys1)) (c .get-port .ensures x s e its)
+returns c = ((λ x s T e r held its oldest. rw (ap kindOf (sym (e .kind) ∙ c .before .match .keys1)) (c .get-port .ensures .0 x s e its)), λ b z its oldest. c .get-port .ensures .1 b z its)
 
 returns-2 : tie.Need-returns-2
 unfolding Held kindOf onGet
-returns-2 c x s T e r held its oldest =
-    let fifo = ap kindOf (sym (e .kind) ∙ c .before .match .keys2) in
-    rw fifo (c .get-fifo .ensures x s e (rw fifo at held) its oldest)
+returns-2 c = (
+  (λ x s T e r held its oldest.
+      let fifo = ap kindOf (sym (e .kind) ∙ c .before .match .keys2) in
+      rw fifo (c .get-fifo .ensures .0 x s e (rw fifo at held) its oldest)),
+  c .get-fifo .ensures .1,
+)
 
 returns-3 : tie.Need-returns-3
 unfolding kindOf onGet
-returns-3 c x s T e r held its oldest = rw (ap kindOf (sym (e .kind) ∙ c .before .match .keys3)) (c .get-resource .ensures x e)
+returns-3 c = ((λ x s T e r held its oldest. rw (ap kindOf (sym (e .kind) ∙ c .before .match .keys3)) (c .get-resource .ensures .0 x e)), λ b z its oldest. c .get-resource .ensures .1 b z)
 
 returns-4 : tie.Need-returns-4
-returns-4 c x s T e r held its oldest =
-    c .get-counted .ensures x e
-    ∙ counted-get _ x T _ s (x .kind) (omega arith) (omega arith) r
+returns-4 c = (
+  (λ x s T e r held its oldest.
+      c .get-counted .ensures .0 x e
+      ∙ counted-get _ x T _ s (x .kind) (omega arith) (omega arith) r),
+  λ b z its oldest. c .get-counted .ensures .1 b z,
+)
 
 returns-5 : tie.Need-returns-5
-unfolding kindOf onGet says
-returns-5 c x s T e r held its oldest =
-    let unused : x .kind ≡ 0 = omega arith in
-    rw (ap kindOf unused)
+unfolding Below kindOf onGet says
+returns-5 c = (
+  (λ x s T e r held its oldest.
+      let unused : x .kind ≡ 0 = omega arith in
+      rw (ap kindOf unused)),
+  λ b z its oldest. tt,
+)
 
 returns-6 : tie.Need-returns-6
-unfolding onGet says
-returns-6 c x s T e r held its oldest = rw (no-kind (x .kind) (omega arith))
+unfolding Below onGet says
+returns-6 c = ((λ x s T e r held its oldest. rw (no-kind (x .kind) (omega arith))), λ b z its oldest. tt)
 
 pub on-get-spec : {M : Type 1} → statement M
 on-get-spec =

@@ -2,7 +2,7 @@
 use Rattle.hubtable.proofs.Rows.{counted-put, no-kind}
 use Rattle.hubtable.proofs.on_put.Statement.{statement}
 use Rattle.hubtable.proofs.on_put.Tie as tie
-use Rattle.hubtable.specs.Says.{says}
+use Rattle.hubtable.specs.Says.{Below, says}
 use Rattle.rules.specs.HubTable.{onPut}
 use Rattle.rules.specs.Table.{kindOf}
 use borrow.Author.Needs.{needs}
@@ -23,30 +23,36 @@ put-counted-requires c κs = search needs
 
 returns : tie.Need-returns
 unfolding kindOf onPut
-returns c x T e r = rw (ap kindOf (sym (e .kind) ∙ c .before .match .keys1)) (c .put-port .ensures x e)
+returns c = ((λ x T e r. rw (ap kindOf (sym (e .kind) ∙ c .before .match .keys1)) (c .put-port .ensures .0 x e)), c .put-port .ensures .1)
 
 returns-2 : tie.Need-returns-2
 unfolding kindOf onPut
-returns-2 c x T e r = rw (ap kindOf (sym (e .kind) ∙ c .before .match .keys2)) (c .put-fifo .ensures x e)
+returns-2 c = ((λ x T e r. rw (ap kindOf (sym (e .kind) ∙ c .before .match .keys2)) (c .put-fifo .ensures .0 x e)), c .put-fifo .ensures .1)
 
 returns-3 : tie.Need-returns-3
 unfolding kindOf onPut
-returns-3 c x T e r = rw (ap kindOf (sym (e .kind) ∙ c .before .match .keys3)) (c .put-resource .ensures x e)
+returns-3 c = ((λ x T e r. rw (ap kindOf (sym (e .kind) ∙ c .before .match .keys3)) (c .put-resource .ensures .0 x e)), λ b z w. c .put-resource .ensures .1 b z)
 
 returns-4 : tie.Need-returns-4
-returns-4 c x T e r =
-    c .put-counted .ensures x e
-    ∙ counted-put _ x T _ _ (x .kind) (omega arith) (omega arith) r
+returns-4 c = (
+  (λ x T e r.
+      c .put-counted .ensures .0 x e
+      ∙ counted-put _ x T _ _ (x .kind) (omega arith) (omega arith) r),
+  λ b z w. c .put-counted .ensures .1 b z,
+)
 
 returns-5 : tie.Need-returns-5
-unfolding kindOf onPut says
-returns-5 c x T e r =
-    let unused : x .kind ≡ 0 = omega arith in
-    rw (ap kindOf unused)
+unfolding Below kindOf onPut says
+returns-5 c = (
+  (λ x T e r.
+      let unused : x .kind ≡ 0 = omega arith in
+      rw (ap kindOf unused)),
+  λ b z w. tt,
+)
 
 returns-6 : tie.Need-returns-6
-unfolding onPut says
-returns-6 c x T e r = rw (no-kind (x .kind) (omega arith))
+unfolding Below onPut says
+returns-6 c = ((λ x T e r. rw (no-kind (x .kind) (omega arith))), λ b z w. tt)
 
 pub on-put-spec : {M : Type 1} → statement M
 on-put-spec =

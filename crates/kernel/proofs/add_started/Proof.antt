@@ -4,20 +4,19 @@ use Rattle.kernel.proofs.Laws.{key-is}
 use Rattle.kernel.proofs.add_started.Statement.{statement}
 use Rattle.kernel.proofs.add_started.Tie as tie
 use Rattle.rules.proofs.Changes.{length-addTask}
-use Rattle.rules.proofs.Places.{one-sized, tasks-word}
+use Rattle.rules.proofs.Places.{tasks-word}
 use Rattle.rules.specs.Calls.{addStarted, addTask, start}
-use Rattle.rules.specs.Table.{one}
 use Rattle.rules.specs.WellFormed.{urgency}
 use borrow.Author.Needs.{needs}
 use lib.ListN.{getD, length}
 use mathlib.Core.Path.{_∙_, _≡_, refl}
 use native.Mathlib.Omega.{arith}
 
-slice-read-t6 : tie.Need-slice-read-t6
-slice-read-t6 c = search needs
+slice-read-t7 : tie.Need-slice-read-t7
+slice-read-t7 c = search needs
 
-cast-t7 : tie.Need-cast-t7
-cast-t7 c = search needs
+cast-t8 : tie.Need-cast-t8
+cast-t8 c = search needs
 
 add-task-requires : tie.Need-add-task-requires
 add-task-requires c κs = search needs
@@ -39,26 +38,26 @@ same-length c = search needs
 
 returns : tie.Need-returns
 unfolding addStarted start
-returns c = λ s room e.
+returns c = λ L s y room e.
     let a = c .before .before .before .before .before .before .before .before .before .before .before .before .before .before .before .before .before .args in
     let n = getD (a .t .now) 1 0 in
     let s′ = addTask (a .priority) s in
-    let many : n ≡ length (s .tasks) = rw e (tasks-word one s) in
+    let many : n ≡ length (s .tasks) = rw e (tasks-word L s) in
     let grown = length-addTask (a .priority) s in
     let fits : length (s′ .tasks) ≤ 16 = omega (arith, grown) in
     let used : n < length (s′ .tasks) = omega (arith, grown, many) in
-    let added = c .before .before .before .before .before .before .before .before .before .before .before .before .before .add-task .ensures s room e in
-    let key = key-is (c .before .before .before .before .before .before .before .before .before .keys .result) (urgency s′) (c .before .before .before .before .before .before .before .before .before .keys .ensures s′ fits added) in
-    let made = c .before .before .before .before .before .before .before .make-ready .ensures s′ fits used added in
-    c .before .before .join-ready .ensures .table one _ one-sized refl made
+    let added = c .before .before .before .before .before .before .before .before .before .before .before .before .before .add-task .ensures L s y room e in
+    let key = key-is (c .before .before .before .before .before .before .before .before .before .keys .result) (urgency s′) (c .before .before .before .before .before .before .before .before .before .keys .ensures L s′ y fits added) in
+    let made = c .before .before .before .before .before .before .before .make-ready .ensures L s′ y fits used added in
+    c .before .before .join-ready .ensures .table L _ y made
     ∙ rw (key, many) refl
 
 pub add-started-spec : {M : Type 1} → statement M
 add-started-spec =
     tie.close
     (tie.spec
-    slice-read-t6
-    cast-t7
+    slice-read-t7
+    cast-t8
     add-task-requires
     keys-requires
     make-ready-requires

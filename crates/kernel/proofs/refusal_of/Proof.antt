@@ -2,38 +2,50 @@
 use Rattle.kernel.proofs.Laws.{blank-0, refused-1, refused-2, refused-by-service}
 use Rattle.kernel.proofs.refusal_of.Statement.{statement}
 use Rattle.kernel.proofs.refusal_of.Tie as tie
-use Rattle.rules.proofs.After.{read-valid, well-formed-words}
+use Rattle.rules.proofs.After.{valid-in, words-in}
+use Rattle.rules.proofs.Layouts.{store-place}
 use Rattle.rules.proofs.Room.{valid-room}
-use Rattle.rules.specs.Table.{one, read}
+use Rattle.rules.specs.Table.{read}
 use borrow.Author.Needs.{needs}
 use borrow.Author.Tests.{not-false, not-true}
 use mathlib.Core.Path.{_∙_, sym}
+use native.Mathlib.Omega.{arith}
+
+table-size-requires : tie.Need-table-size-requires
+table-size-requires c κs = search needs
 
 returns : tie.Need-returns
-returns c = refused-1 _ _ (c .if1 .taken)
+returns c = λ L y. refused-1 L _ _ (λ e. c .if1 .taken (e ∙ sym ((c .before .table-size .ensures ∙ store-place y 16))))
 
 returns-2 : tie.Need-returns-2
-returns-2 c = blank-0 _ _ (c .before .before .if1 .left) (c .if2 .taken)
+returns-2 c = λ L y. blank-0 L _ _ (c .before .before .if1 .left ∙ (c .before .before .before .table-size .ensures ∙ store-place y 16)) (c .if2 .taken)
 
 well-formed-requires : tie.Need-well-formed-requires
 well-formed-requires c κs = search needs
 
 returns-3 : tie.Need-returns-3
-returns-3 c =
-    refused-2 _ _ (c .before .before .before .before .if1 .left) (c .before .before .if2 .left) (sym (c .before .well-formed .ensures) ∙ not-true _ (c .if3 .taken))
+returns-3 c = λ L y.
+    refused-2 L _ _ (c .before .before .before .before .if1 .left ∙ (c .before .before .before .before .before .table-size .ensures ∙ store-place y 16)) (c .before .before .if2 .left) (sym (c .before .well-formed .ensures L y) ∙ not-true _ (c .if3 .taken))
 
 for-service-requires : tie.Need-for-service-requires
 for-service-requires c κs = search needs
 
 returns-4 : tie.Need-returns-4
-returns-4 c =
-    let t = c .before .before .before .before .before .before .before .args .t .now in
-    let w = sym (c .before .before .well-formed .ensures) ∙ not-false _ (c .before .if3 .left) in
-    let g = read-valid t w in
-    c .for-service .ensures (read one t) g (valid-room (read one t) g) (well-formed-words t w)
-    ∙ refused-by-service _ _ (c .before .before .before .before .before .if1 .left) (c .before .before .before .if2 .left) w
+returns-4 c = λ L y.
+    let t = c .before .before .before .before .before .before .before .before .args .t .now in
+    let w = sym (c .before .before .well-formed .ensures L y) ∙ not-false _ (c .before .if3 .left) in
+    let g = valid-in L t w in
+    c .for-service .ensures L (read L t) y g (valid-room (read L t) g) (words-in L t w y (λ k. omega (arith, c .before .before .before .before .before .before .before .shared-slice-known .given k)))
+    ∙ refused-by-service L _ _ (c .before .before .before .before .before .if1 .left ∙ (c .before .before .before .before .before .before .table-size .ensures ∙ store-place y 16)) (c .before .before .before .if2 .left) w
 
 pub refusal-of-spec : {M : Type 1} → statement M
 refusal-of-spec =
     tie.close
-    (tie.spec returns returns-2 well-formed-requires returns-3 for-service-requires returns-4)
+    (tie.spec
+    table-size-requires
+    returns
+    returns-2
+    well-formed-requires
+    returns-3
+    for-service-requires
+    returns-4)

@@ -19,24 +19,24 @@ same-length c = search needs
 
 returns : tie.Need-returns
 unfolding serviceOf
-returns c = λ s g a p q e.
+returns c = λ L s y g a p q e.
     let k = c .before .before .before .before .before .before .before .before .args .c in
     let v = service-is k 6 (c .before .before .before .before .if1 .taken) in
-    c .before .before .yield-turn .ensures s (valid-sound s g) (caller-in s g k a (omega arith) (omega arith)) e
-    ∙ to-service s k Yield v (keyOf (c .before .before .before .before .before .before .before .before .args .keys .now))
+    c .before .before .yield-turn .ensures L s y (valid-sound s g) (caller-in s g k a (omega arith) (omega arith)) e
+    ∙ to-service s k Yield v L (keyOf (c .before .before .before .before .before .before .before .before .args .keys .now))
 
 same-length-2 : tie.Need-same-length-2
 same-length-2 c = search needs
 
 returns-2 : tie.Need-returns-2
 unfolding serviceOf
-returns-2 c = λ s g a p q e.
+returns-2 c = λ L s y g a p q e.
     let k = c .before .before .before .before .before .before .before .before .args .c in
     let key = keyOf (c .before .before .before .before .before .before .before .before .args .keys .now) in
     let seven : k .service ≡ 7 = omega (arith, p, q, c .before .before .before .before .if1 .left) in
     let v = service-is k 7 seven in
-    c .before .before .sleep-task .ensures key s (valid-sound s g) (caller-in s g k a (omega arith) (omega arith)) e
-    ∙ to-service s k Sleep v key
+    c .before .before .sleep-task .ensures L key s y (valid-sound s g) (caller-in s g k a (omega arith) (omega arith)) e
+    ∙ to-service s k Sleep v L key
 
 pub serve-caller-spec : {M : Type 1} → statement M
 serve-caller-spec =

@@ -30,66 +30,66 @@ same-length c = search needs
 
 returns : tie.Need-returns
 unfolding refusalFor serviceOf
-returns c = λ s g a p q e.
+returns c = λ L s y g a p q e.
     let k = c .before .before .before .before .before .before .before .args .c in
     let key = keyOf (c .before .before .before .before .before .before .before .args .keys .now) in
     let v = service-is k 1 (c .before .before .before .before .match .keys1) in
-    c .before .before .request .ensures s g (task-named s g k a HubRequest v) e
-    ∙ to-service s k HubRequest v key
+    c .before .before .request .ensures L s y g (task-named s g k a HubRequest v) e
+    ∙ to-service s k HubRequest v L key
 
 same-length-2 : tie.Need-same-length-2
 same-length-2 c = search needs
 
 returns-2 : tie.Need-returns-2
 unfolding refusalFor serviceOf
-returns-2 c = λ s g a p q e.
+returns-2 c = λ L s y g a p q e.
     let k = c .before .before .before .before .before .before .before .args .c in
     let key = keyOf (c .before .before .before .before .before .before .before .args .keys .now) in
     let v = service-is k 2 (c .before .before .before .before .match .keys2) in
     let ok = on-task s (g .listed) k (task-named s g k a Start v) in
-    c .before .before .start-task .ensures s (valid-sound s g) (caller-in s g k a p (omega arith)) (ok .1) e
-    ∙ to-service s k Start v key
+    c .before .before .start-task .ensures L s y (valid-sound s g) (caller-in s g k a p (omega arith)) (ok .1) e
+    ∙ to-service s k Start v L key
 
 same-length-3 : tie.Need-same-length-3
 same-length-3 c = search needs
 
 returns-3 : tie.Need-returns-3
 unfolding refusalFor serviceOf
-returns-3 c = λ s g a p q e.
+returns-3 c = λ L s y g a p q e.
     let k = c .before .before .before .before .before .before .before .args .c in
     let key = keyOf (c .before .before .before .before .before .before .before .args .keys .now) in
     let v = service-is k 3 (c .before .before .before .before .match .keys3) in
     let ok = on-task s (g .listed) k (task-named s g k a Stop v) in
-    c .before .before .stop-task .ensures key s (valid-sound s g) (caller-in s g k a p (omega arith)) (ok .1) e
-    ∙ to-service s k Stop v key
+    c .before .before .stop-task .ensures L key s y (valid-sound s g) (caller-in s g k a p (omega arith)) (ok .1) e
+    ∙ to-service s k Stop v L key
 
 same-length-4 : tie.Need-same-length-4
 same-length-4 c = search needs
 
 returns-4 : tie.Need-returns-4
 unfolding refusalFor serviceOf
-returns-4 c = λ s g a p q e.
+returns-4 c = λ L s y g a p q e.
     let k = c .before .before .before .before .before .before .before .args .c in
     let key = keyOf (c .before .before .before .before .before .before .before .args .keys .now) in
     let v = service-is k 4 (c .before .before .before .before .match .keys4) in
     let ok = on-task s (g .listed) k (task-named s g k a Suspend v) in
-    c .before .before .suspend-task .ensures key s (valid-sound s g) (caller-in s g k a p (omega arith)) (ok .1) e
-    ∙ to-service s k Suspend v key
+    c .before .before .suspend-task .ensures L key s y (valid-sound s g) (caller-in s g k a p (omega arith)) (ok .1) e
+    ∙ to-service s k Suspend v L key
 
 same-length-5 : tie.Need-same-length-5
 same-length-5 c = search needs
 
 returns-5 : tie.Need-returns-5
 unfolding refusalFor serviceOf
-returns-5 c = λ s g a p q e.
+returns-5 c = λ L s y g a p q e.
     let k = c .before .before .before .before .before .before .before .args .c in
     let key = keyOf (c .before .before .before .before .before .before .before .args .keys .now) in
     let r = c .before .before .before .before .match .rest in
     let five : k .service ≡ 5 = omega (arith, p, q, r .0 .0 .0 .1, r .0 .0 .1, r .0 .1, r .1) in
     let v = service-is k 5 five in
     let ok = on-task s (g .listed) k (task-named s g k a Resume v) in
-    c .before .before .resume-task .ensures key s (valid-sound s g) (caller-in s g k a p (omega arith)) (ok .1) e
-    ∙ to-service s k Resume v key
+    c .before .before .resume-task .ensures L key s y (valid-sound s g) (caller-in s g k a p (omega arith)) (ok .1) e
+    ∙ to-service s k Resume v L key
 
 pub serve-target-spec : {M : Type 1} → statement M
 serve-target-spec =

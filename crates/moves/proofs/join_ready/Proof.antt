@@ -39,8 +39,8 @@ returns c =
     let many : n ≡ 16 = omega arith in
     let joined = c .before .before .join .ensures in
     record {
-      table = λ L s z size e. Laws.join-ready L s z (a .t .now) _ (r .result) n many e (omega (arith, r .ensures, size)) (a .keys .now) (a .i .0) (joined .list);
-      place = λ L s z size fits e. joined .place ∙ Laws.place-ready L s z (a .t .now) (a .t .now) (r .result) n many e (omega (arith, r .ensures, size)) (a .keys .now) _ fits;
+      table = λ L s y e. Laws.join-ready L s y (a .t .now) _ (r .result) n many e (omega (arith, r .ensures, y .size)) (a .keys .now) (a .i .0) (joined .list);
+      place = λ L s y fits e. joined .place ∙ Laws.place-ready L s y (a .t .now) (a .t .now) (r .result) n many e (omega (arith, r .ensures, y .size)) (a .keys .now) _ fits;
     }
 
 pub join-ready-spec : {M : Type 1} → statement M

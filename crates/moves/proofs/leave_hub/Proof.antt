@@ -32,12 +32,12 @@ same-length : tie.Need-same-length
 same-length c = search needs
 
 returns : tie.Need-returns
-returns c = λ L s z size used room once e.
+returns c = λ L s y used room once e.
     let a = c .before .before .before .before .before .before .args in
     let r = c .before .before .before .before .waits-at in
     let n : ℕ = r .result + 16 - r .result in
     let many : n ≡ 16 = omega arith in
-    Laws.leave-hub L s z (a .t .now) _ (r .result) n many e (a .h .0) (omega arith) used (omega (arith, r .ensures, size)) (a .i .0) room once (c .before .before .leave .ensures)
+    Laws.leave-hub L s y (a .t .now) _ (r .result) n many e (a .h .0) (omega arith) used (omega (arith, r .ensures, y .size)) (a .i .0) room once (c .before .before .leave .ensures)
 
 pub leave-hub-spec : {M : Type 1} → statement M
 leave-hub-spec =

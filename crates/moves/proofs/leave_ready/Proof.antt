@@ -32,12 +32,12 @@ same-length : tie.Need-same-length
 same-length c = search needs
 
 returns : tie.Need-returns
-returns c = λ L s z size room once e.
+returns c = λ L s y room once e.
     let a = c .before .before .before .before .before .before .args in
     let r = c .before .before .before .before .ready-at in
     let n : ℕ = r .result + 16 - r .result in
     let many : n ≡ 16 = omega arith in
-    Laws.leave-ready L s z (a .t .now) _ (r .result) n many e (omega (arith, r .ensures, size)) (a .i .0) room once (c .before .before .leave .ensures)
+    Laws.leave-ready L s y (a .t .now) _ (r .result) n many e (omega (arith, r .ensures, y .size)) (a .i .0) room once (c .before .before .leave .ensures)
 
 pub leave-ready-spec : {M : Type 1} → statement M
 leave-ready-spec =

@@ -10,8 +10,12 @@ task-requires : tie.Need-task-requires
 task-requires c κs = search needs
 
 returns : tie.Need-returns
-returns c = λ s fits used e.
-    ap taskOf (c .task .ensures) ∙ rw e (record-read s fits _ used)
+returns c =
+    let q = c .before .before .pre .0 in
+    record {
+      low = c .task .ensures .low;
+      value = λ L s y fits used e. ap taskOf (c .task .ensures .value) ∙ rw e (record-read L s y fits _ used (q .high) (q .low));
+    }
 
 pub task-at-spec : {M : Type 1} → statement M
 task-at-spec = tie.close (tie.spec task-requires returns)

@@ -1,11 +1,9 @@
 -- `moves::wake_task` meets its contract. Assumes nothing.
 use Rattle.moves.proofs.wake_task.Statement.{statement}
 use Rattle.moves.proofs.wake_task.Tie as tie
-use Rattle.rules.proofs.Places.{one-sized}
 use Rattle.rules.specs.Lists.{leave, wake}
-use Rattle.rules.specs.Table.{one, setTask}
+use Rattle.rules.specs.Table.{setTask}
 use borrow.Author.Needs.{needs}
-use mathlib.Core.Path.{refl}
 
 leave-list-requires : tie.Need-leave-list-requires
 leave-list-requires c κs = search needs
@@ -21,11 +19,11 @@ same-length c = search needs
 
 returns : tie.Need-returns
 unfolding leave setTask wake
-returns c = λ s sound used e.
+returns c = λ L s y sound used e.
     let i = c .before .before .before .before .before .before .before .before .before .before .before .before .before .before .args .i .0 in
-    let left = c .before .before .before .before .before .before .before .before .before .before .leave-list .ensures s sound used e in
-    let made = c .before .before .before .before .before .before .make-ready .ensures (leave i s) (sound .tasks) used left in
-    c .before .before .join-ready .ensures .table one _ one-sized refl made
+    let left = c .before .before .before .before .before .before .before .before .before .before .leave-list .ensures L s y sound used e in
+    let made = c .before .before .before .before .before .before .make-ready .ensures L (leave i s) y (sound .tasks) used left in
+    c .before .before .join-ready .ensures .table L _ y made
 
 pub wake-task-spec : {M : Type 1} → statement M
 wake-task-spec =

@@ -6,7 +6,6 @@ use Rattle.refusals.proofs.for_caller.Tie as tie
 use Rattle.rules.proofs.Places.{hubs-word, tasks-word}
 use Rattle.rules.specs.Calls.{serviceOf}
 use Rattle.rules.specs.Refusals.{byRunning, need, onTask, refusal, refusalFor}
-use Rattle.rules.specs.Table.{one}
 use borrow.Author.Needs.{needs}
 use borrow.Author.Tests.{not-false, not-true}
 use mathlib.Core.Path.{_∙_, sym}
@@ -17,9 +16,9 @@ is-running-requires c κs = search needs
 
 returns : tie.Need-returns
 unfolding byRunning need refusal
-returns c low high s room listed e =
+returns c low high L s y room listed e =
     let r = c .before .is-running in
-    sym (asks-running s _ _ low high .1 ∙ rw (← r .ensures s room listed e, not-true (r .result) (c .if1 .taken)))
+    sym (asks-running s _ _ low high .1 ∙ rw (← r .ensures L s y room listed e, not-true (r .result) (c .if1 .taken)))
 
 for-request-requires : tie.Need-for-request-requires
 for-request-requires c κs = search needs
@@ -32,45 +31,45 @@ for-task-requires c κs = search needs
 
 returns-2 : tie.Need-returns-2
 unfolding byRunning need refusal refusalFor serviceOf
-returns-2 c low high s room listed e =
+returns-2 c low high L s y room listed e =
     let b = c .before .before in
     let r = b .before .is-running in
     rw (
       c .before .match .keys1,
-      ← r .ensures s room listed e,
+      ← r .ensures L s y room listed e,
       not-false (r .result) (b .if1 .left),
       c .for-request .ensures,
       e,
-      hubs-word one s,
+      hubs-word L s,
     )
 
 returns-3 : tie.Need-returns-3
 unfolding byRunning need refusal refusalFor serviceOf
-returns-3 c low high s room listed e =
+returns-3 c low high L s y room listed e =
     let b = c .before in
     let r = b .before .is-running in
-    rw (c .match .keys2, ← r .ensures s room listed e, not-false (r .result) (b .if1 .left))
+    rw (c .match .keys2, ← r .ensures L s y room listed e, not-false (r .result) (b .if1 .left))
 
 returns-4 : tie.Need-returns-4
 unfolding byRunning need refusal refusalFor serviceOf
-returns-4 c low high s room listed e =
+returns-4 c low high L s y room listed e =
     let b = c .before .before in
     let r = b .before .is-running in
-    rw (c .before .match .keys3, ← r .ensures s room listed e, not-false (r .result) (b .if1 .left), c .for-sleep .ensures)
+    rw (c .before .match .keys3, ← r .ensures L s y room listed e, not-false (r .result) (b .if1 .left), c .for-sleep .ensures)
 
 returns-5 : tie.Need-returns-5
 unfolding byRunning need onTask refusal
-returns-5 c low high s room listed e =
+returns-5 c low high L s y room listed e =
     let b = c .before .before in
     let r = b .before .is-running in
     let n = c .before .match .rest in
     rw (
       asks-task s (b .before .before .before .args .c) (b .before .before .before .args .c .service) (omega (arith, n .0 .0 .1)) (omega (arith, n .0 .1, n .1)),
-      ← r .ensures s room listed e,
+      ← r .ensures L s y room listed e,
       not-false (r .result) (b .if1 .left),
       c .for-task .ensures,
       e,
-      tasks-word one s,
+      tasks-word L s,
     )
 
 pub for-caller-spec : {M : Type 1} → statement M

@@ -14,7 +14,7 @@ add-result : tie.Need-add-result
 add-result c = search needs
 
 returns : tie.Need-returns
-returns c s room listed e = rw (c .running .ensures s room listed e, add-one)
+returns c L s y room listed e = rw (c .running .ensures L s y room listed e, add-one)
 
 pub is-running-spec : {M : Type 1} → statement M
 is-running-spec = tie.close (tie.spec running-requires cast-result add-result returns)

@@ -7,7 +7,7 @@ task-requires : tie.Need-task-requires
 task-requires c κs = search needs
 
 returns : tie.Need-returns
-returns c = rw (c .before .task .ensures)
+returns c = rw (c .before .task .ensures .value)
 
 pub is-suspended-spec : {M : Type 1} → statement M
 is-suspended-spec = tie.close (tie.spec task-requires returns)

@@ -1,6 +1,6 @@
 -- `requests::change_store` meets its contract. Assumes nothing.
-use Rattle.hubtable.specs.Says.{storeAfter}
-use Rattle.requests.proofs.Stores.{after-told, as-held, fits-told, taken, taken-grown, taken-many, taken-used}
+use Rattle.hubtable.specs.Says.{StoreBelow, storeAfter}
+use Rattle.requests.proofs.Stores.{after-told, as-held, below-told, fits-told, taken, taken-grown, taken-many, taken-used}
 use Rattle.requests.proofs.change_store.Statement.{statement}
 use Rattle.requests.proofs.change_store.Tie as tie
 use Rattle.requests.specs.Requests.{StoreFits}
@@ -15,7 +15,8 @@ enum-known-store : tie.Need-enum-known-store
 enum-known-store c = search needs
 
 append-word-requires : tie.Need-append-word-requires
-append-word-requires c κs = search needs
+unfolding StoreBelow
+append-word-requires c κs = (search needs, (search needs, below-told (c .before .before .store .given .1) _ (c .before .before .before .before .before .pre .1 .1)))
 
 enum-told-2 : tie.Need-enum-told-2
 enum-told-2 c = search needs
@@ -33,45 +34,46 @@ less-one-requires : tie.Need-less-one-requires
 less-one-requires c κs = search needs
 
 append-word-requires-2 : tie.Need-append-word-requires-2
-append-word-requires-2 c κs = search needs
+unfolding StoreBelow
+append-word-requires-2 c κs = (search needs, (search needs, below-told (c .before .before .before .before .before .before .before .store2 .given .1) _ (c .before .before .before .before .before .before .before .before .before .before .pre .1 .1)))
 
 returns : tie.Need-returns
 unfolding storeAfter
-returns c = λ s used fits e. e ∙ as-held s _ ∙ after-told (c .enum-told .given .1) s _
+returns c = λ L s y used fits e. e ∙ as-held L s _ ∙ after-told (c .enum-told .given .1) L s _
 
 same-length : tie.Need-same-length
 same-length c = search needs
 
 returns-2 : tie.Need-returns-2
 unfolding StoreFits storeAfter
-returns-2 c = λ s used fits e.
+returns-2 c = λ L s y used fits e.
     let told = c .before .before .before .before .before .store .given .1 in
     let f = fits-told told _ _ fits in
-    c .before .before .append-word .ensures s used (f .0) (f .1) e ∙ after-told told s _
+    c .before .before .append-word .ensures L s y used (f .0) (f .1) e ∙ after-told told L s _
 
 same-length-2 : tie.Need-same-length-2
 same-length-2 c = search needs
 
 returns-3 : tie.Need-returns-3
 unfolding StoreFits storeAfter
-returns-3 c = λ s used fits e.
+returns-3 c = λ L s y used fits e.
     let told = c .before .before .before .before .enum-told2 .given .1 in
-    c .before .before .take-oldest .ensures s used (fits-told told _ _ fits) e ∙ after-told told s _
+    c .before .before .take-oldest .ensures L s y used (fits-told told _ _ fits) e ∙ after-told told L s _
 
 same-length-3 : tie.Need-same-length-3
 same-length-3 c = search needs
 
 returns-4 : tie.Need-returns-4
 unfolding StoreFits storeAfter
-returns-4 c = λ s used fits e.
+returns-4 c = λ L s y used fits e.
     let told = c .before .before .before .before .before .before .before .before .before .before .store2 .given .1 in
     let h = c .before .before .before .before .before .before .before .before .before .before .before .before .before .args .h .0 in
-    let low = c .before .before .before .before .before .before .before .before .before .before .before .before .before .pre .0 in
+    let low = c .before .before .before .before .before .before .before .before .before .before .before .before .before .pre .1 .0 in
     let f = fits-told told _ _ fits in
-    let gone = c .before .before .before .before .before .before .before .take-oldest2 .ensures s used (f .1) e in
+    let gone = c .before .before .before .before .before .before .before .take-oldest2 .ensures L s y used (f .1) e in
     let many = c .before .before .before .less-one .ensures ∙ taken-many s h low used _ (f .0) in
-    c .before .before .append-word2 .ensures (taken s h low used) (taken-used s h low used) many (omega (arith, f .0, f .1, c .before .before .before .less-one .ensures)) gone
-    ∙ taken-grown s h low used _ ∙ after-told told s h
+    c .before .before .append-word2 .ensures L (taken s h low used) y (taken-used s h low used) many (omega (arith, f .0, f .1, c .before .before .before .less-one .ensures)) gone
+    ∙ taken-grown s h low used L _ ∙ after-told told L s h
 
 pub change-store-spec : {M : Type 1} → statement M
 change-store-spec =

@@ -1,4 +1,4 @@
--- `requests::first_waiter` meets its contract. Assumes nothing.
+-- `requests::first_waiter` meets its contract: one list holds one side only, so its first entry tells. Assumes nothing.
 use Rattle.hubtable.specs.Says.{first}
 use Rattle.lists.specs.Lists.{entries}
 use Rattle.requests.proofs.Laws.{entry-first, entry-read, entry-stands, no-entry, nobody, waiter-in}
@@ -10,23 +10,21 @@ use borrow.Author.Needs.{needs}
 use lib.ListN.{getD}
 use mathlib.Core.Path.{_∙_, _≡_, ap, sym}
 
-mul-word : tie.Need-mul-word
-mul-word c = search needs
-
-add-word : tie.Need-add-word
-add-word c = search needs
+waits-at-requires : tie.Need-waits-at-requires
+waits-at-requires c κs = search needs
 
 word-requires : tie.Need-word-requires
 word-requires c κs = search needs
 
 returns : tie.Need-returns
 unfolding first
-returns c = λ s g used e.
-    let q : getD (entries 16 (hub s _ .waiters)) 0 0 ≡ 0 = sym (rw e at (c .before .word .ensures) ∙ entry-read s (g .hubs) _ used) ∙ c .if1 .taken in
+returns c = λ L s y g used e.
+    let read = rw (e, c .before .before .waits-at .ensures) at (c .before .word .ensures) ∙ entry-read L s y (g .hubs) _ used in
+    let q : getD (entries 16 (hub s _ .waiters)) 0 0 ≡ 0 = sym read ∙ c .if1 .taken in
     sym (no-entry s _ (hub s _ .waiters) q)
 
-sub-t10 : tie.Need-sub-t10
-sub-t10 c = search needs
+sub-t9 : tie.Need-sub-t9
+sub-t9 c = search needs
 
 cast-t7 : tie.Need-cast-t7
 cast-t7 c = search needs
@@ -35,34 +33,33 @@ task-at-requires : tie.Need-task-at-requires
 task-at-requires c κs = search needs
 
 returns-2 : tie.Need-returns-2
-returns-2 c = λ s g used e.
-    let read = rw e at (c .before .before .before .before .word .ensures) ∙ entry-read s (g .hubs) _ used in
+returns-2 c = λ L s y g used e.
+    let read = rw (e, c .before .before .before .before .before .waits-at .ensures) at (c .before .before .before .before .word .ensures) ∙ entry-read L s y (g .hubs) _ used in
     let some-e = c .before .before .before .if1 .left in
-    let d = c .before .before .before .before .before .before .args .side in
+    let d = c .before .before .before .before .before .before .before .args .side in
     let stands = entry-stands s d (hub s _ .waiters) _ read some-e in
-    let x = c .before .before .task-at .ensures s (g .tasks) (waiter-in s (g .listed) _ _ stands) e in
+    let x = c .before .before .task-at .ensures .value L s y (g .tasks) (waiter-in s (g .listed) _ _ stands) e in
     sym (entry-first s d (hub s _ .waiters) _ read some-e (sym (ap (λ (r : Task). r .side) x) ∙ c .if2 .taken))
 
 returns-3 : tie.Need-returns-3
 unfolding first
-returns-3 c = λ s g used e.
-    let read = rw e at (c .before .before .before .before .word .ensures) ∙ entry-read s (g .hubs) _ used in
+returns-3 c = λ L s y g used e.
+    let read = rw (e, c .before .before .before .before .before .waits-at .ensures) at (c .before .before .before .before .word .ensures) ∙ entry-read L s y (g .hubs) _ used in
     let some-e = c .before .before .before .if1 .left in
-    let d = c .before .before .before .before .before .before .args .side in
-    let h = c .before .before .before .before .before .before .args .h .0 in
+    let d = c .before .before .before .before .before .before .before .args .side in
+    let h = c .before .before .before .before .before .before .before .args .h .0 in
     let stands = entry-stands s d (hub s h .waiters) _ read some-e in
-    let x = c .before .before .task-at .ensures s (g .tasks) (waiter-in s (g .listed) _ _ stands) e in
+    let x = c .before .before .task-at .ensures .value L s y (g .tasks) (waiter-in s (g .listed) _ _ stands) e in
     sym (nobody s d (hub s h .waiters) (λ i o w. c .if2 .left (ap (λ (r : Task). r .side) x ∙ g .waits .oneSide h _ i (listed-waiting s (g .listed) h _ stands) (listed-waiting s (g .listed) h i o) ∙ w)))
 
 pub first-waiter-spec : {M : Type 1} → statement M
 first-waiter-spec =
     tie.close
     (tie.spec
-    mul-word
-    add-word
+    waits-at-requires
     word-requires
     returns
-    sub-t10
+    sub-t9
     cast-t7
     task-at-requires
     returns-2

@@ -4,12 +4,14 @@ use Rattle.requests.proofs.hub_at.Statement.{statement}
 use Rattle.requests.proofs.hub_at.Tie as tie
 use borrow.Author.Needs.{needs}
 
+hubs-at-requires : tie.Need-hubs-at-requires
+hubs-at-requires c κs = search needs
+
 hub-requires : tie.Need-hub-requires
 hub-requires c κs = search needs
 
 returns : tie.Need-returns
-returns c = λ s fits used e.
-    rw (c .hub .ensures, e) (hub-read s fits _ used)
+returns c = λ L s y fits used e. rw (c .hub .ensures, c .before .hubs-at .ensures, e) (hub-read L s y fits _ used)
 
 pub hub-at-spec : {M : Type 1} → statement M
-hub-at-spec = tie.close (tie.spec hub-requires returns)
+hub-at-spec = tie.close (tie.spec hubs-at-requires hub-requires returns)

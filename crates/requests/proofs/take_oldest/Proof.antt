@@ -1,5 +1,6 @@
 -- `requests::take_oldest` meets its contract. Assumes nothing.
-use Prim.Native.Nat.{_*_, _+_, _-_, ℕ}
+use Prim.Native.Nat.{_+_, _-_, ℕ}
+use Rattle.records.specs.Records.{storeSize}
 use Rattle.requests.proofs.Stores.{store-taken}
 use Rattle.requests.proofs.take_oldest.Statement.{statement}
 use Rattle.requests.proofs.take_oldest.Tie as tie
@@ -7,51 +8,58 @@ use borrow.Author.Needs.{needs}
 use mathlib.Core.Path.{_≡_}
 use native.Mathlib.Omega.{arith}
 
-mul-a : tie.Need-mul-a
-mul-a c = search needs
+store-at-requires : tie.Need-store-at-requires
+store-at-requires c κs = search needs
 
-add-a : tie.Need-add-a
-add-a c = search needs
+store-size-requires : tie.Need-store-size-requires
+store-size-requires c κs = search needs
 
-add-remove-at : tie.Need-add-remove-at
-add-remove-at c = search needs
+add-remove-first : tie.Need-add-remove-first
+add-remove-first c = search needs
 
-mul-remove-at : tie.Need-mul-remove-at
-mul-remove-at c = search needs
+mul-remove-first : tie.Need-mul-remove-first
+mul-remove-first c = search needs
 
-sub-remove-at : tie.Need-sub-remove-at
-sub-remove-at c = search needs
+sub-remove-first : tie.Need-sub-remove-first
+sub-remove-first c = search needs
 
-part-remove-at-start : tie.Need-part-remove-at-start
-part-remove-at-start c = search needs
+part-remove-first-start : tie.Need-part-remove-first-start
+part-remove-first-start c = search needs
 
-part-remove-at-end : tie.Need-part-remove-at-end
-part-remove-at-end c = search needs
+part-remove-first-end : tie.Need-part-remove-first-end
+part-remove-first-end c = search needs
 
-remove-at-requires : tie.Need-remove-at-requires
-remove-at-requires c κs = search needs
+width-of-requires : tie.Need-width-of-requires
+width-of-requires c κs = search needs
+
+remove-first-requires : tie.Need-remove-first-requires
+remove-first-requires c κs = search needs
 
 same-length : tie.Need-same-length
 same-length c = search needs
 
 returns : tie.Need-returns
-returns c = λ s used room e.
-    let a = c .before .before .before .before .before .args in
-    let n : ℕ = 472 + a .h .0 * 8 + 8 - (472 + a .h .0 * 8) in
-    let many : n ≡ 8 = omega arith in
-    store-taken s (a .h .0) (omega arith) used (a .t .now) _ n many e room (c .before .before .remove-at .ensures)
+returns c = λ L s y used room e.
+    let a = c .before .before .before .before .before .before .before .before .args in
+    let p = c .before .before .before .before .before .before .before .before .pre in
+    let at = c .before .before .before .before .before .before .store-at .result in
+    let n : ℕ = at + c .before .before .before .before .before .store-size .result - at in
+    let many : n ≡ storeSize (a .ts) = omega (arith, c .before .before .before .before .before .store-size .ensures) in
+    store-taken y (p .0 .low) (p .0 .high) s (a .h .0) (p .1) used (a .t .now) e at (c .before .before .before .before .before .before .store-at .ensures .place) _ n many room
+    (rw (c .before .before .before .width-of .ensures) at (c .before .before .remove-first .ensures))
 
 pub take-oldest-spec : {M : Type 1} → statement M
 take-oldest-spec =
     tie.close
     (tie.spec
-    mul-a
-    add-a
-    add-remove-at
-    mul-remove-at
-    sub-remove-at
-    part-remove-at-start
-    part-remove-at-end
-    remove-at-requires
+    store-at-requires
+    store-size-requires
+    add-remove-first
+    mul-remove-first
+    sub-remove-first
+    part-remove-first-start
+    part-remove-first-end
+    width-of-requires
+    remove-first-requires
     same-length
     returns)

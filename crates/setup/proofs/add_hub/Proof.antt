@@ -1,9 +1,9 @@
 -- `setup::add_hub` meets its contract: one more record behind those in use, and their number. Assumes nothing.
 use Prim.Native.Nat.{ℕ}
-use Rattle.lists.proofs.Padding.{padded-none}
 use Rattle.records.specs.Records.{hubWords}
-use Rattle.rules.proofs.Places.{add-hub, hubs-word, one-sized}
-use Rattle.rules.specs.Table.{one}
+use Rattle.rules.proofs.Layouts.{sized}
+use Rattle.rules.proofs.Places.{add-hub, hubs-word}
+use Rattle.rules.proofs.Rows.{rows-none}
 use Rattle.setup.proofs.add_hub.Statement.{statement}
 use Rattle.setup.proofs.add_hub.Tie as tie
 use borrow.Author.Needs.{needs}
@@ -17,6 +17,9 @@ slice-read-n c = search needs
 
 cast-n : tie.Need-cast-n
 cast-n c = search needs
+
+hubs-at-requires : tie.Need-hubs-at-requires
+hubs-at-requires c κs = search needs
 
 set-hub-requires : tie.Need-set-hub-requires
 set-hub-requires c κs = search needs
@@ -35,11 +38,13 @@ same-length c = search needs
 
 returns : tie.Need-returns
 unfolding hubWords
-returns c s h e =
-    let number = ap (λ (l : List ℕ). getD l 2 0) e ∙ hubs-word one s in
-    rw (c .before .before .set-hub .ensures, number, e, add-one) (add-hub one one-sized s (padded-none 8) _ refl refl h)
+returns c L s y h e =
+    let number = ap (λ (l : List ℕ). getD l 2 0) e ∙ hubs-word L s in
+    rw
+    (c .before .before .set-hub .ensures, c .before .before .before .hubs-at .ensures, number, e, add-one, y .size)
+    (add-hub L (sized y) s (rows-none (L .width) (L .message) 8) _ refl refl h)
 
 pub add-hub-spec : {M : Type 1} → statement M
 add-hub-spec =
     tie.close
-    (tie.spec slice-read-n cast-n set-hub-requires add-t cast-t slice-write-t same-length returns)
+    (tie.spec slice-read-n cast-n hubs-at-requires set-hub-requires add-t cast-t slice-write-t same-length returns)

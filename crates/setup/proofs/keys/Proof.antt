@@ -12,10 +12,10 @@ use mathlib.Core.Path.{_∙_, _≡_, ap, refl}
 use native.Mathlib.Omega.{arith}
 
 abbrev Inv-loop : tie.InvT-loop
-Inv-loop t ks₀ i₀ ks i = (i ≤ 16) × (length ks ≡ 16) × ((j : ℕ) → j < i → getD ks j 0 ≡ getD t (8 + j * 8 + 2) 0)
+Inv-loop t ts ks₀ i₀ ks i = (i ≤ 16) × (length ks ≡ 16) × ((j : ℕ) → j < i → getD ks j 0 ≡ getD t (8 + j * ts + 2) 0)
 
 abbrev μ-loop : tie.MeasureT-loop
-μ-loop t ks₀ i₀ ks i = 16 - i
+μ-loop t ts ks₀ i₀ ks i = 16 - i
 
 loop-holds : tie.Need-loop-holds Inv-loop μ-loop
 loop-holds c = (omega arith, refl, below-none _)
@@ -41,18 +41,20 @@ loop-again c =
     let ks = l .loop .ks in
     let i = l .loop .i in
     let key = c .field .result in
-    let t = l .before .before .args .t .now in (
+    let t = l .before .before .args .t .now in
+    let ts = l .before .before .args .ts in (
       omega arith,
       simp length-set (l .loop .inv .1),
-      below-more (λ (j : ℕ). getD (set ks i key) j 0 ≡ getD t (8 + j * 8 + 2) 0) i
+      below-more (λ (j : ℕ). getD (set ks i key) j 0 ≡ getD t (8 + j * ts + 2) 0) i
           (λ j h. getD-set-other ks i j key 0 (λ e. omega arith) ∙ l .loop .inv .2 j h)
           (getD-set-same ks i key 0 (omega arith) ∙ c .field .ensures),
     )
 
 returns : tie.Need-returns Inv-loop μ-loop
-returns c s few e =
+returns c L s y few e =
     let l = c .before .loop in
-    keys-are s few (l .ks) (l .inv .1) (λ j h. l .inv .2 j (omega arith) ∙ ap (λ (t : List ℕ). getD t (8 + j * 8 + 2) 0) e)
+    let ts = c .before .before .before .args .ts in
+    keys-are L y s few (l .ks) (l .inv .1) (λ j h. l .inv .2 j (omega arith) ∙ ap (λ (t : List ℕ). getD t (8 + j * ts + 2) 0) e)
 
 pub keys-spec : {M : Type 1} → statement M
 keys-spec =

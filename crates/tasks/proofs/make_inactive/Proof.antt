@@ -12,7 +12,7 @@ same-length c = search needs
 
 returns : tie.Need-returns
 unfolding inactive
-returns c = λ s fits used e. c .before .before .set-task .ensures s fits used e
+returns c = λ L s y fits used e. c .before .before .set-task .ensures L s y fits used e
 
 pub make-inactive-spec : {M : Type 1} → statement M
 make-inactive-spec = tie.close (tie.spec set-task-requires same-length returns)

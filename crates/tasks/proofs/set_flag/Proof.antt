@@ -1,7 +1,7 @@
 -- `tasks::set_flag` meets its contract. Assumes nothing.
 use Rattle.rules.specs.Calls.{flag}
 use Rattle.rules.specs.Lists.{flagged}
-use Rattle.rules.specs.Table.{Task, one, setTask, words}
+use Rattle.rules.specs.Table.{Task, setTask, words}
 use Rattle.tasks.proofs.set_flag.Statement.{statement}
 use Rattle.tasks.proofs.set_flag.Tie as tie
 use borrow.Author.Needs.{needs}
@@ -18,11 +18,11 @@ same-length c = search needs
 
 returns : tie.Need-returns
 unfolding flag flagged
-returns c = λ s fits used e.
+returns c = λ L s y fits used e.
     let a = c .before .before .before .before .before .before .before .args in
-    let x = c .before .before .before .before .task-at .ensures s fits used e in
-    c .before .before .set-task .ensures s fits used e
-    ∙ ap (λ (y : Task). words one (setTask (a .i .0) (flagged (a .f) y) s)) x
+    let x = c .before .before .before .before .task-at .ensures .value L s y fits used e in
+    c .before .before .set-task .ensures L s y fits used e
+    ∙ ap (λ (r : Task). words L (setTask (a .i .0) (flagged (a .f) r) s)) x
 
 pub set-flag-spec : {M : Type 1} → statement M
 set-flag-spec = tie.close (tie.spec task-at-requires set-task-requires same-length returns)

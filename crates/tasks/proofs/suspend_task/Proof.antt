@@ -1,6 +1,6 @@
 -- `tasks::suspend_task` meets its contract. Assumes nothing.
 use Rattle.rules.specs.Calls.{flag, maySuspend, serve}
-use Rattle.rules.specs.Table.{Task, one, words}
+use Rattle.rules.specs.Table.{Task, words}
 use Rattle.tasks.proofs.Laws.{failed, granted, tasks-flag}
 use Rattle.tasks.proofs.suspend_task.Statement.{statement}
 use Rattle.tasks.proofs.suspend_task.Tie as tie
@@ -9,11 +9,11 @@ use borrow.Author.Tests.{not-false, not-true}
 use mathlib.Core.Path.{_∙_, ap, sym}
 use native.Mathlib.Omega.{arith}
 
-cast-t6 : tie.Need-cast-t6
-cast-t6 c = search needs
+cast-t7 : tie.Need-cast-t7
+cast-t7 c = search needs
 
-cast-t6-2 : tie.Need-cast-t6-2
-cast-t6-2 c = search needs
+cast-t7-2 : tie.Need-cast-t7-2
+cast-t7-2 c = search needs
 
 task-at-requires : tie.Need-task-at-requires
 task-at-requires c κs = search needs
@@ -29,11 +29,11 @@ same-length c = search needs
 
 returns : tie.Need-returns
 unfolding serve
-returns c = λ key s sound caller target e.
+returns c = λ L key s y sound caller target e.
     let a = c .before .before .before .before .before .before .before .before .before .before .before .args .c in
-    let x = c .before .before .before .before .before .before .task-at .ensures s (sound .tasks) target e in
+    let x = c .before .before .before .before .before .before .task-at .ensures .value L s y (sound .tasks) target e in
     let no = sym (c .before .before .before .before .before .may-suspend .ensures ∙ ap (λ (t : Task). maySuspend t a) x) ∙ not-true _ (c .before .before .before .before .if1 .taken) in
-    c .before .before .give-answer .ensures s (sound .tasks) caller e ∙ ap (words one) (failed _ _ s a no)
+    c .before .before .give-answer .ensures L s y (sound .tasks) caller e ∙ ap (words L) (failed _ _ s a no)
 
 set-flag-requires : tie.Need-set-flag-requires
 set-flag-requires c κs = search needs
@@ -46,21 +46,21 @@ same-length-2 c = search needs
 
 returns-2 : tie.Need-returns-2
 unfolding serve
-returns-2 c = λ key s sound caller target e.
+returns-2 c = λ L key s y sound caller target e.
     let a = c .before .before .before .before .before .before .before .before .before .before .before .before .before .before .before .args .c in
-    let x = c .before .before .before .before .before .before .before .before .before .before .task-at .ensures s (sound .tasks) target e in
+    let x = c .before .before .before .before .before .before .before .before .before .before .task-at .ensures .value L s y (sound .tasks) target e in
     let yes = sym (c .before .before .before .before .before .before .before .before .before .may-suspend .ensures ∙ ap (λ (t : Task). maySuspend t a) x) ∙ not-false _ (c .before .before .before .before .before .before .before .before .if1 .left) in
-    let set = c .before .before .before .before .before .before .set-flag .ensures s (sound .tasks) target e in
+    let set = c .before .before .before .before .before .before .set-flag .ensures L s y (sound .tasks) target e in
     let many = tasks-flag key (a .target) s 1 in
-    c .before .before .give-answer2 .ensures (flag 1 (a .target) s) (omega (arith, many, sound .tasks)) (omega (arith, many, caller)) set
-    ∙ ap (words one) (granted _ _ s a yes)
+    c .before .before .give-answer2 .ensures L (flag 1 (a .target) s) y (omega (arith, many, sound .tasks)) (omega (arith, many, caller)) set
+    ∙ ap (words L) (granted _ _ s a yes)
 
 pub suspend-task-spec : {M : Type 1} → statement M
 suspend-task-spec =
     tie.close
     (tie.spec
-    cast-t6
-    cast-t6-2
+    cast-t7
+    cast-t7-2
     task-at-requires
     may-suspend-requires
     give-answer-requires

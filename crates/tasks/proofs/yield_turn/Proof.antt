@@ -1,15 +1,12 @@
 -- `tasks::yield_turn` meets its contract. Assumes nothing.
-use Rattle.rules.proofs.Places.{one-sized}
 use Rattle.rules.specs.Calls.{serve, yielded}
 use Rattle.rules.specs.Lists.{answer, leave}
-use Rattle.rules.specs.Table.{one}
 use Rattle.tasks.proofs.yield_turn.Statement.{statement}
 use Rattle.tasks.proofs.yield_turn.Tie as tie
 use borrow.Author.Needs.{needs}
-use mathlib.Core.Path.{refl}
 
-cast-t5 : tie.Need-cast-t5
-cast-t5 c = search needs
+cast-t6 : tie.Need-cast-t6
+cast-t6 c = search needs
 
 leave-list-requires : tie.Need-leave-list-requires
 leave-list-requires c κs = search needs
@@ -25,17 +22,17 @@ same-length c = search needs
 
 returns : tie.Need-returns
 unfolding answer leave serve yielded
-returns c = λ s sound caller e.
+returns c = λ L s y sound caller e.
     let i = c .before .before .before .before .before .before .before .before .before .before .before .before .before .before .before .args .c .caller in
-    let left = c .before .before .before .before .before .before .before .before .before .before .leave-list .ensures s sound caller e in
-    let said = c .before .before .before .before .before .before .give-answer .ensures (leave i s) (sound .tasks) caller left in
-    c .before .before .join-ready .ensures .table one _ one-sized refl said
+    let left = c .before .before .before .before .before .before .before .before .before .before .leave-list .ensures L s y sound caller e in
+    let said = c .before .before .before .before .before .before .give-answer .ensures L (leave i s) y (sound .tasks) caller left in
+    c .before .before .join-ready .ensures .table L _ y said
 
 pub yield-turn-spec : {M : Type 1} → statement M
 yield-turn-spec =
     tie.close
     (tie.spec
-    cast-t5
+    cast-t6
     leave-list-requires
     give-answer-requires
     join-ready-requires

@@ -11,11 +11,18 @@ shared-slice-read-if1 : tie.Need-shared-slice-read-if1
 shared-slice-read-if1 c = search needs
 
 returns : tie.Need-returns
-returns c =
-    let a = c .before .before .args in sym (meets-far (a .t .now) (a .hub) (a .side) (a .owner) (a .last) (a .e) (c .if1 .taken))
+returns c L y =
+    let a = c .before .before .before .args in
+    sym (meets-far L (a .t .now) (a .hub) (a .side) (a .owner) (a .last) (a .e) (c .if1 .taken))
 
-mul-b : tie.Need-mul-b
-mul-b c = search needs
+sub-result : tie.Need-sub-result
+sub-result c = search needs
+
+cast-result : tie.Need-cast-result
+cast-result c = search needs
+
+task-at-requires : tie.Need-task-at-requires
+task-at-requires c κs = search needs
 
 add-result : tie.Need-add-result
 add-result c = search needs
@@ -45,10 +52,11 @@ shared-slice-read-result-3 : tie.Need-shared-slice-read-result-3
 shared-slice-read-result-3 c = search needs
 
 returns-2 : tie.Need-returns-2
-returns-2 c =
-    let b = c .before .before .before .before .before in
+returns-2 c L y =
+    let b = c .before .before .before .before .before .before .before in
     let a = b .args in
-    sym (meets-words (a .t .now) (a .e) (λ z. omega (arith, b .pre .1)) (c .before .before .before .if1 .left) (a .hub) (a .side) (a .owner) (a .last))
+    let p = c .before .before .before .task-at in
+    sym (meets-words L y (a .t .now) (a .e) (p .result) (λ z. omega arith) (c .before .before .before .before .if1 .left) (p .ensures .place) (a .hub) (a .side) (a .owner) (a .last))
 
 pub entry-right-spec : {M : Type 1} → statement M
 entry-right-spec =
@@ -56,7 +64,9 @@ entry-right-spec =
     (tie.spec
     shared-slice-read-if1
     returns
-    mul-b
+    sub-result
+    cast-result
+    task-at-requires
     add-result
     mul-result
     shared-slice-read-result

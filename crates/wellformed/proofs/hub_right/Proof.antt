@@ -10,23 +10,23 @@ kind-right-requires : tie.Need-kind-right-requires
 kind-right-requires c κs = search needs
 
 returns : tie.Need-returns
-returns c = hub-kind-no _ _ _ (sym (c .before .kind-right .ensures) ∙ not-true _ (c .if1 .taken))
+returns c L y = hub-kind-no _ _ _ _ (sym (c .before .kind-right .ensures L y) ∙ not-true _ (c .if1 .taken))
 
 store-right-requires : tie.Need-store-right-requires
 store-right-requires c κs =
     let b = c .before .before .before in
-    (b .pre .0, (b .pre .1 .0, sym (c .before .kind-right .ensures) ∙ not-false _ (c .if1 .left)))
+    (b .pre .0, (b .pre .1 .0, λ L y. sym (c .before .kind-right .ensures L y) ∙ not-false _ (c .if1 .left)))
 
 returns-2 : tie.Need-returns-2
-returns-2 c =
-    hub-store-no _ _ _ (sym (c .before .before .before .kind-right .ensures) ∙ not-false _ (c .before .before .if1 .left)) (sym (c .before .store-right .ensures) ∙ not-true _ (c .if2 .taken))
+returns-2 c L y =
+    hub-store-no _ _ _ _ (sym (c .before .before .before .kind-right .ensures L y) ∙ not-false _ (c .before .before .if1 .left)) (sym (c .before .store-right .ensures L y) ∙ not-true _ (c .if2 .taken))
 
 queue-right-requires : tie.Need-queue-right-requires
 queue-right-requires c κs = search needs
 
 returns-3 : tie.Need-returns-3
-returns-3 c =
-    hub-queue _ _ _ (sym (c .before .before .before .before .before .kind-right .ensures) ∙ not-false _ (c .before .before .before .before .if1 .left)) (sym (c .before .before .before .store-right .ensures) ∙ not-false _ (c .before .before .if2 .left)) (c .queue-right .ensures)
+returns-3 c L y =
+    hub-queue _ _ _ _ (sym (c .before .before .before .before .before .kind-right .ensures L y) ∙ not-false _ (c .before .before .before .before .if1 .left)) (sym (c .before .before .before .store-right .ensures L y) ∙ not-false _ (c .before .before .if2 .left)) (c .queue-right .ensures L y)
 
 pub hub-right-spec : {M : Type 1} → statement M
 hub-right-spec =

@@ -1,7 +1,7 @@
 -- `wellformed::kind_right` meets its contract: an arm for each kind of the kinds table. Assumes nothing.
 use Prim.Native.Nat.{_*_, _+_}
 use Rattle.rules.proofs.Numbers.{no-kind}
-use Rattle.rules.specs.Table.{hubAt, kindOf}
+use Rattle.rules.specs.Table.{kindOf}
 use Rattle.rules.specs.WellFormed.{kindRight}
 use Rattle.wellformed.proofs.Hubs.{kind-arm}
 use Rattle.wellformed.proofs.kind_right.Statement.{statement}
@@ -10,6 +10,9 @@ use borrow.Author.Needs.{needs}
 use lib.ListN.{getD}
 use mathlib.Core.Path.{_∙_, refl, sym}
 use native.Mathlib.Omega.{arith}
+
+hubs-at-requires : tie.Need-hubs-at-requires
+hubs-at-requires c κs = search needs
 
 mul-b : tie.Need-mul-b
 mul-b c = search needs
@@ -54,36 +57,54 @@ shared-slice-read-result : tie.Need-shared-slice-read-result
 shared-slice-read-result c = search needs
 
 returns : tie.Need-returns
-unfolding hubAt kindOf kindRight
-returns c = let b = c .before .before .before .before .before in sym (kind-arm (b .args .t .now) (b .args .h) (b .pre .1) 1 (c .match .keys1))
+unfolding kindOf kindRight
+returns c L y =
+    let b = c .before .before .before .before .before .before .before in
+    let p = c .before .before .before .before .before .hubs-at in
+    sym (kind-arm L (b .args .t .now) (b .args .h) (b .pre .1) (p .result + b .args .h * 4) (omega arith) 1 (c .match .keys1))
 
 returns-2 : tie.Need-returns-2
-unfolding hubAt kindOf kindRight
-returns-2 c = let b = c .before .before .before .before .before in sym (kind-arm (b .args .t .now) (b .args .h) (b .pre .1) 2 (c .match .keys2))
+unfolding kindOf kindRight
+returns-2 c L y =
+    let b = c .before .before .before .before .before .before .before in
+    let p = c .before .before .before .before .before .hubs-at in
+    sym (kind-arm L (b .args .t .now) (b .args .h) (b .pre .1) (p .result + b .args .h * 4) (omega arith) 2 (c .match .keys2))
 
 returns-3 : tie.Need-returns-3
-unfolding hubAt kindOf kindRight
-returns-3 c = let b = c .before .before .before .before .before in sym (kind-arm (b .args .t .now) (b .args .h) (b .pre .1) 3 (c .match .keys3))
+unfolding kindOf kindRight
+returns-3 c L y =
+    let b = c .before .before .before .before .before .before .before in
+    let p = c .before .before .before .before .before .hubs-at in
+    sym (kind-arm L (b .args .t .now) (b .args .h) (b .pre .1) (p .result + b .args .h * 4) (omega arith) 3 (c .match .keys3))
 
 returns-4 : tie.Need-returns-4
-unfolding hubAt kindOf kindRight
-returns-4 c = let b = c .before .before .before .before .before in sym (kind-arm (b .args .t .now) (b .args .h) (b .pre .1) 4 (c .match .keys4))
+unfolding kindOf kindRight
+returns-4 c L y =
+    let b = c .before .before .before .before .before .before .before in
+    let p = c .before .before .before .before .before .hubs-at in
+    sym (kind-arm L (b .args .t .now) (b .args .h) (b .pre .1) (p .result + b .args .h * 4) (omega arith) 4 (c .match .keys4))
 
 returns-5 : tie.Need-returns-5
-unfolding hubAt kindOf kindRight
-returns-5 c = let b = c .before .before .before .before .before .before in sym (kind-arm (b .args .t .now) (b .args .h) (b .pre .1) 5 (c .before .match .keys5))
+unfolding kindOf kindRight
+returns-5 c L y =
+    let b = c .before .before .before .before .before .before .before .before in
+    let p = c .before .before .before .before .before .before .hubs-at in
+    sym (kind-arm L (b .args .t .now) (b .args .h) (b .pre .1) (p .result + b .args .h * 4) (omega arith) 5 (c .before .match .keys5))
 
 returns-6 : tie.Need-returns-6
 unfolding kindRight
-returns-6 c =
-    let b = c .before .before .before .before .before in
+returns-6 c L y =
+    let b = c .before .before .before .before .before .before .before in
+    let p = c .before .before .before .before .before .hubs-at in
     let n = c .match .rest in
-    sym (kind-arm (b .args .t .now) (b .args .h) (b .pre .1) _ refl ∙ rw (no-kind (getD (b .args .t .now) (136 + b .args .h * 4) 0) (λ h. omega (arith, n .0 .0 .0 .0 .1, n .0 .0 .0 .1, n .0 .0 .1, n .0 .1, n .1))))
+    sym (kind-arm L (b .args .t .now) (b .args .h) (b .pre .1) (p .result + b .args .h * 4) (omega (arith, p .ensures)) _ refl
+    ∙ rw (no-kind (getD (b .args .t .now) (p .result + b .args .h * 4) 0) (λ h. omega (arith, n .0 .0 .0 .0 .1, n .0 .0 .0 .1, n .0 .0 .1, n .0 .1, n .1))))
 
 pub kind-right-spec : {M : Type 1} → statement M
 kind-right-spec =
     tie.close
     (tie.spec
+    hubs-at-requires
     mul-b
     add-b
     add-count

@@ -1,6 +1,7 @@
 -- `wellformed::queue_right` meets its contract: the answer by the list's first word. Assumes nothing.
+use Prim.Native.Nat.{_*_, _+_}
 use Rattle.wellformed.proofs.Hubs.{queue-as, queue-barred, queue-far, queue-none, queue-walked}
-use Rattle.wellformed.proofs.Parts.{row-long}
+use Rattle.wellformed.proofs.Parts.{lent-long}
 use Rattle.wellformed.proofs.queue_right.Statement.{statement}
 use Rattle.wellformed.proofs.queue_right.Tie as tie
 use borrow.Author.Needs.{needs}
@@ -8,11 +9,8 @@ use borrow.Author.Tests.{not-false, not-true}
 use mathlib.Core.Path.{_∙_, sym}
 use native.Mathlib.Omega.{arith}
 
-mul-at : tie.Need-mul-at
-mul-at c = search needs
-
-add-at : tie.Need-add-at
-add-at c = search needs
+waits-at-requires : tie.Need-waits-at-requires
+waits-at-requires c κs = search needs
 
 add-list : tie.Need-add-list
 add-list c = search needs
@@ -36,33 +34,43 @@ zeros-requires : tie.Need-zeros-requires
 zeros-requires c κs = search needs
 
 returns : tie.Need-returns
-returns c =
-    let b = c .before .before .before .before .before in
-    queue-as (b .args .t .now) (b .args .h) (b .pre .1 .0)
-    (queue-none (b .args .t .now) (b .args .h) (b .pre .1 .0) _ (b .args .marks .now) (omega (arith, row-long (b .args .t .now) 216 (b .args .h) 16 (omega (arith, b .pre .0 .long, b .pre .0 .hubs, b .pre .1 .0)))) (c .before .if1 .taken) (c .zeros .result) (c .zeros .ensures))
+returns c L y =
+    let b = c .before .before .before .before .before .before in
+    let a = c .before .before .before .before .waits-at in
+    let long = lent-long (b .args .t .now) (a .result) 16 (omega arith) in
+    queue-as L (b .args .t .now) (b .args .h) (b .pre .1 .0) (a .result) (omega arith)
+    (queue-none L (b .args .t .now) (b .args .h) (b .pre .1 .0) _ (b .args .marks .now) (omega (arith, long)) (c .before .if1 .taken) (c .zeros .result) (c .zeros .ensures))
 
 shared-slice-read-if2 : tie.Need-shared-slice-read-if2
 shared-slice-read-if2 c = search needs
 
 returns-2 : tie.Need-returns-2
-returns-2 c =
-    let b = c .before .before .before .before .before .before in
-    queue-as (b .args .t .now) (b .args .h) (b .pre .1 .0) (queue-far (b .args .t .now) (b .args .h) (b .pre .1 .0) _ (b .args .marks .now) (c .before .before .if1 .left) (c .if2 .taken))
+returns-2 c L y =
+    let b = c .before .before .before .before .before .before .before in
+    let a = c .before .before .before .before .before .waits-at in
+    queue-as L (b .args .t .now) (b .args .h) (b .pre .1 .0) (a .result) (omega arith)
+    (queue-far L (b .args .t .now) (b .args .h) (b .pre .1 .0) _ (b .args .marks .now) (c .before .before .if1 .left) (c .if2 .taken))
 
-cast-side : tie.Need-cast-side
-cast-side c = search needs
+sub-b : tie.Need-sub-b
+sub-b c = search needs
 
-mul-side : tie.Need-mul-side
-mul-side c = search needs
+cast-b : tie.Need-cast-b
+cast-b c = search needs
+
+task-at-requires : tie.Need-task-at-requires
+task-at-requires c κs = search needs
 
 add-side : tie.Need-add-side
 add-side c = search needs
 
-mul-side-2 : tie.Need-mul-side-2
-mul-side-2 c = search needs
+mul-side : tie.Need-mul-side
+mul-side c = search needs
 
 shared-slice-read-side : tie.Need-shared-slice-read-side
 shared-slice-read-side c = search needs
+
+hubs-at-requires : tie.Need-hubs-at-requires
+hubs-at-requires c κs = search needs
 
 mul-b : tie.Need-mul-b
 mul-b c = search needs
@@ -98,10 +106,13 @@ may-wait-requires : tie.Need-may-wait-requires
 may-wait-requires c κs = search needs
 
 returns-3 : tie.Need-returns-3
-returns-3 c =
-    let b = c .before .before .before .before .before .before .before .before .before .before .before .before in
-    queue-as (b .args .t .now) (b .args .h) (b .pre .1 .0)
-    (queue-barred (b .args .t .now) (b .args .h) (b .pre .1 .0) _ (b .args .marks .now) (c .before .before .before .before .before .before .before .before .if1 .left) (c .before .before .before .before .before .before .if2 .left) (sym (c .before .may-wait .ensures) ∙ not-true _ (c .if3 .taken)))
+returns-3 c L y =
+    let b = c .before .before .before .before .before .before .before .before .before .before .before .before .before .before .before in
+    let a = c .before .before .before .before .before .before .before .before .before .before .before .before .before .waits-at in
+    let p = c .before .before .before .before .before .before .before .task-at in
+    let r = c .before .before .before .before .before .hubs-at in
+    queue-as L (b .args .t .now) (b .args .h) (b .pre .1 .0) (a .result) (omega arith)
+    (queue-barred L (b .args .t .now) (b .args .h) (b .pre .1 .0) _ (b .args .marks .now) (c .before .before .before .before .before .before .before .before .before .before .if1 .left) y (p .result) (p .ensures .place) (r .result + b .args .h * 4) (omega arith) (c .before .before .before .before .before .before .before .before .if2 .left) (sym (c .before .may-wait .ensures) ∙ not-true _ (c .if3 .taken)))
 
 add-walk : tie.Need-add-walk
 add-walk c = search needs
@@ -114,21 +125,24 @@ owner-of-requires c κs = search needs
 
 walk-requires : tie.Need-walk-requires
 walk-requires c κs =
-    let b = c .before .before .before .before .before .before .before .before .before .before .before .before .before .before in
-    (b .pre .0, (row-long (b .args .t .now) 216 (b .args .h) 16 (omega (arith, b .pre .0 .long, b .pre .0 .hubs, b .pre .1 .0)), b .pre .1 .1))
+    let b = c .before .before .before .before .before .before .before .before .before .before .before .before .before .before .before .before .before in
+    let a = c .before .before .before .before .before .before .before .before .before .before .before .before .before .before .before .waits-at in
+    (b .pre .0, (lent-long (b .args .t .now) (a .result) 16 (omega arith), b .pre .1 .1))
 
 returns-4 : tie.Need-returns-4
-returns-4 c =
-    let b = c .before .before .before .before .before .before .before .before .before .before .before .before .before .before .before in
-    queue-as (b .args .t .now) (b .args .h) (b .pre .1 .0)
-    (queue-walked (b .args .t .now) (b .args .h) (b .pre .1 .0) _ (b .args .marks .now) (c .before .before .before .before .before .before .before .before .before .before .before .if1 .left) (c .before .before .before .before .before .before .before .before .before .if2 .left) (sym (c .before .before .before .before .may-wait .ensures) ∙ not-false _ (c .before .before .before .if3 .left)) (c .before .before .owner-of .result) (c .before .before .owner-of .ensures) (c .walk .ensures))
+returns-4 c L y =
+    let b = c .before .before .before .before .before .before .before .before .before .before .before .before .before .before .before .before .before .before in
+    let a = c .before .before .before .before .before .before .before .before .before .before .before .before .before .before .before .before .waits-at in
+    let p = c .before .before .before .before .before .before .before .before .before .before .task-at in
+    let r = c .before .before .before .before .before .before .before .before .hubs-at in
+    queue-as L (b .args .t .now) (b .args .h) (b .pre .1 .0) (a .result) (omega arith)
+    (queue-walked L (b .args .t .now) (b .args .h) (b .pre .1 .0) _ (b .args .marks .now) (c .before .before .before .before .before .before .before .before .before .before .before .before .before .if1 .left) y (p .result) (p .ensures .place) (r .result + b .args .h * 4) (omega arith) (c .before .before .before .before .before .before .before .before .before .before .before .if2 .left) (sym (c .before .before .before .before .may-wait .ensures) ∙ not-false _ (c .before .before .before .if3 .left)) (c .before .before .owner-of .result) (c .before .before .owner-of .ensures) (c .walk .ensures L y))
 
 pub queue-right-spec : {M : Type 1} → statement M
 queue-right-spec =
     tie.close
     (tie.spec
-    mul-at
-    add-at
+    waits-at-requires
     add-list
     mul-list
     sub-list
@@ -139,11 +153,13 @@ queue-right-spec =
     returns
     shared-slice-read-if2
     returns-2
-    cast-side
-    mul-side
+    sub-b
+    cast-b
+    task-at-requires
     add-side
-    mul-side-2
+    mul-side
     shared-slice-read-side
+    hubs-at-requires
     mul-b
     add-b
     mul-kind

@@ -1,20 +1,24 @@
--- `wellformed::store_right` meets its contract: a FIFO's store from its count on, and other stores whole. Assumes nothing.
-use Prim.Native.Nat.{_*_, _+_}
+-- `wellformed::store_right` meets its contract: a FIFO's store from behind its messages on, and other stores whole.
+-- Assumes nothing.
+use Prim.Native.Nat.{_*_, _+_, _-_, _≤_, ℕ}
 use Rattle.lists.specs.Lists.{allZero}
+use Rattle.rules.proofs.Layouts.{in-some, store-place, wide}
 use Rattle.wellformed.proofs.Hubs.{fifo-fits, store-as, store-fifo, store-other}
-use Rattle.wellformed.proofs.Parts.{row-long, to-end}
+use Rattle.wellformed.proofs.Parts.{lent-long, to-end}
 use Rattle.wellformed.proofs.store_right.Statement.{statement}
 use Rattle.wellformed.proofs.store_right.Tie as tie
 use borrow.Author.Needs.{needs}
-use lib.ListN.{getD}
+use lib.ListN.{drop, getD, length, take}
+use mathlib.Core.List.{List}
 use mathlib.Core.Path.{_∙_, ap, sym}
+use native.Mathlib.Nat.{mul-le-mul-right}
 use native.Mathlib.Omega.{arith}
 
-mul-at : tie.Need-mul-at
-mul-at c = search needs
+store-at-requires : tie.Need-store-at-requires
+store-at-requires c κs = search needs
 
-add-at : tie.Need-add-at
-add-at c = search needs
+store-size-requires : tie.Need-store-size-requires
+store-size-requires c κs = search needs
 
 add-store : tie.Need-add-store
 add-store c = search needs
@@ -30,6 +34,9 @@ part-store-start c = search needs
 
 part-store-end : tie.Need-part-store-end
 part-store-end c = search needs
+
+hubs-at-requires : tie.Need-hubs-at-requires
+hubs-at-requires c κs = search needs
 
 mul-b : tie.Need-mul-b
 mul-b c = search needs
@@ -52,17 +59,44 @@ mul-n c = search needs
 shared-slice-read-n : tie.Need-shared-slice-read-n
 shared-slice-read-n c = search needs
 
+-- a FIFO holds 8 messages at most
+few : (c : tie.After-shared-slice-known3) → getD (c .before .before .before .before .before .before .before .before .args .t .now) (c .before .before .before .hubs-at .result + c .before .before .before .before .before .before .before .before .args .h * 4 + 1) 0 ≤ 8
+few c =
+    let b = c .before .before .before .before .before .before .before .before in
+    let p = c .before .before .before .hubs-at in
+    in-some (b .args .ts) (b .pre .0 .low) (b .pre .0 .high)
+    (λ L y. fifo-fits L (b .args .t .now) (b .args .h) (b .pre .1 .0) (p .result + b .args .h * 4) (omega arith) (b .pre .1 .1 L y) (c .before .if1 .taken))
+
 cast-n : tie.Need-cast-n
-cast-n c = let b = c .before .before .before .before .before in omega (arith, fifo-fits (b .args .t .now) (b .args .h) (b .pre .1 .0) (b .pre .1 .1) (c .before .if1 .taken))
+cast-n c = omega (arith, few c)
+
+width-of-requires : tie.Need-width-of-requires
+width-of-requires c κs = search needs
+
+-- the store, and how many of its words they take
+abbrev store : tie.After-width-of → List ℕ
+store c = take (c .before .before .before .before .before .before .before .store-at .result + c .before .before .before .before .before .before .store-size .result - c .before .before .before .before .before .before .before .store-at .result) (drop (c .before .before .before .before .before .before .before .store-at .result) (c .before .before .before .before .before .before .before .before .before .args .t .now))
+
+abbrev held : tie.After-width-of → ℕ
+held c = getD (c .before .before .before .before .before .before .before .before .before .args .t .now) (c .before .before .before .before .hubs-at .result + c .before .before .before .before .before .before .before .before .before .args .h * 4 + 1) 0 * c .width-of .result
+
+eight : (c : tie.After-width-of) → held c ≤ 8 * c .width-of .result
+eight c = mul-le-mul-right (c .width-of .result) (few (c .before))
+
+inside : (c : tie.After-width-of) → held c ≤ length (store c)
+inside c = omega (arith, eight c, lent-long (c .before .before .before .before .before .before .before .before .before .args .t .now) (c .before .before .before .before .before .before .before .store-at .result) (c .before .before .before .before .before .before .store-size .result) (omega arith))
 
 mul-zeros : tie.Need-mul-zeros
-mul-zeros c = let b = c .before .before .before .before .before in omega (arith, fifo-fits (b .args .t .now) (b .args .h) (b .pre .1 .0) (b .pre .1 .1) (c .before .if1 .taken))
+mul-zeros c = omega (arith, eight c)
+
+mul-zeros-2 : tie.Need-mul-zeros-2
+mul-zeros-2 c = omega (arith, eight c)
 
 sub-zeros : tie.Need-sub-zeros
-sub-zeros c = let b = c .before .before .before .before .before in omega (arith, fifo-fits (b .args .t .now) (b .args .h) (b .pre .1 .0) (b .pre .1 .1) (c .before .if1 .taken), row-long (b .args .t .now) 472 (b .args .h) 8 (omega (arith, b .pre .0 .long, b .pre .0 .hubs, b .pre .1 .0)))
+sub-zeros c = omega (arith, inside c)
 
 part-zeros-start : tie.Need-part-zeros-start
-part-zeros-start c = let b = c .before .before .before .before .before in omega (arith, fifo-fits (b .args .t .now) (b .args .h) (b .pre .1 .0) (b .pre .1 .1) (c .before .if1 .taken), row-long (b .args .t .now) 472 (b .args .h) 8 (omega (arith, b .pre .0 .long, b .pre .0 .hubs, b .pre .1 .0)))
+part-zeros-start c = omega (arith, inside c)
 
 part-zeros-end : tie.Need-part-zeros-end
 part-zeros-end c = search needs
@@ -74,28 +108,35 @@ zeros-requires-2 : tie.Need-zeros-requires-2
 zeros-requires-2 c κs = search needs
 
 returns : tie.Need-returns
-returns c =
-    let b = c .before .before .before .before .before .before .before in
-    let a = b .args in
-    let t = a .t .now in
-    c .zeros .ensures ∙ ap allZero (to-end (getD t (136 + a .h * 4 + 1) 0) _) ∙ sym (store-as t (a .h) (b .pre .1 .0) ∙ store-fifo _ _ _ (c .before .before .before .if1 .taken))
+returns c L y =
+    let b = c .before .before .before .before .before .before .before .before .before .before .before in
+    let p = c .before .before .before .before .before .before .hubs-at in
+    let s = c .before .before .before .before .before .before .before .before .before .store-at in
+    let n = c .before .before .before .before .before .before .before .before .store-size in
+    c .zeros .ensures ∙ ap allZero (to-end (held (c .before .before)) (store (c .before .before)))
+    ∙ sym (store-as L (b .args .t .now) (b .args .h) (b .pre .1 .0) (p .result + b .args .h * 4) (omega arith) (s .result) (n .result) (s .ensures .place ∙ store-place y (b .args .h)) (omega arith) ∙ store-fifo L _ _ _ _ (c .before .before .before .before .if1 .taken) (c .before .before .width-of .ensures ∙ wide y))
 
 returns-2 : tie.Need-returns-2
-returns-2 c =
-    let b = c .before .before .before .before .before in
-    c .zeros2 .ensures ∙ sym (store-as (b .args .t .now) (b .args .h) (b .pre .1 .0) ∙ store-other _ _ _ (c .before .if1 .left))
+returns-2 c L y =
+    let b = c .before .before .before .before .before .before .before .before in
+    let p = c .before .before .before .hubs-at in
+    let s = c .before .before .before .before .before .before .store-at in
+    let n = c .before .before .before .before .before .store-size in
+    c .zeros2 .ensures
+    ∙ sym (store-as L (b .args .t .now) (b .args .h) (b .pre .1 .0) (p .result + b .args .h * 4) (omega arith) (s .result) (n .result) (s .ensures .place ∙ store-place y (b .args .h)) (omega arith) ∙ store-other L _ _ _ (c .before .if1 .left))
 
 pub store-right-spec : {M : Type 1} → statement M
 store-right-spec =
     tie.close
     (tie.spec
-    mul-at
-    add-at
+    store-at-requires
+    store-size-requires
     add-store
     mul-store
     sub-store
     part-store-start
     part-store-end
+    hubs-at-requires
     mul-b
     add-b
     mul-if1
@@ -104,7 +145,9 @@ store-right-spec =
     mul-n
     shared-slice-read-n
     cast-n
+    width-of-requires
     mul-zeros
+    mul-zeros-2
     sub-zeros
     part-zeros-start
     part-zeros-end

@@ -1,8 +1,10 @@
--- `wellformed::tasks_right` meets its contract. The loop's invariant: the tasks so far are right. Assumes nothing.
+-- `wellformed::tasks_right` meets its contract. The loop's invariant: the tasks so far are right, in every layout.
+-- Assumes nothing.
 use Prim.Native.Nat.{_-_, _≤_, ℕ}
-use Rattle.rules.specs.Table.{one, read}
+use Rattle.rules.proofs.Layouts.{Laid}
+use Rattle.rules.specs.Table.{Layout, read}
 use Rattle.rules.specs.WellFormed.{forAll}
-use Rattle.wellformed.proofs.Parts.{row-long}
+use Rattle.wellformed.proofs.Parts.{lent-long}
 use Rattle.wellformed.proofs.Turns.{forAll-end, forAll-fail, forAll-none, forAll-step, record-task}
 use Rattle.wellformed.proofs.tasks_right.Statement.{statement}
 use Rattle.wellformed.proofs.tasks_right.Tie as tie
@@ -15,14 +17,14 @@ use mathlib.Core.List.{List}
 use mathlib.Core.Path.{_∙_, _≡_, sym}
 use native.Mathlib.Omega.{arith}
 
-abbrev passes : List ℕ → List ℕ → ℕ → Bool
-passes t marks i = taskRight (read one t) i (getD marks i 0)
+abbrev passes : Layout → List ℕ → List ℕ → ℕ → Bool
+passes L t marks i = taskRight (read L t) i (getD marks i 0)
 
 abbrev Inv-loop : tie.InvT-loop
-Inv-loop t marks n i₀ i = (i ≤ n) × (forAll i (passes t marks) ≡ true)
+Inv-loop t ts marks n i₀ i = (i ≤ n) × ((L : Layout) → Laid ts L → forAll i (passes L t marks) ≡ true)
 
 abbrev μ-loop : tie.MeasureT-loop
-μ-loop t marks n i₀ i = n - i
+μ-loop t ts marks n i₀ i = n - i
 
 shared-slice-read-n : tie.Need-shared-slice-read-n Inv-loop μ-loop
 shared-slice-read-n c = search needs
@@ -31,13 +33,10 @@ cast-n : tie.Need-cast-n Inv-loop μ-loop
 cast-n c = search needs
 
 loop-holds : tie.Need-loop-holds Inv-loop μ-loop
-loop-holds c = (omega arith, forAll-none _)
+loop-holds c = (omega arith, λ L y. forAll-none _)
 
-mul-b : tie.Need-mul-b Inv-loop μ-loop
-mul-b c = search needs
-
-add-b : tie.Need-add-b Inv-loop μ-loop
-add-b c = search needs
+task-at-requires : tie.Need-task-at-requires Inv-loop μ-loop
+task-at-requires c κs = search needs
 
 add-task-right : tie.Need-add-task-right Inv-loop μ-loop
 add-task-right c = search needs
@@ -62,14 +61,17 @@ element-copy-out-task-right c = search needs
 
 task-right-requires : tie.Need-task-right-requires Inv-loop μ-loop
 task-right-requires c κs =
-    let b = c .before .before .before .before .before .before in
-    (b .pre, row-long (b .args .t .now) 8 (c .before .before .before .loop .i) 8 (omega (arith, b .pre .long, b .pre .tasks, c .before .before .loop-test .taken)))
+    let b = c .before .before .before .before .before .before .before in
+    let p = c .before .before .task-at in
+    (b .pre, lent-long (b .args .t .now) (p .result) (b .args .ts) (omega arith))
 
 returns : tie.Need-returns Inv-loop μ-loop
-returns c =
-    let b = c .before .before .before .before .before .before .before .before in
-    let l = c .before .before .before .before .before .loop in
-    sym (forAll-fail (passes (b .args .t .now) (b .args .marks .now)) _ (l .i) (c .before .before .before .before .loop-test .taken) (sym (record-task (b .args .t .now) (l .i) _ (c .before .before .before .before .loop-test .taken)) ∙ sym (c .before .task-right .ensures) ∙ not-true _ (c .if1 .taken)))
+returns c L y =
+    let b = c .before .before .before .before .before .before .before .before .before in
+    let l = c .before .before .before .before .before .before .loop in
+    let p = c .before .before .before .before .task-at in
+    let u = c .before .before .before .before .before .loop-test .taken in
+    sym (forAll-fail (passes L (b .args .t .now) (b .args .marks .now)) _ (l .i) u (sym (record-task L y (b .args .t .now) (l .i) (p .result) u (p .ensures .place) _) ∙ sym (c .before .task-right .ensures L y) ∙ not-true _ (c .if1 .taken)))
 
 add-i : tie.Need-add-i Inv-loop μ-loop
 add-i c = search needs
@@ -79,14 +81,16 @@ loop-less c = search needs
 
 loop-again : tie.Need-loop-again Inv-loop μ-loop
 loop-again c =
-    let b = c .before .before .before .before .before .before .before .before in
-    let l = c .before .before .before .before .before .loop in
-    (omega arith, forAll-step _ (l .i) (l .inv .1) (sym (record-task (b .args .t .now) (l .i) _ (c .before .before .before .before .loop-test .taken)) ∙ sym (c .before .task-right .ensures) ∙ not-false _ (c .if1 .left)))
+    let b = c .before .before .before .before .before .before .before .before .before in
+    let l = c .before .before .before .before .before .before .loop in
+    let p = c .before .before .before .before .task-at in
+    let u = c .before .before .before .before .before .loop-test .taken in
+    (omega arith, λ L y. forAll-step _ (l .i) (l .inv .1 L y) (sym (record-task L y (b .args .t .now) (l .i) (p .result) u (p .ensures .place) _) ∙ sym (c .before .task-right .ensures L y) ∙ not-false _ (c .if1 .left)))
 
 returns-2 : tie.Need-returns-2 Inv-loop μ-loop
-returns-2 c =
+returns-2 c L y =
     let l = c .before .loop in
-    sym (forAll-end _ _ (l .i) (l .inv .0) (c .loop-test .left) (l .inv .1))
+    sym (forAll-end _ _ (l .i) (l .inv .0) (c .loop-test .left) (l .inv .1 L y))
 
 pub tasks-right-spec : {M : Type 1} → statement M
 tasks-right-spec =
@@ -97,8 +101,7 @@ tasks-right-spec =
     shared-slice-read-n
     cast-n
     loop-holds
-    mul-b
-    add-b
+    task-at-requires
     add-task-right
     mul-task-right
     sub-task-right

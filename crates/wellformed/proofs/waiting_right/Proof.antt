@@ -1,9 +1,8 @@
 -- `wellformed::waiting_right` meets its contract: the hub that a waiting task names is in use before its kind is read.
 -- Assumes nothing.
-use Prim.Native.Nat.{_*_, _+_}
+use Prim.Native.Nat.{_*_, _+_, _-_}
 use Rattle.rules.proofs.Numbers.{bears-number}
 use Rattle.rules.proofs.Reading.{read-hubs}
-use Rattle.rules.specs.Table.{one}
 use Rattle.rules.specs.WellFormed.{stageRight}
 use Rattle.wellformed.proofs.Turns.{hub-kind}
 use Rattle.wellformed.proofs.waiting_right.Statement.{statement}
@@ -16,16 +15,19 @@ use native.Mathlib.Omega.{arith}
 
 returns : tie.Need-returns
 unfolding stageRight
-returns c x eh es ew ea = rw (eh, c .if1 .taken)
+returns c L x y eh es ew ea = rw (eh, c .if1 .taken)
 
 shared-slice-read-if2 : tie.Need-shared-slice-read-if2
 shared-slice-read-if2 c = search needs
 
 returns-2 : tie.Need-returns-2
 unfolding stageRight
-returns-2 c x eh es ew ea =
-    let a = c .before .before .before .args in
-    rw (eh, read-hubs one (a .t .now), lt-leb (a .hub) (getD (a .t .now) 2 0) (c .if2 .taken), and-false)
+returns-2 c L x y eh es ew ea =
+    let a = c .before .before .before .before .args in
+    rw (eh, read-hubs L (a .t .now), lt-leb (a .hub) (getD (a .t .now) 2 0) (c .if2 .taken), and-false)
+
+hubs-at-requires : tie.Need-hubs-at-requires
+hubs-at-requires c κs = search needs
 
 sub-kind : tie.Need-sub-kind
 sub-kind c = search needs
@@ -44,22 +46,22 @@ shared-slice-read-kind c = search needs
 
 returns-3 : tie.Need-returns-3
 unfolding stageRight
-returns-3 c x eh es ew ea =
-    let b = c .before in
-    let a = b .before .before .before .args in
+returns-3 c L x y eh es ew ea =
+    let a = c .before .before .before .before .before .before .args in
     let t = a .t .now in
-    let n = b .before .before .if1 .left in
-    let u = b .if2 .left in
+    let n = c .before .before .before .before .if1 .left in
+    let u = c .before .before .if2 .left in
+    let p = c .before .hubs-at in
     rw (
       eh,
       es,
       ew,
       ea,
-      read-hubs one t,
+      read-hubs L t,
       le-leb 1 (a .hub) (omega arith),
       le-leb (a .hub) (getD t 2 0) u,
-      hub-kind t (a .hub) n u,
-      bears-number (getD t (132 + a .hub * 4) 0),
+      hub-kind L t (a .hub) (p .result - 4 + a .hub * 4) n u (omega arith),
+      bears-number (getD t (p .result - 4 + a .hub * 4) 0),
     )
 
 pub waiting-right-spec : {M : Type 1} → statement M
@@ -69,6 +71,7 @@ waiting-right-spec =
     returns
     shared-slice-read-if2
     returns-2
+    hubs-at-requires
     sub-kind
     mul-kind
     add-kind

@@ -1,6 +1,8 @@
--- `wellformed::walk` meets its contract. The loop's invariant is `Walking`: what is left of the list is what the whole comes
--- to, and what is left to mark makes up the marks. Assumes nothing.
+-- `wellformed::walk` meets its contract. The loop's invariant is `Walking`, in every layout: what is left of the list is what
+-- the whole comes to, and what is left to mark makes up the marks. Assumes nothing.
 use Prim.Native.Nat.{_-_, _≤_}
+use Rattle.rules.proofs.Layouts.{Laid, in-some}
+use Rattle.rules.specs.Table.{Layout}
 use Rattle.wellformed.proofs.Turns.{Walking, walking-begin, walking-end, walking-full, walking-hit, walking-low, walking-miss, walking-used}
 use Rattle.wellformed.proofs.walk.Statement.{statement}
 use Rattle.wellformed.proofs.walk.Tie as tie
@@ -11,13 +13,13 @@ use mathlib.Core.Path.{_∙_, sym}
 use native.Mathlib.Omega.{arith}
 
 abbrev Inv-loop : tie.InvT-loop
-Inv-loop t list hub side owner marks₀ last₀ k₀ marks last k = Walking t list hub side owner marks₀ marks last k
+Inv-loop t ts list hub side owner marks₀ last₀ k₀ marks last k = (L : Layout) → Laid ts L → Walking L t list hub side owner marks₀ marks last k
 
 abbrev μ-loop : tie.MeasureT-loop
-μ-loop t list hub side owner marks₀ last₀ k₀ marks last k = 16 - k
+μ-loop t ts list hub side owner marks₀ last₀ k₀ marks last k = 16 - k
 
 loop-holds : tie.Need-loop-holds Inv-loop μ-loop
-loop-holds c = walking-begin _ _ _ _ _ _ (c .before .before .pre .1 .1)
+loop-holds c L y = walking-begin _ _ _ _ _ _ _ (c .before .before .pre .1 .1)
 
 mul-e : tie.Need-mul-e Inv-loop μ-loop
 mul-e c = search needs
@@ -41,32 +43,33 @@ zeros-requires : tie.Need-zeros-requires Inv-loop μ-loop
 zeros-requires c κs = search needs
 
 returns : tie.Need-returns Inv-loop μ-loop
-returns c =
+returns c L y =
     let b = c .before .before .before .before .before .before .before .before in
     let l = c .before .before .before .before .before .loop in
-    walking-end (b .args .t .now) (b .args .list .now) (b .args .hub) (b .args .side) (b .args .owner) (b .args .marks .now) (l .marks) (l .last) (l .k) (l .inv) (b .pre .1 .0) (c .before .before .before .before .loop-test .taken) (c .before .before .if1 .taken) (c .zeros .result) (c .zeros .ensures)
+    walking-end L (b .args .t .now) (b .args .list .now) (b .args .hub) (b .args .side) (b .args .owner) (b .args .marks .now) (l .marks) (l .last) (l .k) (l .inv L y) (b .pre .1 .0) (c .before .before .before .before .loop-test .taken) (c .before .before .if1 .taken) (c .zeros .result) (c .zeros .ensures)
 
 entry-right-requires : tie.Need-entry-right-requires Inv-loop μ-loop
-entry-right-requires c κs = (c .before .before .before .before .before .before .pre .0, omega (arith, c .if1 .left))
+entry-right-requires c κs = (c .before .before .before .before .before .before .pre .0, omega arith)
 
 returns-2 : tie.Need-returns-2 Inv-loop μ-loop
-returns-2 c =
+returns-2 c L y =
     let b = c .before .before .before .before .before .before .before .before in
     let l = c .before .before .before .before .before .loop in
-    walking-miss (b .args .t .now) (b .args .list .now) (b .args .hub) (b .args .side) (b .args .owner) (b .args .marks .now) (l .marks) (l .last) (l .k) (l .inv) (b .pre .1 .0) (c .before .before .before .before .loop-test .taken) (c .before .before .if1 .left) (sym (c .before .entry-right .ensures) ∙ not-true _ (c .if2 .taken))
+    walking-miss L (b .args .t .now) (b .args .list .now) (b .args .hub) (b .args .side) (b .args .owner) (b .args .marks .now) (l .marks) (l .last) (l .k) (l .inv L y) (b .pre .1 .0) (c .before .before .before .before .loop-test .taken) (c .before .before .if1 .left) (sym (c .before .entry-right .ensures L y) ∙ not-true _ (c .if2 .taken))
 
 -- the entry is a task in use
 used : (c : tie.Else2 Inv-loop μ-loop) → getD (c .before .before .before .before .before .before .before .before .args .list .now) (c .before .before .before .before .before .loop .k) 0 ≤ 16
 used c =
     let b = c .before .before .before .before .before .before .before .before in
     let l = c .before .before .before .before .before .loop in
-    omega (arith, b .pre .0 .tasks, walking-used (b .args .t .now) (b .args .list .now) (b .args .hub) (b .args .side) (b .args .owner) (b .args .marks .now) (l .marks) (l .last) (l .k) (l .inv) (b .pre .1 .0) (c .before .before .before .before .loop-test .taken) (c .before .before .if1 .left) (sym (c .before .entry-right .ensures) ∙ not-false _ (c .if2 .left)))
+    in-some (b .args .ts) (b .pre .0 .low) (b .pre .0 .high)
+    (λ L y. omega (arith, walking-used L (b .args .t .now) (b .args .list .now) (b .args .hub) (b .args .side) (b .args .owner) (b .args .marks .now) (l .marks) (l .last) (l .k) (l .inv L y) (b .pre .1 .0) (c .before .before .before .before .loop-test .taken) (c .before .before .if1 .left) (sym (c .before .entry-right .ensures L y) ∙ not-false _ (c .if2 .left))))
+
+sub-i : tie.Need-sub-i Inv-loop μ-loop
+sub-i c = search needs
 
 cast-i : tie.Need-cast-i Inv-loop μ-loop
 cast-i c = omega (arith, used c)
-
-sub-marks : tie.Need-sub-marks Inv-loop μ-loop
-sub-marks c = search needs
 
 mul-marks : tie.Need-mul-marks Inv-loop μ-loop
 mul-marks c = omega (arith, used c)
@@ -78,10 +81,8 @@ add-marks : tie.Need-add-marks Inv-loop μ-loop
 add-marks c =
     let b = c .before .before .before .before .before .before .before .before .before in
     let l = c .before .before .before .before .before .before .loop in
-    omega (arith, walking-low (b .args .t .now) (b .args .list .now) (b .args .hub) (b .args .side) (b .args .owner) (b .args .marks .now) (l .marks) (l .last) (l .k) (l .inv) (b .pre .1 .0) (b .pre .1 .1) (getD (b .args .list .now) (l .k) 0 - 1))
-
-sub-marks-2 : tie.Need-sub-marks-2 Inv-loop μ-loop
-sub-marks-2 c = search needs
+    in-some (b .args .ts) (b .pre .0 .low) (b .pre .0 .high)
+    (λ L y. omega (arith, walking-low L (b .args .t .now) (b .args .list .now) (b .args .hub) (b .args .side) (b .args .owner) (b .args .marks .now) (l .marks) (l .last) (l .k) (l .inv L y) (b .pre .1 .0) (b .pre .1 .1) (getD (b .args .list .now) (l .k) 0 - 1)))
 
 mul-marks-2 : tie.Need-mul-marks-2 Inv-loop μ-loop
 mul-marks-2 c = omega (arith, used (c .before))
@@ -89,17 +90,17 @@ mul-marks-2 c = omega (arith, used (c .before))
 element-write-marks : tie.Need-element-write-marks Inv-loop μ-loop
 element-write-marks c = omega (arith, used (c .before))
 
-mul-last : tie.Need-mul-last Inv-loop μ-loop
-mul-last c = omega (arith, used (c .before))
+task-at-requires : tie.Need-task-at-requires Inv-loop μ-loop
+task-at-requires c κs = (c .before .before .before .before .before .before .before .before .before .pre .0 .high, omega (arith, used (c .before)))
 
 add-last : tie.Need-add-last Inv-loop μ-loop
-add-last c = omega (arith, used (c .before))
+add-last c = search needs
 
-mul-last-2 : tie.Need-mul-last-2 Inv-loop μ-loop
-mul-last-2 c = omega (arith, used (c .before))
+mul-last : tie.Need-mul-last Inv-loop μ-loop
+mul-last c = search needs
 
 shared-slice-read-last : tie.Need-shared-slice-read-last Inv-loop μ-loop
-shared-slice-read-last c = omega (arith, used (c .before .before))
+shared-slice-read-last c = search needs
 
 add-k : tie.Need-add-k Inv-loop μ-loop
 add-k c = search needs
@@ -108,16 +109,17 @@ loop-less : tie.Need-loop-less Inv-loop μ-loop
 loop-less c = search needs
 
 loop-again : tie.Need-loop-again Inv-loop μ-loop
-loop-again c =
-    let b = c .before .before .before .before .before .before .before .before .before .before in
-    let l = c .before .before .before .before .before .before .before .loop in
-    walking-hit (b .args .t .now) (b .args .list .now) (b .args .hub) (b .args .side) (b .args .owner) (b .args .marks .now) (l .marks) (l .last) (l .k) (l .inv) (b .pre .1 .0) (c .before .before .before .before .before .before .loop-test .taken) (c .before .before .before .before .if1 .left) (sym (c .before .before .before .entry-right .ensures) ∙ not-false _ (c .before .before .if2 .left)) (b .pre .1 .1 .long) (b .pre .0 .tasks)
+loop-again c L y =
+    let b = c .before .before .before .before .before .before .before .before .before .before .before in
+    let l = c .before .before .before .before .before .before .before .before .loop in
+    let p = c .before .task-at in
+    walking-hit L (b .args .t .now) (b .args .list .now) (b .args .hub) (b .args .side) (b .args .owner) (b .args .marks .now) (l .marks) (l .last) (l .k) (l .inv L y) (b .pre .1 .0) (c .before .before .before .before .before .before .before .loop-test .taken) (c .before .before .before .before .before .if1 .left) (sym (c .before .before .before .before .entry-right .ensures L y) ∙ not-false _ (c .before .before .before .if2 .left)) y (p .result) (p .ensures .place) (b .pre .1 .1 .long) (b .pre .0 .tasks)
 
 returns-3 : tie.Need-returns-3 Inv-loop μ-loop
-returns-3 c =
+returns-3 c L y =
     let b = c .before .before .before .before in
     let l = c .before .loop in
-    walking-full (b .args .t .now) (b .args .list .now) (b .args .hub) (b .args .side) (b .args .owner) (b .args .marks .now) (l .marks) (l .last) (l .k) (l .inv) (b .pre .1 .0) (c .loop-test .left)
+    walking-full L (b .args .t .now) (b .args .list .now) (b .args .hub) (b .args .side) (b .args .owner) (b .args .marks .now) (l .marks) (l .last) (l .k) (l .inv L y) (b .pre .1 .0) (c .loop-test .left)
 
 pub walk-spec : {M : Type 1} → statement M
 walk-spec =
@@ -136,17 +138,16 @@ walk-spec =
     returns
     entry-right-requires
     returns-2
+    sub-i
     cast-i
-    sub-marks
     mul-marks
     element-copy-out-marks
     add-marks
-    sub-marks-2
     mul-marks-2
     element-write-marks
-    mul-last
+    task-at-requires
     add-last
-    mul-last-2
+    mul-last
     shared-slice-read-last
     add-k
     loop-less
