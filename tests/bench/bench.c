@@ -253,22 +253,43 @@ static void measure(const load *it, const work sides[SIDES], uint32_t rounds)
     fflush(stdout);
 }
 
+/* The kernel's side alone, for a counter of instructions around the program. */
+static uint32_t repeat(const load *it, work side, uint32_t rounds)
+{
+    uint32_t sum = 0;
+
+    for (uint32_t round = 0; round < rounds; round++) {
+        uint8_t bytes[BYTES];
+
+        memcpy(bytes, it->bytes, sizeof bytes);
+        sum += side(it, bytes, NULL);
+    }
+    return sum;
+}
+
 int main(int count, char **words)
 {
     static const work calls[SIDES] = {kernel_calls, second_byte_calls, second_word_calls,
                                       floor_reads};
     static const work summaries[SIDES] = {kernel_summaries, second_byte_summaries,
                                           second_word_summaries, floor_reads};
-    long rounds = count == 2 ? atol(words[1]) : 0;
+    long rounds = count == 2 || count == 3 ? atol(words[1]) : 0;
+    long row = count == 3 ? atol(words[2]) : 0;
 
-    if (rounds < 1 || rounds > ROUNDS_MAX) {
-        fprintf(stderr, "usage: bench ROUNDS (1 to %d)\n", ROUNDS_MAX);
+    if (rounds < 1 || rounds > ROUNDS_MAX || row < 0 || row > 5 || (count == 3 && row == 0)) {
+        fprintf(stderr, "usage: bench ROUNDS (1 to %d) [ROW (1 to 5): the kernel alone, no times]\n",
+                ROUNDS_MAX);
         return 2;
     }
     load few = draw_load("calls, 8 tasks, 8 hubs", 8, 8, 2);
     load full = draw_load("calls, 16 tasks, 16 hubs, long lists", 16, 16, 10);
     load damaged = draw_damaged("refused, last word damaged, 16/16", &full);
 
+    if (row != 0) {
+        const load *rows[] = {&few, &full, &damaged, &few, &full};
+        printf("%" PRIu32 "\n", repeat(rows[row - 1], (row <= 3 ? calls : summaries)[KERNEL], (uint32_t)rounds));
+        return 0;
+    }
     printf("longest waiting list, mean over the calls: %.1f at 8/8, %.1f at 16/16\n",
            (double)few.entries / CALLS, (double)full.entries / CALLS);
     printf("%-37s %35s  %26s\n", "", "ns a call", "kernel's time over");
