@@ -1,10 +1,10 @@
-/* The hub kernel for C and C++ hosts: two functions over a table of 2,400 bytes.
+/* The hub kernel for C and C++ hosts: three functions over a table of 2,400 bytes.
  *
  *     uint8_t table[HUB_KERNEL_TABLE_BYTES];
  *     hub_kernel_call(table, sizeof table, HUB_KERNEL_BLANK, 0, 0, 0, 0, 0, 0);
  *
  * Link with libpanel.a (`rt staticlib panel` writes target/staticlib/libpanel.a, for
- * x86-64 Linux). It exports the two functions below and uses nothing but the C
+ * x86-64 Linux). It exports the three functions below and uses nothing but the C
  * library's memcpy, memmove and memset.
  *
  * THE TABLE is 600 words of 32 bits, each as four bytes, the least first, whatever
@@ -59,6 +59,22 @@
  * and its state word beside it: state 3 is still waiting, state 2 with answer 1 is met,
  * 2 failed, 3 timed out. The word received stands at HUB_KERNEL_TASK_WORD.
  *
+ * THE LISTING is the set-up of a table as text: lines that the drill runner reads, the
+ * Blank line, one Add task line per task, one Add hub line per hub, all in number order:
+ *
+ *     0 0 0 0 0 0 0
+ *     9 0 P 0 0 0 0       P the task's priority; side 0, so no task is started
+ *     10 0 K 0 0 L S      K the hub's kind, L its limit, S its start, whatever its count
+ *
+ * each ended by a newline, without a zero byte behind the last. Run through the drill
+ * runner, every line is accepted, and they build the table with every task inactive,
+ * every count at its start, and all lists and stores empty. Two well-formed tables have
+ * the same listing exactly if they have the same priorities, kinds, limits and starts in
+ * the same order. The host lends a buffer of `room` bytes, which must not overlap the
+ * table and may stand at any address. The listing is written to its start, and the bytes
+ * after it keep what they held; room for HUB_KERNEL_LISTING_MOST bytes always suffices.
+ * A refused listing writes no byte and has length 0. No byte of the table is written.
+ *
  * REFUSALS, tested in this order:
  *
  *   1  the length isn't 2,400 bytes
@@ -71,6 +87,9 @@
  *      priority above 255 or side above 1. Service 10: kind not 1 to 5, limit or start
  *      outside the table below
  *   7  service 9 or 10 with 16 already
+ *   8  the listing: the buffer is shorter than it
+ *
+ * The listing has no service and no hub: of these it tests 1, 2 and 8.
  *
  *   kind         count                       limit          start
  *   1 Event      0 or 1                      1              0
@@ -88,7 +107,8 @@
  * ASSUMED: the prover and the compiler of Rattle, with LLVM behind it; and of the host,
  * that `table` isn't NULL (not even for 0 bytes), points to `bytes` bytes that it may
  * read (and for hub_kernel_call write), and that nothing else reads or writes them until
- * the call has returned. About 3 kB of stack are used.
+ * the call has returned; the same of `text` and its `room` bytes, which may be written and
+ * share no byte with the table. About 3 kB of stack are used.
  */
 #ifndef HUB_KERNEL_H
 #define HUB_KERNEL_H
@@ -116,6 +136,9 @@ enum {
     HUB_KERNEL_STORES_AT = 1888,
     HUB_KERNEL_STORE_BYTES = 32
 };
+
+/* Bytes of the longest listing: 16 tasks and 16 Semaphores, all numbers of full length. */
+enum { HUB_KERNEL_LISTING_MOST = 638 };
 
 /* A task record's words, in bytes from its start. */
 enum {
@@ -192,7 +215,8 @@ enum {
     HUB_KERNEL_NOT_RUNNING = 4,
     HUB_KERNEL_NOT_IN_USE = 5,
     HUB_KERNEL_BAD_ARGUMENT = 6,
-    HUB_KERNEL_TABLE_FULL = 7
+    HUB_KERNEL_TABLE_FULL = 7,
+    HUB_KERNEL_SHORT_BUFFER = 8
 };
 
 /* Largest numbers. */
@@ -222,6 +246,16 @@ typedef struct hub_kernel_summary_reply {
 
 /* Who waits at a hub. Writes nothing. */
 hub_kernel_summary_reply hub_kernel_summary(const uint8_t *table, size_t bytes, uint32_t hub);
+
+typedef struct hub_kernel_listing_reply {
+    uint32_t refusal; /* 0 accepted, else 1, 2 or 8; then nothing is written and length is 0 */
+    uint32_t length;  /* bytes written to the start of `text`, at most HUB_KERNEL_LISTING_MOST */
+} hub_kernel_listing_reply;
+
+/* The set-up of the table as drill lines, into the `room` bytes at `text`; the two must
+ * not overlap. Writes nothing else. */
+hub_kernel_listing_reply hub_kernel_listing(const uint8_t *table, size_t bytes, uint8_t *text,
+                                            size_t room);
 
 #ifdef __cplusplus
 }

@@ -151,7 +151,54 @@ typedef enum {
     ROW(SUMMARY_1, "summary: one waits")                                        \
     ROW(SUMMARY_2, "summary: 2 to 7 wait")                                      \
     ROW(SUMMARY_8, "summary: 8 and more wait")                                  \
-    ROW(SUMMARY_SUSPENDED, "summary: a suspended task waits")
+    ROW(SUMMARY_SUSPENDED, "summary: a suspended task waits")                   \
+    ROW(LISTING_LENGTH, "listing refusal 1")                                    \
+    ROW(LISTING_BYTES, "listing refusal 1: not 2400 bytes")                     \
+    ROW(LISTING_DAMAGED, "listing refusal 2")                                   \
+    ROW(LISTING_DAMAGED_AND_8, "listing refusal 2: no room for a line as well") \
+    ROW(LISTING_8, "listing refusal 8")                                         \
+    ROW(LISTING_8_NONE, "listing refusal 8: no room at all")                    \
+    ROW(LISTING_8_BY_1, "listing refusal 8: one byte missing")                  \
+    ROW(LISTING_ACCEPTED, "listing: accepted")                                  \
+    ROW(LISTING_EXACT, "listing: exactly the room there is")                    \
+    ROW(LISTING_PAST, "listing: bytes left behind it")                          \
+    ROW(LISTING_MOST_BYTES, "listing: 638 bytes")                               \
+    ROW(LISTING_TASKS_0, "listing: no task")                                    \
+    ROW(LISTING_TASKS_1, "listing: one task")                                   \
+    ROW(LISTING_TASKS_2, "listing: 2 to 15 tasks")                              \
+    ROW(LISTING_TASKS_16, "listing: 16 tasks")                                  \
+    ROW(LISTING_HUBS_0, "listing: no hub")                                      \
+    ROW(LISTING_HUBS_1, "listing: one hub")                                     \
+    ROW(LISTING_HUBS_2, "listing: 2 to 15 hubs")                                \
+    ROW(LISTING_HUBS_16, "listing: 16 hubs")                                    \
+    ROW(LISTING_STARTED, "listing: a task that isn't inactive")                 \
+    ROW(LISTING_COUNT, "listing: a count that isn't the start")                 \
+    ROW(LISTING_EVENT, "listing: Event")                                        \
+    ROW(LISTING_SEMAPHORE, "listing: Semaphore")                                \
+    ROW(LISTING_PORT, "listing: Port")                                          \
+    ROW(LISTING_FIFO, "listing: FIFO")                                          \
+    ROW(LISTING_RESOURCE, "listing: Resource")                                  \
+    ROW(LISTING_PRIORITY_1, "listing: priority of 1 digit")                     \
+    ROW(LISTING_PRIORITY_2, "listing: priority of 2 digits")                    \
+    ROW(LISTING_PRIORITY_3, "listing: priority of 3 digits")                    \
+    ROW(LISTING_LIMIT_1, "listing: limit of 1 digit")                           \
+    ROW(LISTING_LIMIT_2, "listing: limit of 2 digits")                          \
+    ROW(LISTING_LIMIT_3, "listing: limit of 3 digits")                          \
+    ROW(LISTING_LIMIT_4, "listing: limit of 4 digits")                          \
+    ROW(LISTING_LIMIT_5, "listing: limit of 5 digits")                          \
+    ROW(LISTING_START_1, "listing: start of 1 digit")                           \
+    ROW(LISTING_START_2, "listing: start of 2 digits")                          \
+    ROW(LISTING_START_3, "listing: start of 3 digits")                          \
+    ROW(LISTING_START_4, "listing: start of 4 digits")                          \
+    ROW(LISTING_START_5, "listing: start of 5 digits")                          \
+    ROW(PAIR_STRIPPED, "listings same: a table and its set-up alone")           \
+    ROW(PAIR_SAME, "listings same: before and after a call")                    \
+    ROW(PAIR_ADDED, "listings differ: before and after an Add or Blank")        \
+    ROW(PAIR_PRIORITY, "listings differ: one priority")                         \
+    ROW(PAIR_KIND, "listings differ: one kind")                                 \
+    ROW(PAIR_LIMIT, "listings differ: one limit")                               \
+    ROW(PAIR_START, "listings differ: one start")                               \
+    ROW(PAIR_OTHER, "listings differ: another table")
 
 enum {
     SERVICE_ROWS = 0,
@@ -653,6 +700,60 @@ void cover_summary(cover *seen, const uint32_t *table, size_t words, second_summ
             break;
         }
 }
+
+static size_t further_digits(uint32_t number)
+{
+    size_t digits = 0;
+    while (number >= 10) {
+        number /= 10;
+        digits++;
+    }
+    return digits;
+}
+
+/* The row for none is followed by those for one, for some and for 16. */
+static size_t size_row(uint32_t number, size_t none)
+{
+    return number == 0 ? none : number == 1 ? none + 1 : number < TASKS ? none + 2 : none + 3;
+}
+
+static void cover_listed(cover *seen, const uint32_t *table)
+{
+    hit(seen, size_row(table[TASKS_IN_USE_AT], LISTING_TASKS_0));
+    hit(seen, size_row(table[HUBS_IN_USE_AT], LISTING_HUBS_0));
+    for (uint32_t task = 0; task < table[TASKS_IN_USE_AT]; task++) {
+        hit_if(seen, task_word(table, task, T_STATE) != INACTIVE, LISTING_STARTED);
+        hit(seen, LISTING_PRIORITY_1 + further_digits(task_word(table, task, T_PRIORITY)));
+    }
+    for (uint32_t number = 0; number < table[HUBS_IN_USE_AT]; number++) {
+        const uint32_t *hub = table + hub_place(number);
+        hit_if(seen, hub[H_COUNT] != hub[H_START], LISTING_COUNT);
+        hit(seen, LISTING_EVENT + hub[H_KIND] - EVENT);
+        hit(seen, LISTING_LIMIT_1 + further_digits(hub[H_LIMIT]));
+        hit(seen, LISTING_START_1 + further_digits(hub[H_START]));
+    }
+}
+
+void cover_listing(cover *seen, const uint32_t *table, size_t needed, size_t room,
+                   second_listing_reply reply)
+{
+    hit_if(seen, reply.refusal == BAD_LENGTH, LISTING_LENGTH);
+    hit_if(seen, reply.refusal == NOT_WELL_FORMED, LISTING_DAMAGED);
+    hit_if(seen, reply.refusal == NOT_WELL_FORMED && room < 14, LISTING_DAMAGED_AND_8);
+    hit_if(seen, reply.refusal == SHORT_BUFFER, LISTING_8);
+    hit_if(seen, reply.refusal == SHORT_BUFFER && room == 0, LISTING_8_NONE);
+    hit_if(seen, reply.refusal == SHORT_BUFFER && room + 1 == needed, LISTING_8_BY_1);
+    if (reply.refusal != ACCEPTED)
+        return;
+    hit(seen, LISTING_ACCEPTED);
+    hit(seen, room == needed ? LISTING_EXACT : LISTING_PAST);
+    hit_if(seen, reply.length == LISTING_MOST, LISTING_MOST_BYTES);
+    cover_listed(seen, table);
+}
+
+void cover_listing_byte_length(cover *seen) { hit(seen, LISTING_BYTES); }
+
+void cover_pair(cover *seen, cover_relation relation) { hit(seen, PAIR_STRIPPED + relation); }
 
 void cover_damage(cover *seen, size_t family)
 {

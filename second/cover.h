@@ -21,6 +21,20 @@ void cover_call_byte_length(cover *seen, size_t bytes);
 void cover_summary(cover *seen, const uint32_t *table, size_t words, second_summary_reply reply);
 void cover_damage(cover *seen, size_t family);
 
+/* A listing on 600 words or on another length, into `room` bytes; `needed` is its
+ * length, whatever for a refused table. */
+void cover_listing(cover *seen, const uint32_t *table, size_t needed, size_t room,
+                   second_listing_reply reply);
+void cover_listing_byte_length(cover *seen);
+
+/* How two tables whose listings were compared are related: the same set-up for
+ * the first two, else another. */
+typedef enum {
+    COVER_STRIPPED, COVER_KEPT, COVER_ADDED, COVER_PRIORITY, COVER_KIND, COVER_LIMIT, COVER_START,
+    COVER_ANOTHER
+} cover_relation;
+void cover_pair(cover *seen, cover_relation relation);
+
 /* Prints the table, every reachable row with its hits. */
 void cover_print(const cover *seen);
 

@@ -1,6 +1,8 @@
-/* The tests' own working-out of document 01; expect.h says how it differs. */
+/* The tests' own working-out of document 01 and request M-100; expect.h says how
+ * it differs. */
 #include "expect.h"
 
+#include <stdio.h>
 #include <string.h>
 
 #include "numbers.h"
@@ -440,4 +442,70 @@ second_reply expect_call(uint32_t table[600], const uint32_t call[7])
         reply.answer = w.task[call[1]].answer;
     reply.next = next_of(&w);
     return reply;
+}
+
+/* ---- The listing ------------------------------------------------------- */
+
+/* A line of seven numbers of one digit has 14 bytes, its newline with them. */
+static size_t further_digits(uint32_t number)
+{
+    return (number > 9) + (number > 99) + (number > 999) + (number > 9999);
+}
+
+size_t expect_listing_length(const uint32_t *table)
+{
+    size_t length = 14 * (1 + (size_t)table[1] + table[2]);
+    world w;
+
+    read_world(&w, table);
+    for (uint32_t i = 0; i < w.tasks; i++)
+        length += further_digits(w.task[i].priority);
+    for (uint32_t i = 0; i < w.hubs; i++)
+        length += 1 + further_digits(w.hub[i].limit) + further_digits(w.hub[i].start);
+    return length;
+}
+
+second_listing_reply expect_listing(const uint32_t *table, uint8_t *text, size_t room)
+{
+    char lines[1024] = "0 0 0 0 0 0 0\n", *end = lines + 14;
+    world w;
+
+    if (!expect_well_formed(table))
+        return (second_listing_reply){2, 0};
+    if (room < expect_listing_length(table))
+        return (second_listing_reply){8, 0};
+    read_world(&w, table);
+    for (uint32_t i = 0; i < w.tasks + w.hubs; i++) {
+        const thing_hub *h = i < w.tasks ? NULL : &w.hub[i - w.tasks];
+        if (h == NULL)
+            end += sprintf(end, "9 0 %lu 0 0 0 0\n", (unsigned long)w.task[i].priority);
+        else
+            end += sprintf(end, "10 0 %lu 0 0 %lu %lu\n", (unsigned long)h->kind,
+                           (unsigned long)h->limit, (unsigned long)h->start);
+    }
+    memcpy(text, lines, (size_t)(end - lines));
+    return (second_listing_reply){0, (uint32_t)(end - lines)};
+}
+
+void expect_stripped(const uint32_t *table, uint32_t stripped[600])
+{
+    world w;
+
+    read_world(&w, table);
+    for (uint32_t i = 0; i < w.tasks; i++)
+        w.task[i] = (thing_task){INACTIVE, 0, w.task[i].priority, 0, 0, 0, 0, 0, 0};
+    for (uint32_t i = 0; i < w.hubs; i++)
+        w.hub[i] = (thing_hub){w.hub[i].kind, w.hub[i].start, w.hub[i].limit, w.hub[i].start, {0}};
+    write_world(&w, stripped);
+}
+
+int expect_same_set_up(const uint32_t *a, const uint32_t *b)
+{
+    int same = a[1] == b[1] && a[2] == b[2];
+
+    for (uint32_t i = 0; same && i < a[1]; i++)
+        same = field(a, i, 2) == field(b, i, 2);
+    for (uint32_t at = 136; same && at < 136 + 4 * a[2]; at++)
+        same = at % 4 == 1 || a[at] == b[at]; /* 137 and each fourth word on are counts */
+    return same;
 }

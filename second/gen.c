@@ -510,16 +510,34 @@ static void insert(gen_random *random, uint32_t *table, uint32_t *list, uint32_t
     list[at] = task + 1;
 }
 
+static void build_contents(uint32_t *table, uint32_t tasks, uint32_t hubs)
+{
+    memset(table, 0, WORDS * sizeof *table);
+    memcpy(table,
+           ((uint32_t[]){EDITION, tasks, hubs, TASKS_AT, HUBS_AT, READY_AT, WAITING_AT,
+                         STORES_AT}),
+           TASKS_AT * sizeof *table);
+}
+
+/* The tasks' records but for the priorities, which are there, and the lists. */
+static void build_tasks(gen_random *random, uint32_t *table, const gen_mood *mood)
+{
+    for (uint32_t task = 0; task < tasks_in_use(table); task++)
+        build_task(random, table, task, mood->waits, mood->favourite);
+    for (uint32_t task = 0; task < tasks_in_use(table); task++) {
+        if (task_field(table, task, T_STATE) == READY)
+            insert(random, table, table + READY_AT, task);
+        else if (task_field(table, task, T_STATE) == WAITING)
+            insert(random, table, table + list_place(task_field(table, task, T_HUB) - 1), task);
+    }
+}
+
 void gen_table(gen_random *random, uint32_t table[600])
 {
     gen_mood mood;
 
     gen_draw_mood(random, &mood);
-    memset(table, 0, WORDS * sizeof *table);
-    memcpy(table,
-           ((uint32_t[]){EDITION, mood.tasks, mood.hubs, TASKS_AT, HUBS_AT, READY_AT, WAITING_AT,
-                         STORES_AT}),
-           TASKS_AT * sizeof *table);
+    build_contents(table, mood.tasks, mood.hubs);
     if (gen_chance(random, 2))
         table[gen_chance(random, 50) ? TASKS_IN_USE_AT : HUBS_IN_USE_AT] = 0;
 
@@ -529,14 +547,92 @@ void gen_table(gen_random *random, uint32_t table[600])
     }
     for (uint32_t hub = 0; hub < hubs_in_use(table); hub++)
         build_hub(random, table, hub, draw_kind(random, mood.kind));
-    for (uint32_t task = 0; task < tasks_in_use(table); task++)
-        build_task(random, table, task, mood.waits, mood.favourite);
-    for (uint32_t task = 0; task < tasks_in_use(table); task++) {
-        if (task_field(table, task, T_STATE) == READY)
-            insert(random, table, table + READY_AT, task);
-        else if (task_field(table, task, T_STATE) == WAITING)
-            insert(random, table, table + list_place(task_field(table, task, T_HUB) - 1), task);
+    build_tasks(random, table, &mood);
+}
+
+/* ---- Set-ups ----------------------------------------------------------- */
+
+/* Every count of digits alike; least and most of them often. */
+static uint32_t any_digits(gen_random *random, uint32_t least, uint32_t most)
+{
+    uint32_t low = 0, high = 9, lengths = 1;
+
+    for (uint32_t rest = most; rest >= 10; rest /= 10)
+        lengths++;
+    for (uint32_t length = from_to(random, 1, lengths); length > 1; length--) {
+        low = high + 1;
+        high = high * 10 + 9;
     }
+    if (low < least)
+        low = least;
+    if (high > most)
+        high = most;
+    if (low > high)
+        return from_to(random, least, most);
+    return gen_chance(random, 30) ? ONE_OF(random, low, high) : from_to(random, low, high);
+}
+
+static uint32_t draw_size(gen_random *random)
+{
+    return gen_chance(random, 50) ? ONE_OF(random, 0, 1, TASKS) : gen_below(random, TASKS + 1);
+}
+
+/* A Semaphore with limit and start from these on; its count at an end mostly. */
+static void widen_semaphore(gen_random *random, uint32_t *hub, uint32_t least)
+{
+    hub[H_LIMIT] = any_digits(random, least > 1 ? least : 1, SEMAPHORE_MAX);
+    hub[H_START] = any_digits(random, least, hub[H_LIMIT]);
+    hub[H_COUNT] = gen_chance(random, 60) ? ONE_OF(random, 0, hub[H_LIMIT])
+                                          : any_digits(random, 0, hub[H_LIMIT]);
+}
+
+void gen_set_up(gen_random *random, uint32_t table[600])
+{
+    int longest = gen_chance(random, 5);
+    gen_mood mood;
+
+    gen_draw_mood(random, &mood);
+    mood.tasks = longest ? TASKS : draw_size(random);
+    mood.hubs = longest ? HUBS : draw_size(random);
+    build_contents(table, mood.tasks, mood.hubs);
+    for (uint32_t task = 0; task < mood.tasks; task++)
+        table[task_place(task) + T_PRIORITY] = any_digits(random, longest ? 100 : 0, PRIORITY_MAX);
+    for (uint32_t hub = 0; hub < mood.hubs; hub++) {
+        uint32_t kind = longest ? (uint32_t)SEMAPHORE : draw_kind(random, mood.kind);
+        build_hub(random, table, hub, kind);
+        if (kind == SEMAPHORE)
+            widen_semaphore(random, table + hub_place(hub), longest ? 10000 : 0);
+    }
+    build_tasks(random, table, &mood);
+}
+
+int gen_change(gen_random *random, gen_place place, uint32_t table[600])
+{
+    uint32_t count = place == GEN_PRIORITY ? tasks_in_use(table) : hubs_in_use(table);
+    uint32_t number = gen_below(random, count), *hub = table + hub_place(number), *at, old;
+
+    if (count == 0)
+        return 0;
+    at = place == GEN_PRIORITY ? table + task_place(number) + T_PRIORITY
+         : place == GEN_KIND   ? hub + H_KIND
+         : place == GEN_LIMIT  ? hub + H_LIMIT
+                               : hub + H_START;
+    old = *at;
+    switch (place) {
+    case GEN_PRIORITY:
+        *at = any_digits(random, 0, PRIORITY_MAX);
+        break;
+    case GEN_KIND:
+        *at = from_to(random, EVENT, RESOURCE);
+        break;
+    case GEN_LIMIT:
+        *at = any_digits(random, 1, hub[H_KIND] == FIFO ? FIFO_MAX : SEMAPHORE_MAX);
+        break;
+    case GEN_START:
+        *at = any_digits(random, 0, hub[H_LIMIT]);
+        break;
+    }
+    return *at != old;
 }
 
 /* ---- Damaged tables ---------------------------------------------------- */

@@ -8,6 +8,8 @@
  *   c  damaged tables, a family for each way of not being well formed:
  *      gen_damaged; and gen_flip, a few words changed at random, right or not
  *   d  drill lines, damaged ones among them: gen_drill_line
+ *   e  set-ups, for the listing: gen_set_up, and gen_change for one that differs
+ *      in one number
  */
 #ifndef GEN_H
 #define GEN_H
@@ -44,6 +46,16 @@ void gen_turn(gen_random *random, gen_mood *mood);
 void gen_call(gen_random *random, const gen_mood *mood, const uint32_t *table, uint32_t call[7]);
 
 void gen_table(gen_random *random, uint32_t table[600]);
+
+/* Well formed as well, with a set-up of every size, none and 16 often, whose
+ * numbers have every count of digits. */
+void gen_set_up(gen_random *random, uint32_t table[600]);
+
+/* Another number in one place of the set-up. The table need not stay well
+ * formed: a list may be out of order, a count above its limit. Gives 0 when there
+ * is no such place, or the number drawn is the one that stands there. */
+typedef enum { GEN_PRIORITY, GEN_KIND, GEN_LIMIT, GEN_START } gen_place;
+int gen_change(gen_random *random, gen_place place, uint32_t table[600]);
 
 /* Family 0 to gen_damages() - 1. The clause is what the family breaks: the
  * value that second_well_formed gives for each of its tables. */

@@ -1,7 +1,8 @@
 /* `gen drills SEED N` prints N drill lines, one in ten damaged; `gen expected
  * SEED N` what a drill runner prints for them. The second needs no line reader:
  * the generator knows which lines are good and what calls they hold. The table
- * between the lines is expect.c's, so that neither kernel has a say in it. */
+ * between the lines is expect.c's, so that neither kernel has a say in it.
+ * `gen listings SEED N` prints the listings of N drawn tables, expect.c's too. */
 #include <errno.h>
 #include <inttypes.h>
 #include <stdio.h>
@@ -49,6 +50,19 @@ static void print_lines(uint64_t seed, uint64_t count, int expected)
     }
 }
 
+static void print_listings(uint64_t seed, uint64_t count)
+{
+    uint32_t table[WORDS];
+    uint8_t text[LISTING_MOST];
+    gen_random random;
+
+    gen_seed(&random, seed);
+    while (count-- > 0) {
+        gen_set_up(&random, table);
+        fwrite(text, 1, expect_listing(table, text, sizeof text).length, stdout);
+    }
+}
+
 static int number_from(const char *word, uint64_t *number)
 {
     char *end;
@@ -63,11 +77,16 @@ int main(int count, char **words)
     uint64_t seed, lines;
     int drills = count == 4 && strcmp(words[1], "drills") == 0;
     int expected = count == 4 && strcmp(words[1], "expected") == 0;
+    int listings = count == 4 && strcmp(words[1], "listings") == 0;
 
-    if (!(drills || expected) || !number_from(words[2], &seed) || !number_from(words[3], &lines)) {
-        fprintf(stderr, "usage: gen drills|expected SEED N\n");
+    if (!(drills || expected || listings) || !number_from(words[2], &seed) ||
+        !number_from(words[3], &lines)) {
+        fprintf(stderr, "usage: gen drills|expected|listings SEED N\n");
         return 2;
     }
-    print_lines(seed, lines, expected);
+    if (listings)
+        print_listings(seed, lines);
+    else
+        print_lines(seed, lines, expected);
     return fflush(stdout) == 0 && !ferror(stdout) ? 0 : 1;
 }

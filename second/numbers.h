@@ -1,4 +1,4 @@
-/* The numbers of document 01, each once and with its name. Nothing here
+/* The numbers of document 01 and M-100, each once and with its name. Nothing here
  * computes anything but a place in the table. Shared by the second program,
  * its generator and its tests; the drills and the constructed cases of the
  * tests write the same numbers out, so a slip here shows there. */
@@ -37,8 +37,12 @@ enum { W = 1, NW = 2, WT = 3 };
 /* Refusals. */
 enum {
     ACCEPTED, BAD_LENGTH, NOT_WELL_FORMED, NO_SUCH_SERVICE, NOT_RUNNING,
-    NOT_IN_USE, BAD_ARGUMENT, TABLE_FULL
+    NOT_IN_USE, BAD_ARGUMENT, TABLE_FULL, SHORT_BUFFER
 };
+
+/* The listing: the longest has 16 tasks of priority 100 and more, and 16
+ * Semaphores whose limit and start have five digits. */
+enum { LISTING_MOST = 638 };
 
 static inline size_t task_place(uint32_t task) { return TASKS_AT + (size_t)task * TASK_WORDS; }
 static inline size_t hub_place(uint32_t hub) { return HUBS_AT + (size_t)hub * HUB_WORDS; }

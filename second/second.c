@@ -1,5 +1,6 @@
 /* The hub kernel of document 01, from the paper alone: well formed, lists,
- * hubs, services, refusals, edges, in that order. The contract is second.h.
+ * hubs, services, refusals, the listing, edges, in that order. The contract is
+ * second.h.
  *
  * Everything after refusal_of() relies on a well-formed table; that is why the
  * walks below have no bounds of their own: a list that a task joins has at
@@ -686,6 +687,64 @@ static void serve(uint32_t *table, const uint32_t *call)
     }
 }
 
+/* ---- The listing ------------------------------------------------------- */
+
+/* Text as it is written, byte by byte; with nowhere to write, bytes are only
+ * counted. So one description of the text gives its length first. */
+typedef struct {
+    uint8_t *text; /* or NULL */
+    size_t length;
+} writer;
+
+static void write_byte(writer *to, int byte)
+{
+    if (to->text != NULL)
+        to->text[to->length] = (uint8_t)byte;
+    to->length++;
+}
+
+static void write_number(writer *to, uint32_t number)
+{
+    if (number >= 10)
+        write_number(to, number / 10);
+    write_byte(to, '0' + (int)(number % 10));
+}
+
+static void write_line(writer *to, const uint32_t call[CALL_NUMBERS])
+{
+    for (int i = 0; i < CALL_NUMBERS; i++) {
+        write_number(to, call[i]);
+        write_byte(to, i + 1 < CALL_NUMBERS ? ' ' : '\n');
+    }
+}
+
+static void write_tasks(writer *to, const uint32_t *table)
+{
+    for (uint32_t number = 0; number < table[TASKS_IN_USE_AT]; number++) {
+        const uint32_t *task = table + task_place(number);
+        write_line(to, (uint32_t[CALL_NUMBERS]){[C_SERVICE] = ADD_TASK,
+                                                [C_TARGET] = task[T_PRIORITY]});
+    }
+}
+
+static void write_hubs(writer *to, const uint32_t *table)
+{
+    for (uint32_t number = 0; number < table[HUBS_IN_USE_AT]; number++) {
+        const uint32_t *hub = table + hub_place(number);
+        write_line(to, (uint32_t[CALL_NUMBERS]){[C_SERVICE] = ADD_HUB,
+                                                [C_TARGET] = hub[H_KIND],
+                                                [C_TICKS] = hub[H_LIMIT],
+                                                [C_WORD] = hub[H_START]});
+    }
+}
+
+static void write_set_up(writer *to, const uint32_t *table)
+{
+    write_line(to, (uint32_t[CALL_NUMBERS]){[C_SERVICE] = BLANK});
+    write_tasks(to, table);
+    write_hubs(to, table);
+}
+
 /* ---- Edges ------------------------------------------------------------- */
 
 second_reply second_call(uint32_t *table, size_t words, const uint32_t call[7])
@@ -718,6 +777,22 @@ second_summary_reply second_summary(const uint32_t *table, size_t words, uint32_
     for (; reply.count < LIST_WORDS && list[reply.count] != 0; reply.count++)
         reply.mask |= UINT32_C(1) << (list[reply.count] - 1);
     return reply;
+}
+
+second_listing_reply second_listing(const uint32_t *table, size_t words, uint8_t *text,
+                                    size_t room)
+{
+    writer counted = {NULL, 0}, written = {text, 0};
+
+    if (words != WORDS)
+        return (second_listing_reply){BAD_LENGTH, 0};
+    if (second_well_formed(table, words) != SECOND_RIGHT)
+        return (second_listing_reply){NOT_WELL_FORMED, 0};
+    write_set_up(&counted, table);
+    if (room < counted.length)
+        return (second_listing_reply){SHORT_BUFFER, 0};
+    write_set_up(&written, table);
+    return (second_listing_reply){ACCEPTED, (uint32_t)written.length};
 }
 
 static void words_from_bytes(uint32_t *table, const uint8_t *bytes)
@@ -758,4 +833,15 @@ second_summary_reply second_summary_bytes(const uint8_t *bytes, size_t length, u
         return (second_summary_reply){BAD_LENGTH, 0, 0};
     words_from_bytes(table, bytes);
     return second_summary(table, WORDS, hub);
+}
+
+second_listing_reply second_listing_bytes(const uint8_t *bytes, size_t length, uint8_t *text,
+                                          size_t room)
+{
+    uint32_t table[WORDS];
+
+    if (length != BYTES)
+        return (second_listing_reply){BAD_LENGTH, 0};
+    words_from_bytes(table, bytes);
+    return second_listing(table, WORDS, text, room);
 }

@@ -9,7 +9,7 @@
  * word. numbers.h has the places and the names of all values.
  *
  * Refusals, tested in this order; a refused call answers 0, next 0 (mask 0,
- * count 0) and writes nothing:
+ * count 0; length 0) and writes nothing:
  *   1  length isn't 600 words (2,400 bytes)
  *   2  table not well formed (never for Blank)
  *   3  service above 10
@@ -17,6 +17,7 @@
  *   5  service 1 and the summary: hub not in use; 2 to 5: task not in use
  *   6  an argument outside its range
  *   7  service 9 or 10 with 16 already
+ *   8  the listing: the buffer is shorter than it
  */
 #ifndef SECOND_H
 #define SECOND_H
@@ -35,6 +36,11 @@ typedef struct {
     uint32_t mask;    /* bit i: task i waits at the hub */
     uint32_t count;   /* the number of set bits */
 } second_summary_reply;
+
+typedef struct {
+    uint32_t refusal; /* 0 accepted, else 1, 2 or 8 */
+    uint32_t length;  /* bytes written, at most 638 */
+} second_listing_reply;
 
 /* What second_well_formed found wrong first. */
 typedef enum {
@@ -61,10 +67,19 @@ typedef enum {
 second_reply second_call(uint32_t *table, size_t words, const uint32_t call[7]);
 second_summary_reply second_summary(const uint32_t *table, size_t words, uint32_t hub);
 
+/* The set-up as drill lines (request M-100): Blank, one Add task with side 0
+ * per task, one Add hub per hub, in number order, unused fields 0, each line
+ * with its newline. Written to the start of a lent buffer of `room` bytes, which
+ * must not overlap the table; the bytes behind the listing are left. */
+second_listing_reply second_listing(const uint32_t *table, size_t words, uint8_t *text,
+                                    size_t room);
+
 /* 0 when well formed, else the first broken clause (a second_clause). */
 int second_well_formed(const uint32_t *table, size_t words);
 
 second_reply second_call_bytes(uint8_t *bytes, size_t length, const uint32_t call[7]);
 second_summary_reply second_summary_bytes(const uint8_t *bytes, size_t length, uint32_t hub);
+second_listing_reply second_listing_bytes(const uint8_t *bytes, size_t length, uint8_t *text,
+                                          size_t room);
 
 #endif

@@ -1,10 +1,13 @@
 /* The second program's tests: constructed cases, runs from Blank with demand 3
- * checked, built tables, damaged tables, coverage. `test SIZE` runs them all,
- * one line each; the first failure ends the program.
+ * checked, built tables, damaged tables, listings, coverage. `test SIZE` runs
+ * them all, one line each; the first failure ends the program.
  *
  * Each call is checked against expect.c word for word, and besides for what
  * must hold whatever expect.c says: an accepted call leaves a well-formed
- * table, a refused one leaves every word, no answer is 3. */
+ * table, a refused one leaves every word, no answer is 3.
+ *
+ * A listing is checked against expect.c byte for byte, the buffer's other bytes
+ * with it, and for what it is for: the drill runner builds the set-up from it. */
 #define _POSIX_C_SOURCE 200809L
 
 #include <inttypes.h>
@@ -19,6 +22,7 @@
 #include "gen.h"
 #include "ledger.h"
 #include "numbers.h"
+#include "runner.h"
 #include "second.h"
 
 typedef struct {
@@ -26,14 +30,15 @@ typedef struct {
     uint32_t runs, calls;         /* family a: runs, calls in each */
     uint32_t tables, table_calls; /* family b */
     uint32_t damages, flips;      /* family c: tables per family; tables with flips */
+    uint32_t set_ups, rooms;      /* family e: tables listed; tables listed into every room */
     unsigned seconds;             /* a program that loops is ended after these */
     int coverage;                 /* rows must have their hits */
 } scale;
 
 static const scale scales[] = {
-    {"quick", 60, 400, 1000, 8, 3, 3000, 60, 0},
-    {"gate", 1500, 500, 60000, 8, 110, 200000, 600, 1},
-    {"long", 20000, 1000, 1000000, 8, 1000, 5000000, 7200, 1},
+    {"quick", 60, 400, 1000, 8, 3, 3000, 200, 3, 60, 0},
+    {"gate", 1500, 500, 60000, 8, 110, 200000, 20000, 80, 600, 1},
+    {"long", 20000, 1000, 1000000, 8, 1000, 5000000, 400000, 2000, 7200, 1},
 };
 
 /* Where the tests are, for the report of a failure, and what they counted. */
@@ -42,7 +47,9 @@ typedef struct {
     uint64_t seed; /* in a constructed case: the step */
     uint64_t calls, requests;
     uint64_t digest; /* of all calls, replies and tables: the same on every machine */
+    uint64_t listings, listings_digest; /* of all listings, their replies and texts */
     gen_random random;
+    gen_random other; /* the listings' buffers: the draws of calls and tables stay as they are */
     cover seen;
     ledger book;
 } bench;
@@ -62,6 +69,7 @@ static void begin(bench *at, const char *part, uint64_t seed)
     at->part = part;
     at->seed = seed;
     gen_seed(&at->random, seed);
+    gen_seed(&at->other, ~seed);
 }
 
 static int same_words(const uint32_t *a, const uint32_t *b)
@@ -127,6 +135,112 @@ static void digest(bench *at, const uint32_t *words, size_t count)
         at->digest = (at->digest ^ words[i]) * UINT64_C(0x100000001B3); /* as FNV-1a, by words */
 }
 
+/* ---- One listing ------------------------------------------------------- */
+
+enum { PAST = 24, TEXT_BYTES = LISTING_MOST + 2 * PAST }; /* no room reaches the last PAST */
+
+/* What a buffer holds before: at no place what a listing would write there. */
+static void hold(bench *at, uint8_t *text)
+{
+    for (size_t i = 0; i < TEXT_BYTES; i++)
+        text[i] = (uint8_t)(0x80 | gen_word(&at->other));
+}
+
+static void check_listing_bytes(bench *at, const uint32_t *table, const uint8_t *held, size_t room,
+                                second_listing_reply reply, const uint8_t *after)
+{
+    uint8_t bytes[BYTES], text[TEXT_BYTES];
+
+    to_bytes(bytes, table);
+    memcpy(text, held, sizeof text);
+    second_listing_reply again = second_listing_bytes(bytes, BYTES, text, room);
+    if (memcmp(&again, &reply, sizeof reply) != 0 || memcmp(text, after, sizeof text) != 0)
+        fail(at, NULL, "the byte version of the listing differs");
+}
+
+static void digest_listing(bench *at, size_t room, second_listing_reply reply, const uint8_t *text)
+{
+    uint64_t mixed = at->listings_digest;
+
+    mixed = (mixed ^ room) * UINT64_C(0x100000001B3);
+    mixed = (mixed ^ reply.refusal) * UINT64_C(0x100000001B3);
+    for (size_t i = 0; i < reply.length; i++)
+        mixed = (mixed ^ text[i]) * UINT64_C(0x100000001B3);
+    at->listings_digest = mixed;
+}
+
+static second_listing_reply check_listing(bench *at, const uint32_t *table, size_t room)
+{
+    uint8_t held[TEXT_BYTES], text[TEXT_BYTES], expected[TEXT_BYTES];
+
+    hold(at, held);
+    memcpy(text, held, sizeof text);
+    memcpy(expected, held, sizeof expected);
+    at->listings++;
+    second_listing_reply reply = second_listing(table, WORDS, text, room);
+    second_listing_reply expects = expect_listing(table, expected, room);
+    size_t needed = expects.refusal == NOT_WELL_FORMED ? 0 : expect_listing_length(table);
+
+    if (reply.refusal != expects.refusal)
+        fail(at, NULL, "the listing: another refusal was expected");
+    if (reply.refusal != ACCEPTED && reply.length != 0)
+        fail(at, NULL, "a refused listing has a length");
+    if (reply.refusal != ACCEPTED && memcmp(text, held, sizeof text) != 0)
+        fail(at, NULL, "a refused listing was written");
+    if (reply.refusal == ACCEPTED && reply.length != needed)
+        fail(at, NULL, "the listing has another length than its numbers make");
+    if (reply.length != expects.length || memcmp(text, expected, reply.length) != 0)
+        fail(at, NULL, "another listing was expected");
+    if (memcmp(text, expected, sizeof text) != 0)
+        fail(at, NULL, "a byte after the listing changed");
+    if (at->listings % 4 == 0)
+        check_listing_bytes(at, table, held, room, reply, text);
+    cover_listing(&at->seen, table, needed, room, reply);
+    digest_listing(at, room, reply, text);
+    return reply;
+}
+
+/* None, one byte too few, just enough, one more, or any. */
+static size_t draw_room(bench *at, const uint32_t *table)
+{
+    uint32_t any = gen_below(&at->other, LISTING_MOST + PAST + 1);
+    uint32_t needed = expect_well_formed(table) ? (uint32_t)expect_listing_length(table) : any;
+
+    switch (gen_below(&at->other, 8)) {
+    case 0:
+        return gen_below(&at->other, 15);
+    case 1:
+        return needed > 0 ? needed - 1 : 0;
+    case 2:
+        return needed;
+    case 3:
+        return needed + 1 <= LISTING_MOST + PAST ? needed + 1 : needed;
+    case 4:
+        return LISTING_MOST + PAST;
+    default:
+        return any;
+    }
+}
+
+/* Two well-formed tables: one listing exactly if one set-up, and exactly if the
+ * tables are the same once all else is stripped off. Gives whether they are. */
+static int check_pair(bench *at, const uint32_t *a, const uint32_t *b)
+{
+    uint8_t text_a[LISTING_MOST], text_b[LISTING_MOST];
+    uint32_t stripped_a[WORDS], stripped_b[WORDS];
+    second_listing_reply of_a = second_listing(a, WORDS, text_a, sizeof text_a);
+    second_listing_reply of_b = second_listing(b, WORDS, text_b, sizeof text_b);
+    int same = of_a.length == of_b.length && memcmp(text_a, text_b, of_a.length) == 0;
+
+    if (of_a.refusal != ACCEPTED || of_b.refusal != ACCEPTED)
+        fail(at, NULL, "638 bytes are enough for every listing");
+    expect_stripped(a, stripped_a);
+    expect_stripped(b, stripped_b);
+    if (same != expect_same_set_up(a, b) || same != same_words(stripped_a, stripped_b))
+        fail(at, NULL, "one listing exactly if one set-up");
+    return same;
+}
+
 static second_reply check_call(bench *at, uint32_t *table, const uint32_t *call)
 {
     uint32_t before[WORDS], expected[WORDS];
@@ -162,6 +276,11 @@ static second_reply check_call(bench *at, uint32_t *table, const uint32_t *call)
     if (at->calls % 16 == 0) {
         check_bytes(at, before, call, reply, table);
         check_summary(at, table, gen_below(&at->random, gen_chance(&at->random, 90) ? 6 : 40));
+    }
+    if (at->calls % 32 == 0) {
+        check_listing(at, table, draw_room(at, table));
+        if (reply.refusal == ACCEPTED && expect_well_formed(before))
+            cover_pair(&at->seen, check_pair(at, before, table) ? COVER_KEPT : COVER_ADDED);
     }
     return reply;
 }
@@ -348,6 +467,25 @@ static void case_full(bench *at)
         fail(at, task, "6 before 7");
 }
 
+/* Another length of the table: 1 whatever the room, and nothing written. */
+static void listing_length(bench *at, const uint32_t *table, size_t words, const uint8_t *bytes,
+                           size_t byte_length)
+{
+    uint8_t held[TEXT_BYTES], text[TEXT_BYTES];
+    size_t room = gen_chance(&at->other, 50) ? 0 : LISTING_MOST;
+
+    hold(at, held);
+    memcpy(text, held, sizeof text);
+    second_listing_reply reply = second_listing(table, words, text, room);
+    second_listing_reply octets = second_listing_bytes(bytes, byte_length, text, room);
+    if (reply.refusal != 1 || reply.length != 0 || octets.refusal != 1 || octets.length != 0)
+        fail(at, NULL, "the listing: another length is refusal 1");
+    if (memcmp(text, held, sizeof text) != 0)
+        fail(at, NULL, "a refused listing was written");
+    cover_listing(&at->seen, table, 0, room, reply);
+    cover_listing_byte_length(&at->seen);
+}
+
 /* Any other length is refused for every service, Blank and the summary too. */
 static void case_lengths(bench *at)
 {
@@ -381,6 +519,8 @@ static void case_lengths(bench *at)
                 cover_summary(&at->seen, table, lengths[i], words);
             }
         }
+        for (int i = 0; i < 5; i++)
+            listing_length(at, table, lengths[i], bytes, byte_lengths[i]);
         if (memcmp(table, copy, sizeof copy) != 0 || memcmp(bytes, bytes_copy, sizeof bytes) != 0)
             fail(at, NULL, "refusal 1 changed the table");
     }
@@ -408,6 +548,67 @@ static void case_bytes(bench *at)
         fail(at, add, "the hub record as bytes");
 }
 
+/* Texts written out, and the order of the refusals. */
+static void case_listings(bench *at)
+{
+    static const uint32_t calls[][7] = {
+        {0, 0, 0, 0, 0, 0, 0},   {9, 7, 5, 1, 7, 7, 7},   {10, 7, 4, 7, 7, 1, 0},
+        {9, 0, 130, 0, 0, 0, 0}, {1, 0, 0, 1, 2, 0, 77},  {10, 0, 2, 0, 0, 65535, 40},
+        {1, 0, 1, 1, 2, 0, 0},   {10, 0, 3, 0, 0, 0, 0},  {9, 0, 42, 1, 0, 0, 0},
+        {10, 0, 1, 0, 0, 1, 0},  {10, 0, 5, 0, 0, 1, 0},  {1, 0, 4, 2, 2, 0, 0},
+        {4, 0, 2, 0, 0, 0, 0},   {7, 0, 0, 0, 0, 9, 0},
+    };
+    static const char blank_text[] = "0 0 0 0 0 0 0\n";
+    static const char text[] = "0 0 0 0 0 0 0\n"
+                               "9 0 5 0 0 0 0\n9 0 130 0 0 0 0\n9 0 42 0 0 0 0\n"
+                               "10 0 4 0 0 1 0\n10 0 2 0 0 65535 40\n10 0 3 0 0 0 0\n"
+                               "10 0 1 0 0 1 0\n10 0 5 0 0 1 0\n";
+    uint32_t table[WORDS] = {0};
+    uint8_t listed[TEXT_BYTES];
+
+    begin(at, "listings written out", 0);
+    if (check_listing(at, table, 0).refusal != 2 || check_listing(at, table, 638).refusal != 2)
+        fail(at, NULL, "all zeros isn't well formed, and 2 comes before 8");
+    for (size_t i = 0; i < sizeof calls / sizeof *calls; i++) {
+        const char *whole = i == 0 ? blank_text : text;
+        if (second_call(table, WORDS, calls[i]).refusal != 0)
+            fail(at, calls[i], "the case's calls are accepted");
+        if (i != 0 && i + 1 != sizeof calls / sizeof *calls)
+            continue;
+        size_t length = strlen(whole);
+        memset(listed, '#', sizeof listed);
+        second_listing_reply reply = second_listing(table, WORDS, listed, length + 1);
+        if (reply.refusal != 0 || reply.length != length || memcmp(listed, whole, length) != 0 ||
+            listed[length] != '#')
+            fail(at, NULL, "the case expects another listing");
+        if (check_listing(at, table, length - 1).refusal != 8 ||
+            check_listing(at, table, length).refusal != 0)
+            fail(at, NULL, "8 exactly if the buffer is shorter");
+    }
+    table[EDITION_AT] = 2;
+    if (second_listing(table, WORDS - 1, listed, 0).refusal != 1 ||
+        second_listing(table, WORDS, listed, 0).refusal != 2)
+        fail(at, NULL, "1 before 2 before 8");
+}
+
+/* The longest listing of all, into every room. */
+static void case_longest(bench *at)
+{
+    static const uint32_t blank[7] = {0}, task[7] = {9, 0, 255, 0, 0, 0, 0};
+    static const uint32_t hub[7] = {10, 0, 2, 0, 0, 65535, 65535};
+    uint32_t table[WORDS] = {0};
+
+    begin(at, "longest listing", 0);
+    second_call(table, WORDS, blank);
+    for (int i = 0; i < 16; i++) {
+        second_call(table, WORDS, task);
+        second_call(table, WORDS, hub);
+    }
+    for (size_t room = 0; room <= 638 + PAST; room++)
+        if (check_listing(at, table, room).length != (room < 638 ? 0u : 638u))
+            fail(at, NULL, "the longest listing has 638 bytes");
+}
+
 /* ---- Families ---------------------------------------------------------- */
 
 static void part_cases(bench *at)
@@ -421,6 +622,8 @@ static void part_cases(bench *at)
     case_full(at);
     case_lengths(at);
     case_bytes(at);
+    case_listings(at);
+    case_longest(at);
 }
 
 /* With `alone`, demand 3 is all that is checked: mutants/run asks whether it
@@ -495,6 +698,11 @@ static void one_damaged(bench *at, size_t family)
             fail(at, call, gen_damage_name(family));
     }
     call[C_SERVICE] = BLANK;
+    for (int i = 0; i < 3; i++) {
+        size_t room = i == 0 ? 0 : i == 1 ? LISTING_MOST : draw_room(at, table);
+        if (check_listing(at, table, room).refusal != NOT_WELL_FORMED)
+            fail(at, NULL, gen_damage_name(family));
+    }
     if (check_call(at, table, call).refusal != ACCEPTED)
         fail(at, call, "Blank takes any table");
     cover_damage(&at->seen, family);
@@ -527,6 +735,94 @@ static void part_flips(bench *at, const scale *to)
     }
 }
 
+/* The drill runner builds the set-up alone, and takes every line of it. The text
+ * comes in two pieces. */
+static void check_built(bench *at, const uint32_t *table, const uint32_t *stripped)
+{
+    uint8_t text[LISTING_MOST];
+    char printed[256] = {0};
+    second_listing_reply reply = second_listing(table, WORDS, text, sizeof text);
+    size_t cut = gen_below(&at->other, reply.length + 1), lines = 0;
+    FILE *out = fmemopen(printed, sizeof printed, "w");
+    runner run;
+
+    if (out == NULL)
+        fail(at, NULL, "no stream for the runner");
+    runner_begin(&run, out);
+    runner_feed(&run, text, cut);
+    runner_feed(&run, text + cut, reply.length - cut);
+    runner_end(&run);
+    fclose(out);
+    for (size_t i = 0; i < reply.length; i++)
+        if (text[i] == '\n' && memcmp(printed + 6 * lines++, "0 0 0\n", 6) != 0)
+            fail(at, NULL, "a line of the listing isn't accepted");
+    if (run.number != lines || lines != 1 + table[TASKS_IN_USE_AT] + table[HUBS_IN_USE_AT])
+        fail(at, NULL, "the listing has another number of lines");
+    if (!same_words(run.table, stripped))
+        fail(at, NULL, "the drill runner builds another table from the listing");
+}
+
+/* One number of the set-up changed, in the table or, where that can't be, in its
+ * set-up alone: another listing. */
+static void check_changed(bench *at, const uint32_t *table, const uint32_t *stripped,
+                          gen_place place)
+{
+    uint32_t changed[WORDS];
+
+    for (int i = 0; i < 4; i++) {
+        memcpy(changed, i < 2 ? table : stripped, sizeof changed);
+        if (!gen_change(&at->random, place, changed) || !expect_well_formed(changed))
+            continue;
+        if (check_pair(at, table, changed) || check_pair(at, changed, stripped))
+            fail(at, NULL, "another set-up has the same listing");
+        cover_pair(&at->seen, COVER_PRIORITY + (cover_relation)place);
+        return;
+    }
+}
+
+static void every_room(bench *at, const uint32_t *table)
+{
+    size_t needed = expect_listing_length(table);
+
+    for (size_t room = 0; room <= needed + PAST; room++)
+        if (check_listing(at, table, room).refusal != (room < needed ? 8u : 0u))
+            fail(at, NULL, "8 exactly if the buffer is shorter");
+}
+
+/* Tables that no run need reach, every second one with numbers of every length. */
+static void part_listings(bench *at, const scale *to)
+{
+    uint32_t table[WORDS], stripped[WORDS], last[WORDS];
+
+    expect_stripped((uint32_t[WORDS]){EDITION}, last);
+    for (uint32_t i = 0; i < to->set_ups; i++) {
+        begin(at, "listings", i);
+        if (i % 2 == 0)
+            gen_set_up(&at->random, table);
+        else
+            gen_table(&at->random, table);
+        if (second_well_formed(table, WORDS) != SECOND_RIGHT || !expect_well_formed(table))
+            fail(at, NULL, "a built table isn't well formed");
+        size_t needed = expect_listing_length(table);
+        check_listing(at, table, needed - 1);
+        check_listing(at, table, needed);
+        check_listing(at, table, draw_room(at, table));
+        if (i < to->rooms)
+            every_room(at, table);
+
+        expect_stripped(table, stripped);
+        check_built(at, table, stripped);
+        if (!check_pair(at, table, stripped))
+            fail(at, NULL, "the set-up alone has another listing");
+        cover_pair(&at->seen, COVER_STRIPPED);
+        for (int place = GEN_PRIORITY; place <= GEN_START; place++)
+            check_changed(at, table, stripped, (gen_place)place);
+        if (!check_pair(at, last, table))
+            cover_pair(&at->seen, COVER_ANOTHER);
+        memcpy(last, table, sizeof last);
+    }
+}
+
 /* ---- The parts --------------------------------------------------------- */
 
 static double seconds(void)
@@ -537,11 +833,10 @@ static double seconds(void)
 }
 
 /* One line: the part, what it did, how long it took. */
-static void report(bench *at, const char *part, const char *what, uint64_t calls_before,
+static void report(const char *part, const char *what, uint64_t count, const char *of,
                    double since)
 {
-    printf("%-10s %10" PRIu64 " calls  %6.1f s  ok  %s\n", part, at->calls - calls_before,
-           seconds() - since, what);
+    printf("%-10s %10" PRIu64 " %s  %6.1f s  ok  %s\n", part, count, of, seconds() - since, what);
     fflush(stdout);
 }
 
@@ -552,29 +847,38 @@ static void run_parts(bench *at, const scale *to)
     double since = seconds();
 
     part_cases(at);
-    report(at, "cases", "marked lines, refusal order, lengths, bytes, corners", calls, since);
+    report("cases", "marked lines, refusal order, lengths, bytes, corners, listings",
+           at->calls - calls, "calls", since);
 
     calls = at->calls, since = seconds();
     part_runs(at, to, 0);
     snprintf(what, sizeof what, "%" PRIu32 " runs from Blank, demand 3 over %" PRIu64 " requests",
              to->runs, at->requests);
-    report(at, "runs", what, calls, since);
+    report("runs", what, at->calls - calls, "calls", since);
 
     calls = at->calls, since = seconds();
     part_tables(at, to);
     snprintf(what, sizeof what, "%" PRIu32 " built tables", to->tables);
-    report(at, "tables", what, calls, since);
+    report("tables", what, at->calls - calls, "calls", since);
 
     calls = at->calls, since = seconds();
     part_damaged(at, to);
     snprintf(what, sizeof what, "%zu families of %" PRIu32 " damaged tables", gen_damages(),
              to->damages);
-    report(at, "damaged", what, calls, since);
+    report("damaged", what, at->calls - calls, "calls", since);
 
     calls = at->calls, since = seconds();
     part_flips(at, to);
     snprintf(what, sizeof what, "%" PRIu32 " tables with words changed", to->flips);
-    report(at, "flips", what, calls, since);
+    report("flips", what, at->calls - calls, "calls", since);
+
+    uint64_t listings = at->listings;
+    since = seconds();
+    part_listings(at, to);
+    snprintf(what, sizeof what,
+             "%" PRIu32 " set-ups, %" PRIu32 " into every room; %" PRIu64 " texts in parts above",
+             to->set_ups, to->rooms, listings);
+    report("listings", what, at->listings - listings, "texts", since);
 }
 
 static void check_coverage(bench *at)
@@ -609,6 +913,7 @@ int main(int count, char **words)
         if (scales[i].coverage)
             check_coverage(&at);
         printf("digest     %016" PRIx64 "\n", at.digest);
+        printf("digest     %016" PRIx64 " of the listings\n", at.listings_digest);
         return 0;
     }
     fprintf(stderr, "usage: test quick|gate|long [coverage|demand3]\n");

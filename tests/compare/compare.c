@@ -1,11 +1,13 @@
-/* The proved kernel, through hub_kernel_call and hub_kernel_summary, against the
- * second program: after every call the reply and every byte of the table, and
- * the summary of a hub. `compare SIZE` runs all parts, one line each; the first
- * difference ends the program.
+/* The proved kernel, through hub_kernel_call, hub_kernel_summary and
+ * hub_kernel_listing, against the second program: after every call the reply and
+ * every byte of the table, and the summary of a hub; of listings the reply and
+ * every byte of the buffer. `compare SIZE` runs all parts, one line each; the
+ * first difference ends the program.
  *
  * Each side keeps its own table through a run, so a difference can't be mended
  * by the other. The kernel's table moves to another address before every call,
- * odd ones among them, and the bytes around it are watched. */
+ * odd ones among them, and the bytes around it are watched; so does its buffer
+ * before every listing. */
 #define _POSIX_C_SOURCE 200809L
 
 #include <inttypes.h>
@@ -27,31 +29,35 @@ typedef struct {
     uint32_t damages;             /* tables of each family of damage */
     uint32_t flips;               /* tables with a few words changed at random */
     uint32_t lengths;             /* tables of each odd length */
+    uint32_t set_ups, rooms;      /* tables listed; of these, into every room */
     uint64_t least;               /* calls that this size promises */
     unsigned seconds;             /* a program that loops is ended after these */
 } scale;
 
 static const scale scales[] = {
-    {"quick", 60, 300, 1500, 8, 2, 3000, 100, 30000, 300},
-    {"gate", 1200, 400, 40000, 8, 40, 150000, 1500, 1000000, 600},
-    {"long", 20000, 1000, 1000000, 8, 800, 4000000, 20000, 30000000, 14400},
-    {"campaign", 65000, 1000, 3200000, 8, 2600, 13000000, 65000, 100000000, 14400},
+    {"quick", 60, 300, 1500, 8, 2, 3000, 100, 500, 10, 30000, 300},
+    {"gate", 1200, 400, 40000, 8, 40, 150000, 1500, 15000, 100, 1000000, 600},
+    {"long", 20000, 1000, 1000000, 8, 800, 4000000, 20000, 400000, 3000, 30000000, 14400},
+    {"campaign", 65000, 1000, 3200000, 8, 2600, 13000000, 65000, 1300000, 10000, 100000000, 14400},
 };
 
 static const size_t odd_lengths[] = {0, 1, 4, 2396, 2399, 2401, 2404};
 
 enum { LONGEST = BYTES + 4, AROUND = 64, PLACES = 16, WATCHED = 0xA5 };
+enum { PAST = 24, ROOM_MOST = LISTING_MOST + PAST };
 
 typedef struct {
     const char *part;
     uint64_t seed; /* of the part's draws, for the report of a difference */
     uint64_t calls;
     uint64_t refusals[8], answers[3], waiters;
+    uint64_t listings, listing_refusals[SHORT_BUFFER + 1], longest;
     gen_random random; /* the calls and tables */
     gen_random other;  /* places and hubs: the draws of the calls stay the generator's own */
     uint8_t room[AROUND + PLACES + LONGEST + AROUND];
     uint8_t *table; /* the kernel's, somewhere in the room */
     size_t length;
+    uint8_t text_room[AROUND + PLACES + ROOM_MOST + AROUND]; /* the kernel's buffer is in here */
 } comparison;
 
 /* ---- Reports ----------------------------------------------------------- */
@@ -166,13 +172,90 @@ static void check_summary(comparison *at, uint32_t hub, second_summary_reply sec
     at->waiters += kernel.count;
 }
 
+/* What the buffer holds before: drawn bytes, none that a listing has. */
+static void lay_text(comparison *at)
+{
+    for (size_t i = 0; i < sizeof at->text_room; i++)
+        at->text_room[i] = (uint8_t)(0x80 | gen_word(&at->other));
+}
+
+/* Bytes before the buffer have numbers below 0. */
+static void differ_in_text(const comparison *at, size_t place, size_t room,
+                           const uint8_t *expected)
+{
+    char what[96];
+    size_t i = 0;
+
+    while (at->text_room[i] == expected[i])
+        i++;
+    snprintf(what, sizeof what, "byte %td of a buffer of %zu is %u, the second program's %u",
+             (ptrdiff_t)i - (ptrdiff_t)place, room, at->text_room[i], expected[i]);
+    differ(at, NULL, what);
+}
+
+/* The listing of the kernel's table, which is `bytes`, into a buffer of so many
+ * bytes: the reply, every byte in and around the buffer, every byte of the table. */
+static void check_listing(comparison *at, const uint8_t *bytes, size_t room)
+{
+    uint8_t expected[sizeof at->text_room];
+    size_t place = AROUND + gen_below(&at->other, PLACES);
+
+    lay_text(at);
+    memcpy(expected, at->text_room, sizeof expected);
+    at->listings++;
+    hub_kernel_listing_reply kernel = hub_kernel_listing(at->table, at->length,
+                                                         at->text_room + place, room);
+    second_listing_reply second = second_listing_bytes(bytes, at->length, expected + place, room);
+    if (kernel.refusal != second.refusal || kernel.length != second.length)
+        differ_by(at, NULL, "the listing's reply", (uint32_t[]){kernel.refusal, kernel.length, 0},
+                  (uint32_t[]){second.refusal, second.length, 0});
+    if (memcmp(at->text_room, expected, sizeof expected) != 0)
+        differ_in_text(at, place, room, expected);
+    if (memcmp(at->table, bytes, at->length) != 0)
+        differ_in(at, NULL, bytes);
+    check_around(at, NULL);
+    at->listing_refusals[kernel.refusal]++;
+    if (kernel.length > at->longest)
+        at->longest = kernel.length;
+}
+
+/* How long a well-formed table's listing is, to draw a room near it; else any. */
+static size_t needed_room(comparison *at, const uint8_t *bytes)
+{
+    uint8_t text[LISTING_MOST];
+    second_listing_reply reply = second_listing_bytes(bytes, at->length, text, sizeof text);
+
+    return reply.refusal == ACCEPTED ? reply.length : gen_below(&at->other, LISTING_MOST + 1);
+}
+
+static size_t draw_room(comparison *at, const uint8_t *bytes)
+{
+    size_t needed = needed_room(at, bytes);
+
+    switch (gen_below(&at->other, 8)) {
+    case 0:
+        return gen_below(&at->other, 15);
+    case 1:
+        return needed > 0 ? needed - 1 : 0;
+    case 2:
+        return needed;
+    case 3:
+        return needed + 1;
+    case 4:
+        return ROOM_MOST;
+    default:
+        return gen_below(&at->other, ROOM_MOST + 1);
+    }
+}
+
 /* Mostly a hub in use, else any number. */
 static uint32_t draw_hub(comparison *at)
 {
     return gen_chance(&at->other, 95) ? gen_below(&at->other, HUBS + 1) : gen_word(&at->other);
 }
 
-/* The call on both tables, and the summary of the table after it. */
+/* The call on both tables, and the summary of the table after it; after each 16th
+ * call the listing too. */
 static second_reply compare(comparison *at, uint32_t *words, const uint32_t *call)
 {
     uint8_t expected[BYTES];
@@ -187,6 +270,8 @@ static second_reply compare(comparison *at, uint32_t *words, const uint32_t *cal
     if (memcmp(at->table, expected, BYTES) != 0)
         differ_in(at, call, expected);
     check_around(at, call);
+    if (at->calls % 16 == 0)
+        check_listing(at, expected, draw_room(at, expected));
     return second;
 }
 
@@ -237,16 +322,53 @@ static void part_tables(comparison *at, const scale *to)
     }
 }
 
+/* Tables that no run need reach, every second one with numbers of every length:
+ * none, one byte too few, just enough, more; and some into every room. */
+static void part_listings(comparison *at, const scale *to)
+{
+    uint32_t words[WORDS];
+    uint8_t bytes[BYTES];
+
+    for (uint32_t i = 0; i < to->set_ups; i++) {
+        begin(at, "listings", i);
+        if (i % 2 == 0)
+            gen_set_up(&at->random, words);
+        else
+            gen_table(&at->random, words);
+        to_bytes(bytes, words);
+        lay(at, bytes, BYTES);
+        size_t needed = needed_room(at, bytes);
+        check_listing(at, bytes, 0);
+        check_listing(at, bytes, needed - 1);
+        check_listing(at, bytes, needed);
+        check_listing(at, bytes, needed + 1 + gen_below(&at->other, PAST));
+        check_listing(at, bytes, draw_room(at, bytes));
+        for (size_t room = 0; i < to->rooms && room <= needed + PAST; room++)
+            check_listing(at, bytes, room);
+    }
+}
+
+/* Without room, with room for any listing, and with a drawn room. */
+static void listing_rooms(comparison *at, const uint8_t *bytes)
+{
+    check_listing(at, bytes, 0);
+    check_listing(at, bytes, ROOM_MOST);
+    check_listing(at, bytes, draw_room(at, bytes));
+}
+
 /* Every service, two numbers above them, and Blank last, since it mends the table. */
 static void part_damaged(comparison *at, const scale *to)
 {
     uint32_t words[WORDS], call[CALL_NUMBERS];
+    uint8_t bytes[BYTES];
 
     for (size_t family = 0; family < gen_damages(); family++) {
         begin(at, gen_damage_name(family), family);
         for (uint32_t i = 0; i < to->damages; i++) {
             gen_damaged(&at->random, family, words);
             lay_words(at, words);
+            to_bytes(bytes, words);
+            listing_rooms(at, bytes);
             for (uint32_t service = HUB_REQUEST; service <= ADD_HUB + 3; service++) {
                 for (int j = 0; j < CALL_NUMBERS; j++)
                     call[j] = gen_below(&at->random, 4);
@@ -300,6 +422,7 @@ static void part_lengths(comparison *at, const scale *to)
             if (memcmp(at->table, bytes, odd_lengths[i]) != 0)
                 differ_in(at, call, bytes);
             check_around(at, call);
+            listing_rooms(at, bytes);
         }
     }
 }
@@ -316,11 +439,12 @@ static double seconds(void)
 static void part(comparison *at, const scale *to, const char *name,
                  void (*run)(comparison *, const scale *))
 {
-    uint64_t calls = at->calls;
+    uint64_t calls = at->calls, listings = at->listings;
     double since = seconds();
 
     run(at, to);
-    printf("%-10s %10" PRIu64 " calls  %6.1f s  same\n", name, at->calls - calls, seconds() - since);
+    printf("%-10s %10" PRIu64 " calls %8" PRIu64 " listings  %6.1f s  same\n", name,
+           at->calls - calls, at->listings - listings, seconds() - since);
     fflush(stdout);
 }
 
@@ -340,7 +464,15 @@ static int check_seen(const comparison *at)
         fine = fine && at->answers[i] > 0;
     }
     printf("; waiters in summaries: %" PRIu64 "\n", at->waiters);
-    return fine;
+    printf("listings: accepted, refused with 1, 2, 8:");
+    for (uint32_t i = 0; i <= SHORT_BUFFER; i++) {
+        if (i > NOT_WELL_FORMED && i < SHORT_BUFFER)
+            continue;
+        printf(" %" PRIu64, at->listing_refusals[i]);
+        fine = fine && at->listing_refusals[i] > 0;
+    }
+    printf("; the longest %" PRIu64 " bytes\n", at->longest);
+    return fine && at->longest == LISTING_MOST;
 }
 
 int main(int count, char **words)
@@ -357,8 +489,10 @@ int main(int count, char **words)
         part(&at, &scales[i], "damaged", part_damaged);
         part(&at, &scales[i], "flips", part_flips);
         part(&at, &scales[i], "lengths", part_lengths);
+        part(&at, &scales[i], "listings", part_listings);
         int fine = check_seen(&at);
         printf("compare: %" PRIu64 " calls, every byte of every table the same\n", at.calls);
+        printf("compare: %" PRIu64 " listings, every byte of every buffer the same\n", at.listings);
         if (!fine || at.calls < scales[i].least) {
             printf("compare: FAILED, too little was seen\n");
             return 1;

@@ -1,18 +1,16 @@
 /* libFuzzer's target for the drill runner: the second program's, whole, over
  * any bytes. What it keeps as new ground is run through ./drill and compared
  * line by line (run). */
-#define main second_drill_main
-#include "drill.c"
-#undef main
+#include "runner.h"
 
 int LLVMFuzzerTestOneInput(const uint8_t *data, size_t size);
 
 int LLVMFuzzerTestOneInput(const uint8_t *data, size_t size)
 {
-    runner run = {{0}, 0, 0, {0}};
+    runner run;
 
-    feed(&run, data, size);
-    if (run.length > 0)
-        end_line(&run);
+    runner_begin(&run, stdout);
+    runner_feed(&run, data, size);
+    runner_end(&run);
     return 0;
 }

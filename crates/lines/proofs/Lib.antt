@@ -6,3 +6,4 @@ pub mod Putting
 pub mod Reading
 pub mod Steps
 pub mod Texts
+pub mod Writing

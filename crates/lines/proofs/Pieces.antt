@@ -48,7 +48,7 @@ joined-pieces sep p (b ∷ bs) =
 abbrev pub lacks : ℕ → List ℕ → Bool
 lacks sep p = all (λ b. not (eqb b sep)) p
 
-pieces-lacking : (sep : ℕ) (p q bs : List ℕ) → lacks sep q ≡ true → piecesFrom sep p (q ++ bs) ≡ piecesFrom sep (p ++ q) bs
+pub pieces-lacking : (sep : ℕ) (p q bs : List ℕ) → lacks sep q ≡ true → piecesFrom sep p (q ++ bs) ≡ piecesFrom sep (p ++ q) bs
 unfolding all
 pieces-lacking sep p [] bs e = rw (append-nil p)
 pieces-lacking sep p (b ∷ q) bs e =

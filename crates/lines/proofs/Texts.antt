@@ -34,13 +34,13 @@ length-number w e =
     let h : value w ≤ numberLimit = number-within w e in
     omega (arith, ap length (number-text w e), length-decimal 9 (value w) (omega arith))
 
-digits-lack : (w : List ℕ) → all isDigit w ≡ true → lacks space w ≡ true
+digits-lack : (sep : ℕ) → sep < zeroDigit → (w : List ℕ) → all isDigit w ≡ true → lacks sep w ≡ true
 unfolding all
-digits-lack [] e = refl
-digits-lack (b ∷ w) e =
+digits-lack sep h [] e = refl
+digits-lack sep h (b ∷ w) e =
     let l : zeroDigit ≤ b = digit-low b (and-l (isDigit b) (all isDigit w) e) in
-    let n : eqb b space ≡ false = ne-eqb b space (λ q. omega arith) in
-    rw n (digits-lack w (and-r (isDigit b) (all isDigit w) e))
+    let n : eqb b sep ≡ false = ne-eqb b sep (λ q. omega arith) in
+    rw n (digits-lack sep h w (and-r (isDigit b) (all isDigit w) e))
 
 decimal-digits : (w : List ℕ) → isDecimal w ≡ true → all isDigit w ≡ true
 unfolding all isDecimal
@@ -50,6 +50,10 @@ decimal-digits (d ∷ f ∷ w) e =
     let first : isDigit d && not (eqb d zeroDigit) ≡ true = and-l (isDigit d && not (eqb d zeroDigit)) (all isDigit (f ∷ w)) e in
     and-both (isDigit d) (all isDigit (f ∷ w)) (and-l (isDigit d) (not (eqb d zeroDigit)) first)
     (and-r (isDigit d && not (eqb d zeroDigit)) (all isDigit (f ∷ w)) e)
+
+-- no byte of a number is one that stands below the digits: a space, a newline
+pub decimal-lacks : (sep : ℕ) → sep < zeroDigit → (n : ℕ) → lacks sep (decimal n) ≡ true
+decimal-lacks sep h n = digits-lack sep h (decimal n) (decimal-digits (decimal n) (isDecimal-decimal n))
 
 -- ---- a line of numbers
 
@@ -118,7 +122,7 @@ unfolding all
 decimals-lack [] = refl
 decimals-lack (n ∷ ns) =
     and-both (lacks space (decimal n)) (all (lacks space) (map decimal ns))
-    (digits-lack (decimal n) (decimal-digits (decimal n) (isDecimal-decimal n))) (decimals-lack ns)
+    (decimal-lacks space (omega arith) n) (decimals-lack ns)
 
 values-decimal : (ns : List ℕ) → map value (map decimal ns) ≡ ns
 values-decimal [] = refl

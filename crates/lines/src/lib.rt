@@ -1,7 +1,7 @@
 // The drill runner's line reader and line writer, over bytes. A line is read byte by byte into a state by value, so that it
 // may cross chunks of any size and an overlong line takes no memory. specs/Lines.antt says what a line is and what is printed.
 // Bytes are not counted: seven numbers take at most 76, so the limit of 80 turns no line away (proofs/Texts.antt).
-ghost use Prim.Native.Nat.{_+_, _<_, _≤_};
+ghost use Prim.Native.Nat.{_*_, _+_, _<_, _≤_};
 ghost use Rattle.lines.specs.Lines.{Put, badText, decimal, printRoom, printed};
 ghost use Rattle.lines.specs.Scan.{byteStep, digitStep, isFresh, lineOfScan, nextOf, progressOf, push, spaceStep, startOf};
 ghost use Rattle.lines.specs.Scan.{spoilt as Scan·spoilt};
@@ -281,6 +281,51 @@ pub fn write_reply(out: &mut [u8], at: usize, refusal: u32, answer: u32, next: u
     let a = put_number(out, at, refusal as u64, SPACE);
     let b = put_number(out, a, answer as u64, SPACE);
     put_number(out, b, next as u64, NEWLINE)
+}
+
+// How many digits n has.
+fn decimal_length(n: u32) -> usize
+    ensures { λ r. ⌜ r ≡ length (decimal n) ⌝ }
+{
+    let mut left = n;
+    let mut digits = 1;
+    while 9 < left {
+        left = left / 10;
+        digits += 1;
+    }
+    digits
+}
+
+// How many bytes the line of these numbers has, newline and all.
+pub fn numbers_length(ns: &[u32]) -> usize
+    requires { ⌜ 1 ≤ length (now ns) ⌝ }
+    requires { ⌜ length (now ns) ≤ 65535 ⌝ }
+    ensures { λ r. ⌜ r ≡ length (printed (now (ns .entry))) ⌝ }
+    ensures { λ r. ⌜ r ≤ length (now (ns .entry)) * 11 ⌝ }
+{
+    let mut bytes = 0;
+    let mut k = 0;
+    while k < ns.len() {
+        bytes += decimal_length(ns[k]) + 1;
+        k += 1;
+    }
+    bytes
+}
+
+// Writes the line of these numbers, newline and all, at `at`, and answers the place behind it.
+pub fn write_numbers(out: &mut [u8], at: usize, ns: &[u32]) -> usize
+    requires { ⌜ 1 ≤ length (now ns) ⌝ }
+    requires { ⌜ at + length (printed (now ns)) ≤ length (now out) ⌝ }
+    ensures { λ r. ⌜ Put (now (out .entry)) at (printed (now (ns .entry))) r (now (out .exit)) ⌝ }
+{
+    let mut end = at;
+    let mut k = 0;
+    while k < ns.len() {
+        let after = if k + 1 < ns.len() { SPACE } else { NEWLINE };
+        end = put_number(out, end, ns[k] as u64, after);
+        k += 1;
+    }
+    end
 }
 
 // Writes `line N bad` and a newline at `at`, and answers the place behind it.

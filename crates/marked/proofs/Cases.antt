@@ -5,10 +5,11 @@ use Rattle.lines.specs.Lines.{all, areNumbers, badText, decimal, digits, isDeci
 use Rattle.lines.specs.declared.Line.the-variants.{Bad, Good}
 use Rattle.lines.specs.declared.Line.{Line}
 use Rattle.lists.specs.Lists.{insert, without}
-use Rattle.marked.proofs.States.{on-words, stateAfter, stateBy, textFrom}
+use Rattle.marked.proofs.States.{on-words, textFrom}
 use Rattle.marked.specs.Marked.{Row, inputOf, outputOf, rows}
 use Rattle.rules.proofs.Kept.{valid-blank}
 use Rattle.rules.proofs.Promise.{blank-accepted}
+use Rattle.rules.proofs.States.{stateAfter, stateBy}
 use Rattle.rules.specs.Calls.{addHub, addStarted, addTask, blank, hold, kept, meetAll, newHub, serve, served, serviceOf, settle, start, tickAll, tickBy, tickOne, wait}
 use Rattle.rules.specs.HubTable.{getFifo, onGet, onPut, onSide, putFifo, verdict}
 use Rattle.rules.specs.Lists.{answer, answered, counted, firstFree, firstWaiting, holding, joinHub, joinReady, leave, next, queued, readied, unqueue, waits, wake}

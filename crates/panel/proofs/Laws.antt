@@ -1,9 +1,11 @@
 -- Laws of the definitions of specs/Edge.antt, one for each way out of the exported functions: another length; 2,400 bytes, and
--- the call refused or accepted; the summary of 2,400 bytes. And what a refused call leaves (`refused-keeps`).
+-- the call refused or accepted; the summary and the listing of 2,400 bytes. And what a refused call leaves (`refused-keeps`).
 -- Not here: words from bytes and back (crate bytes4). Assumes nothing.
 use Prim.Native.Nat.{suc, zero, ℕ}
 use Rattle.bytes4.specs.Bytes.{Packed, Unpacked}
-use Rattle.panel.specs.Edge.{Called, edgeAfter, edgeReply, edgeSummary, numbersOf, summaryNumbersOf, tableBytes}
+use Rattle.listing.specs.Listing.{ListedIn}
+use Rattle.listing.specs.declared.Listed.{Listed}
+use Rattle.panel.specs.Edge.{Called, ListedBytes, edgeAfter, edgeListing, edgeReply, edgeSummary, edgeText, listingNumbersOf, numbersOf, summaryNumbersOf, tableBytes}
 use Rattle.panel.specs.declared.HubKernelReply.{HubKernelReply}
 use Rattle.panel.specs.declared.HubKernelSummaryReply.{HubKernelSummaryReply}
 use Rattle.rules.specs.Reply.{refusalNumber, replyBy, replyIn, replyTo, summaryOf, tableAfter, tableBy, tableIn}
@@ -71,3 +73,18 @@ module _ (b : List ℕ) where
       → summaryNumbersOf s ≡ edgeSummary b i
   unfolding edgeSummary
   summed i h u e = rw (eq-eqb (length b) tableBytes h, ← u .words, ← e)
+
+  -- ---- the ways out of the listing
+
+  pub listed-length : (text : List ℕ) → (length b ≡ tableBytes → ⊥) → ListedBytes b text (record { refusal = 1; length = 0 }) text
+  unfolding edgeListing edgeText
+  listed-length text h = record { reply = rw (ne-eqb (length b) tableBytes h); bytes = rw (ne-eqb (length b) tableBytes h) }
+
+  pub listed : (text : List ℕ) → length b ≡ tableBytes → {t : List ℕ} → Unpacked b t → {r : Listed} {text′ : List ℕ} → ListedIn one t text r text′
+      → ListedBytes b text (listingNumbersOf r) text′
+  unfolding edgeListing edgeText
+  listed text h u e =
+      record {
+        reply = rw (eq-eqb (length b) tableBytes h, ← u .words, ← e .reply);
+        bytes = rw (eq-eqb (length b) tableBytes h, ← u .words) (e .bytes);
+      }

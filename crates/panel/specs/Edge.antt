@@ -1,11 +1,15 @@
 -- "Panel edges": the calls over bytes, for every byte length and every content, by the calls over words.
--- `edgeReply`, `edgeAfter` and `edgeSummary` are what the exported functions promise. Not here: words from bytes and back
+-- `edgeReply`, `edgeAfter`, `edgeSummary`, `edgeListing` and `edgeText` are what the exported functions promise. Not here: words from bytes and back
 -- (crate bytes4), the rules (crate rules).
 use Prim.Native.Nat.{ℕ}
 use Rattle.bytes4.specs.Bytes.{bytesOf, wordsFrom}
+use Rattle.listing.specs.Listing.{listingReply, textAfter}
+use Rattle.listing.specs.declared.Listed.{Listed}
+use Rattle.panel.specs.declared.HubKernelListingReply.{HubKernelListingReply}
 use Rattle.panel.specs.declared.HubKernelReply.{HubKernelReply}
 use Rattle.panel.specs.declared.HubKernelSummaryReply.{HubKernelSummaryReply}
 use Rattle.rules.specs.Reply.{answerNumber, refusalNumber, replyTo, summaryOf, tableAfter}
+use Rattle.rules.specs.Table.{one}
 use Rattle.rules.specs.declared.Call.{Call}
 use Rattle.rules.specs.declared.Reply.{Reply}
 use Rattle.rules.specs.declared.Summary.{Summary}
@@ -48,3 +52,18 @@ pub record Called (before : List ℕ) (c : Call) (r : HubKernelReply) (after : L
   pub reply : r ≡ edgeReply before c
   pub bytes : after ≡ edgeAfter before c
   pub words : length before ≡ tableBytes → wordsFrom after ≡ tableAfter (wordsFrom before) c
+
+-- ---- M-100: the listing, over bytes
+
+abbrev pub listingNumbersOf : Listed → HubKernelListingReply
+listingNumbersOf r = record { refusal = r .refusal; length = r .length }
+
+unfoldable pub edgeListing : List ℕ → ℕ → HubKernelListingReply
+edgeListing b room = cond (eqb (length b) tableBytes) (listingNumbersOf (listingReply one (wordsFrom b) room)) (record { refusal = 1; length = 0 })
+
+unfoldable pub edgeText : List ℕ → List ℕ → List ℕ
+edgeText b text = cond (eqb (length b) tableBytes) (textAfter one (wordsFrom b) text) text
+
+pub record ListedBytes (b text : List ℕ) (r : HubKernelListingReply) (text′ : List ℕ) : Type 0 where
+  pub reply : r ≡ edgeListing b (length text)
+  pub bytes : text′ ≡ edgeText b text

@@ -1,6 +1,6 @@
 // The C edge: "A host program in C hands the table as 2,400 bytes, words little-endian, and the call's numbers".
-// Thin over the word kernel. include/hub_kernel.h has the same two functions for C.
-ghost use Rattle.panel.specs.Edge.{Called, callOf, edgeSummary, numbersOf};
+// Thin over the word kernel. include/hub_kernel.h has the same three functions for C.
+ghost use Rattle.panel.specs.Edge.{Called, ListedBytes, callOf, edgeSummary, numbersOf};
 ghost use mathlib.Core.Path.{_≡_};
 use rules::Call;
 use rules::Reply;
@@ -20,6 +20,12 @@ pub struct HubKernelSummaryReply {
     pub refusal: u32,
     pub mask: u32,
     pub count: u32,
+}
+
+#[repr(C)]
+pub struct HubKernelListingReply {
+    pub refusal: u32,
+    pub length: u32,
 }
 
 // The paper's numbers of a reply.
@@ -96,5 +102,25 @@ pub extern "C" fn hub_kernel_summary(table: &[u8], hub: u32) -> HubKernelSummary
         refusal: s.refusal,
         mask: s.mask,
         count: s.count,
+    }
+}
+
+// The listing of the table, written into a lent buffer.
+#[no_mangle]
+pub extern "C" fn hub_kernel_listing(table: &[u8], text: &mut [u8]) -> HubKernelListingReply
+    ensures { λ r. ⌜ ListedBytes (now (table .entry)) (now (text .entry)) r (now (text .exit)) ⌝ }
+{
+    if table.len() != BYTES {
+        return HubKernelListingReply {
+            refusal: rules::WRONG_LENGTH,
+            length: 0,
+        };
+    }
+    let mut words = [0u32; records::TABLE_SIZE];
+    bytes4::unpack(table, &mut words);
+    let r = listing::list(&words, text);
+    HubKernelListingReply {
+        refusal: r.refusal,
+        length: r.length,
     }
 }

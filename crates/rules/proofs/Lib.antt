@@ -20,6 +20,7 @@ pub mod Rows
 pub mod Settled
 pub mod Shapes
 pub mod Standing
+pub mod States
 pub mod Tests
 pub mod Valid
 pub mod Verdicts

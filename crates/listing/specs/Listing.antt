@@ -1,0 +1,116 @@
+-- M-100, "Listing writer": the set-up of a panel, its text, and the table that the text builds. In the paper's order: the set-up;
+-- its lines; the listing; what it builds; when it is refused, and what the buffer holds afterwards.
+-- Not here: that the drill runner builds it, and that it is the only such text (proofs/).
+use Prim.Native.Nat.{_*_, _+_, _-_, ℕ}
+use Rattle.lines.specs.Lines.{printed}
+use Rattle.listing.specs.declared.Listed.{Listed}
+use Rattle.records.specs.Records.{hubsAt}
+use Rattle.rules.specs.Refusals.{need}
+use Rattle.rules.specs.Table.{Hub, Layout, State, Task, inactive, one, read, size, tab}
+use Rattle.rules.specs.WellFormed.{wellFormedIn}
+use lib.Dec.{eqb, leb}
+use lib.ListN.{drop, getD, length}
+use mathlib.Core.Bool.{cond}
+use mathlib.Core.List.{List, [], _++_, _∷_, map}
+use mathlib.Core.Path.{_≡_}
+
+-- ---- the set-up: the priorities of the tasks, and of the hubs kind, limit and start, all in number order
+
+pub record HubSetUp : Type 0 where
+  pub kind : ℕ
+  pub limit : ℕ
+  pub start : ℕ
+
+pub record SetUp : Type 0 where
+  pub priorities : List ℕ
+  pub hubs : List HubSetUp
+
+abbrev pub hubSetUp : Hub → HubSetUp
+hubSetUp h = record { kind = h .kind; limit = h .limit; start = h .start }
+
+abbrev pub priorityOf : Task → ℕ
+priorityOf t = t .priority
+
+unfoldable pub setUp : State → SetUp
+setUp s = record { priorities = map priorityOf (s .tasks); hubs = map hubSetUp (s .hubs) }
+
+-- ---- its lines, seven numbers each: "the Blank line, one Add task line per task with side 0, and one Add hub line per hub, all in
+-- number order, unused fields 0"
+
+abbrev pub blankLine : List ℕ
+blankLine = 0 ∷ 0 ∷ 0 ∷ 0 ∷ 0 ∷ 0 ∷ 0 ∷ []
+
+abbrev pub taskLine : ℕ → List ℕ
+taskLine p = 9 ∷ 0 ∷ p ∷ 0 ∷ 0 ∷ 0 ∷ 0 ∷ []
+
+abbrev pub hubLine : HubSetUp → List ℕ
+hubLine h = 10 ∷ 0 ∷ h .kind ∷ 0 ∷ 0 ∷ h .limit ∷ h .start ∷ []
+
+unfoldable pub setUpLines : SetUp → List (List ℕ)
+setUpLines u = blankLine ∷ (map taskLine (u .priorities) ++ map hubLine (u .hubs))
+
+-- "each line ended by a newline"
+unfoldable pub textOfLines : List (List ℕ) → List ℕ
+textOfLines [] = []
+textOfLines (l ∷ ls) = printed l ++ textOfLines ls
+
+-- a text of this form
+unfoldable pub setUpText : SetUp → List ℕ
+setUpText u = textOfLines (setUpLines u)
+
+-- ---- the listing of a table
+
+unfoldable pub listingIn : Layout → List ℕ → List ℕ
+listingIn L t = setUpText (setUp (read L t))
+
+abbrev pub listing : List ℕ → List ℕ
+listing = listingIn one
+
+-- ---- what it builds: "the same table with every task inactive, every count at its start, and all lists and stores empty"
+
+abbrev pub newHub : HubSetUp → Hub
+newHub h = record { kind = h .kind; count = h .start; limit = h .limit; start = h .start; waiters = []; held = [] }
+
+unfoldable pub built : SetUp → State
+built u = record { tasks = map inactive (u .priorities); hubs = map newHub (u .hubs); ready = [] }
+
+abbrev pub stripped : State → State
+stripped s = built (setUp s)
+
+-- ---- "New refusal 8, after 1 and 2: the buffer is shorter than the listing"
+
+unfoldable pub listingRefusal : Layout → List ℕ → ℕ → ℕ
+listingRefusal L t room =
+    need (eqb (length t) (size L)) 1 (need (wellFormedIn L t) 2 (need (leb (length (listingIn L t)) room) 8 0))
+
+-- "Then nothing is written and the length given back is 0. Bytes after the listing keep what they held."
+unfoldable pub listingReply : Layout → List ℕ → ℕ → Listed
+listingReply L t room =
+    record {
+      refusal = listingRefusal L t room;
+      length = cond (eqb (listingRefusal L t room) 0) (length (listingIn L t)) 0;
+    }
+
+unfoldable pub textAfter : Layout → List ℕ → List ℕ → List ℕ
+textAfter L t text =
+    cond (eqb (listingRefusal L t (length text)) 0) (listingIn L t ++ drop (length (listingIn L t)) text) text
+
+pub record ListedIn (L : Layout) (t text : List ℕ) (r : Listed) (text′ : List ℕ) : Type 0 where
+  pub reply : r ≡ listingReply L t (length text)
+  pub bytes : text′ ≡ textAfter L t text
+
+-- ---- the lines by their words: line k of a table whose task records have ts words, n of them in use
+
+unfoldable pub lineAt : ℕ → List ℕ → ℕ → ℕ → List ℕ
+lineAt ts t n k =
+    cond (eqb k 0) blankLine
+    (cond (leb k n) (taskLine (getD t (8 + (k - 1) * ts + 2) 0))
+    (hubLine record {
+      kind = getD t (hubsAt ts + (k - 1 - n) * 4) 0;
+      limit = getD t (hubsAt ts + (k - 1 - n) * 4 + 2) 0;
+      start = getD t (hubsAt ts + (k - 1 - n) * 4 + 3) 0;
+    }))
+
+-- all of them, with m hubs in use
+abbrev pub linesAt : ℕ → List ℕ → ℕ → ℕ → List (List ℕ)
+linesAt ts t n m = tab (1 + n + m) 0 (lineAt ts t n)

@@ -1,0 +1,142 @@
+-- What the lines of a set-up do to a state: each is accepted, adds its task or its hub, and prints 0 0 0. In order: one call; calls in
+-- a row; the tasks; the hubs. Not here: how the lines are read (Reading.antt). Assumes nothing.
+use Prim.Native.Nat.{_+_, _<_, _≤_, suc, zero, ℕ}
+use Rattle.lines.specs.Lines.{numbersOf, printed}
+use Rattle.listing.specs.Listing.{HubSetUp, hubLine, newHub as hubFrom, taskLine, textOfLines}
+use Rattle.rebuilt.proofs.Reading.{good}
+use Rattle.rebuilt.specs.Rebuilt.{Every, GoodHub, allAccepted}
+use Rattle.rules.proofs.States.{reply-words, stateAfter, stateBy, table-words, valid-after}
+use Rattle.rules.proofs.Valid.{Valid}
+use Rattle.rules.specs.Calls.{addHub, addTask, newHub, serve, served, serviceOf}
+use Rattle.rules.specs.Lists.{firstFree, next}
+use Rattle.rules.specs.Refusals.{need, refusal, refusalFor}
+use Rattle.rules.specs.Reply.{bearsAnswer, outcome, replyBy, replyTo, tableAfter}
+use Rattle.rules.specs.Table.{State, inactive, one, words}
+use Rattle.rules.specs.declared.Call.{Call}
+use Rattle.runner.proofs.Runs.{table-append}
+use Rattle.runner.specs.Runner.{callOf, replyText, tableThrough, textThrough}
+use borrow.Author.Tests.{le-leb, lt-ltb}
+use lib.ListN.{length, length-append}
+use mathlib.Core.Bool.{false}
+use mathlib.Core.List.{List, [], _++_, _∷_, append-assoc, append-nil, map}
+use mathlib.Core.Path.{_∙_, _≡_, ap, ap₂, refl, subst, sym}
+use native.Mathlib.Nat.{zero-add}
+use native.Mathlib.Omega.{arith}
+
+abbrev accepted : List ℕ
+accepted = 0 ∷ 0 ∷ 0 ∷ []
+
+-- ---- calls in a row, from a state to another
+
+pub record Steps (s : State) (ls : List (List ℕ)) (s′ : State) : Type 0 where
+  pub table : tableThrough (words one s) (map good ls) ≡ words one s′
+  pub text : textThrough (words one s) (map good ls) ≡ allAccepted (length ls)
+  pub valid : Valid s′
+  pub ready : s′ .ready ≡ []
+
+pub steps-none : (s : State) → Valid s → s .ready ≡ [] → Steps s [] s
+unfolding tableThrough textOfLines textThrough
+steps-none s v e = record { table = refl; text = refl; valid = v; ready = e }
+
+module _ (s : State) (v : Valid s) (l : List ℕ) (s₁ : State)
+    (accept : refusal s (callOf (numbersOf l)) ≡ 0) (served-is : served s (callOf (numbersOf l)) ≡ s₁)
+    (silent : bearsAnswer (serviceOf (callOf (numbersOf l) .service)) ≡ false) (none : s₁ .ready ≡ []) where
+  abbrev c : Call
+  c = callOf (numbersOf l)
+
+  after : stateAfter s c ≡ s₁
+  unfolding stateAfter stateBy
+  after = rw accept served-is
+
+  one-table : tableAfter (words one s) c ≡ words one s₁
+  one-table = table-words s v c ∙ ap (words one) after
+
+  one-text : replyText (replyTo (words one s) c) ≡ printed accepted
+  unfolding firstFree next outcome replyBy replyText
+  one-text = rw (reply-words s v c, accept, served-is, silent, none)
+
+  pub step-valid : Valid s₁
+  step-valid = subst Valid after (valid-after s v c)
+
+  pub steps-cons : (ls : List (List ℕ)) (s′ : State) → Steps s₁ ls s′ → Steps s (l ∷ ls) s′
+  unfolding tableThrough textOfLines textThrough
+  steps-cons ls s′ w = record {
+    table = ap (λ (t : List ℕ). tableThrough t (map good ls)) one-table ∙ w .table;
+    text = ap₂ {C = List ℕ} _++_ one-text (ap (λ (t : List ℕ). textThrough t (map good ls)) one-table ∙ w .text);
+    valid = w .valid;
+    ready = w .ready;
+  }
+
+text-append : (t : List ℕ) (a b : List (List ℕ)) → textThrough t (map good (a ++ b)) ≡ textThrough t (map good a) ++ textThrough (tableThrough t (map good a)) (map good b)
+unfolding tableThrough textThrough
+text-append t [] b = refl
+text-append t (l ∷ a) b = ap (λ (r : List ℕ). replyText (replyTo t (callOf (numbersOf l))) ++ r) (text-append (tableAfter t (callOf (numbersOf l))) a b) ∙ sym (append-assoc (replyText (replyTo t (callOf (numbersOf l)))) _ _)
+
+accepted-append : (m n : ℕ) → allAccepted (m + n) ≡ allAccepted m ++ allAccepted n
+unfolding textOfLines
+accepted-append zero n = rw zero-add
+accepted-append (suc m) n = let e : suc m + n ≡ suc (m + n) = omega arith in rw e (ap (λ (r : List ℕ). printed accepted ++ r) (accepted-append m n) ∙ sym (append-assoc (printed accepted) _ _))
+
+map-append : (a b : List (List ℕ)) → map good (a ++ b) ≡ map good a ++ map good b
+map-append [] b = refl
+map-append (x ∷ a) b = rw (map-append a b)
+
+pub steps-append : (s s₁ s′ : State) (a b : List (List ℕ)) → Steps s a s₁ → Steps s₁ b s′ → Steps s (a ++ b) s′
+steps-append s s₁ s′ a b p q = record {
+  table = rw (map-append a b, table-append (words one s) (map good a) (map good b), p .table) (q .table);
+  text = text-append (words one s) a b ∙ rw (p .table, p .text, q .text, length-append a b) (sym (accepted-append (length a) (length b)));
+  valid = q .valid;
+  ready = q .ready;
+}
+
+-- ---- the tasks
+
+abbrev pub moreTasks : List ℕ → State → State
+moreTasks ps s = record { tasks = s .tasks ++ map inactive ps; hubs = s .hubs; ready = s .ready }
+
+module _ (s : State) (room : length (s .tasks) < 16) (p : ℕ) (low : p ≤ 255) where
+  task-accepted : refusal s (callOf (numbersOf (taskLine p))) ≡ 0
+  unfolding need numbersOf refusal refusalFor serviceOf
+  task-accepted = rw (le-leb p 255 low, lt-ltb (length (s .tasks)) 16 room)
+
+  task-served : served s (callOf (numbersOf (taskLine p))) ≡ addTask p s
+  unfolding numbersOf serve served serviceOf
+  task-served = refl
+
+pub add-tasks : (ps : List ℕ) (s : State) → Valid s → s .ready ≡ [] → length (s .tasks) + length ps ≤ 16 → Every (λ p. p ≤ 255) ps → Steps s (map taskLine ps) (moreTasks ps s)
+unfolding Every addTask bearsAnswer numbersOf serviceOf
+add-tasks [] s v e room low = subst (Steps s []) (rw (append-nil (s .tasks))) (steps-none s v e)
+add-tasks (p ∷ ps) s v e room low =
+    let here : length (s .tasks) < 16 = omega arith in
+    let s₁ = addTask p s in
+    let a = task-accepted s here p (low .0) in
+    let w = step-valid s v (taskLine p) s₁ a (task-served s here p (low .0)) refl e in
+    let rest = add-tasks ps s₁ w e (omega (arith, length-append (s .tasks) (inactive p ∷ []))) (low .1) in
+    subst (Steps s (map taskLine (p ∷ ps))) (rw (append-assoc (s .tasks) (inactive p ∷ []) (map inactive ps)))
+    (steps-cons s v (taskLine p) s₁ a (task-served s here p (low .0)) refl e (map taskLine ps) (moreTasks ps s₁) rest)
+
+-- ---- the hubs
+
+abbrev pub moreHubs : List HubSetUp → State → State
+moreHubs hs s = record { tasks = s .tasks; hubs = s .hubs ++ map hubFrom hs; ready = s .ready }
+
+module _ (s : State) (room : length (s .hubs) < 16) (h : HubSetUp) (fine : GoodHub h) where
+  hub-accepted : refusal s (callOf (numbersOf (hubLine h))) ≡ 0
+  unfolding need numbersOf refusal refusalFor serviceOf
+  hub-accepted = rw (fine, lt-ltb (length (s .hubs)) 16 room)
+
+  hub-served : served s (callOf (numbersOf (hubLine h))) ≡ addHub (hubFrom h) s
+  unfolding newHub numbersOf serve served serviceOf
+  hub-served = refl
+
+pub add-hubs : (hs : List HubSetUp) (s : State) → Valid s → s .ready ≡ [] → length (s .hubs) + length hs ≤ 16 → Every GoodHub hs → Steps s (map hubLine hs) (moreHubs hs s)
+unfolding Every addHub bearsAnswer numbersOf serviceOf
+add-hubs [] s v e room fine = subst (Steps s []) (rw (append-nil (s .hubs))) (steps-none s v e)
+add-hubs (h ∷ hs) s v e room fine =
+    let here : length (s .hubs) < 16 = omega arith in
+    let s₁ = addHub (hubFrom h) s in
+    let a = hub-accepted s here h (fine .0) in
+    let w = step-valid s v (hubLine h) s₁ a (hub-served s here h (fine .0)) refl e in
+    let rest = add-hubs hs s₁ w e (omega (arith, length-append (s .hubs) (hubFrom h ∷ []))) (fine .1) in
+    subst (Steps s (map hubLine (h ∷ hs))) (rw (append-assoc (s .hubs) (hubFrom h ∷ []) (map hubFrom hs)))
+    (steps-cons s v (hubLine h) s₁ a (hub-served s here h (fine .0)) refl e (map hubLine hs) (moreHubs hs s₁) rest)
