@@ -98,10 +98,11 @@
  *   4 FIFO       words held, 0 to limit      1 to 8         0
  *   5 Resource   0 free, else owner plus 1   1              0
  *
- * PROVED, for every length and every content of the table and every seven numbers: the
- * call returns, reads and writes nothing but the table, and its reply and every byte
- * afterwards are those of the rules (crate panel, `hub_kernel_call` and
- * `hub_kernel_summary`, whose contracts have no condition). The tables after any run of
+ * PROVED, for every length and every content of the table, every seven numbers and every
+ * buffer: the call returns, reads nothing but the table, writes nothing but the table (the
+ * listing: nothing but the buffer), and its reply and every byte afterwards are those of
+ * the rules (crate panel, `hub_kernel_call`, `hub_kernel_summary` and
+ * `hub_kernel_listing`, whose contracts have no condition). The tables after any run of
  * calls from a Blank stay well formed, so refusal 2 never comes there.
  *
  * ASSUMED: the prover and the compiler of Rattle, with LLVM behind it; and of the host,
