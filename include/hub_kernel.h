@@ -21,6 +21,8 @@
  * Tasks are numbered 0 to T - 1 and hubs 0 to H - 1, at most 16 of each, in the order
  * in which they were added. A list holds task number plus 1 per entry. Everything
  * unused is 0. Any bytes may be handed in: a table that isn't well formed is refusal 2.
+ * A table whose Resource is owned by an inactive task isn't well formed either (the kernel
+ * before M-101 could leave one behind, by a Stop of the owner): no call but Blank mends it.
  *
  * OWNERSHIP. The host owns the table and lends it for one call. The kernel keeps
  * nothing between calls: no globals, no allocation, no system call. Two tables are two
@@ -45,6 +47,11 @@
  *
  * A number that a service doesn't name is ignored. The caller of services 1 to 7 must be
  * the running task, the one that `next` of the call before named.
+ *
+ * Stop takes the task from any list and makes it inactive; then each Resource that it
+ * owned passes, in hub number order, to that hub's first waiter, who is met and owns it
+ * (answer 1 in its record, as after an unlock), or becomes free. So one Stop may wake up
+ * to 14 tasks; its own answer tells of the Stop alone.
  *
  *   answer 0  nothing yet: the caller waits or sleeps (and always 0 for 0, 8, 9 and 10)
  *   answer 1  OK: the request was met, the service done

@@ -29,7 +29,6 @@ typedef enum {
     ROW(WAITS_MAX, "request: waits with 1000000 ticks")                         \
     ROW(WAITS_1, "request: waits with 1 tick")                                  \
     ROW(START_OK, "Start: inactive")                                            \
-    ROW(START_OWNER, "Start: inactive, owns a Resource")                        \
     ROW(START_READY, "Start FAIL: ready")                                       \
     ROW(START_WAITING, "Start FAIL: waiting")                                   \
     ROW(START_SLEEPING, "Start FAIL: sleeping")                                 \
@@ -39,10 +38,33 @@ typedef enum {
     ROW(STOP_SUSPENDED_READY, "Stop: suspended, ready")                         \
     ROW(STOP_SUSPENDED_WAITING, "Stop: suspended, waiting")                     \
     ROW(STOP_SUSPENDED_SLEEPING, "Stop: suspended, sleeping")                   \
-    ROW(STOP_OWNER, "Stop: owns a Resource")                                    \
-    ROW(STOP_OWNER_AWAITED, "Stop: owns a Resource that tasks wait for")        \
+    ROW(STOP_OWNS_0, "Stop: owns no Resource")                                  \
+    ROW(STOP_OWNS_1, "Stop: owns 1 Resource, nobody waits")                     \
+    ROW(STOP_OWNS_2, "Stop: owns 2 Resources, nobody waits")                    \
+    ROW(STOP_OWNS_3, "Stop: owns 3 and more, nobody waits")                     \
+    ROW(STOP_AWAITED_1, "Stop: owns 1 Resource, somebody waits")                \
+    ROW(STOP_AWAITED_2, "Stop: owns 2 Resources, somebody waits")               \
+    ROW(STOP_AWAITED_3, "Stop: owns 3 and more, somebody waits")                \
+    ROW(STOP_OWNER_READY, "Stop: an owner, ready")                              \
+    ROW(STOP_OWNER_WAITING, "Stop: an owner, waiting")                          \
+    ROW(STOP_OWNER_SLEEPING, "Stop: an owner, sleeping")                        \
+    ROW(STOP_OWNER_SUSPENDED, "Stop: an owner, suspended")                      \
+    ROW(STOP_MEETS_1, "Stop: one waiter met")                                   \
+    ROW(STOP_MEETS_2, "Stop: two waiters met")                                  \
+    ROW(STOP_MEETS_3, "Stop: 3 to 7 waiters met")                               \
+    ROW(STOP_MEETS_8, "Stop: 8 to 13 waiters met")                              \
+    ROW(STOP_MEETS_14, "Stop: 14 waiters met")                                  \
+    ROW(STOP_PASSES_AND_FREES, "Stop: one Resource passes, one becomes free")   \
+    ROW(STOP_MEETS_SUSPENDED, "Stop: a suspended waiter becomes owner")         \
+    ROW(STOP_MEETS_TICKS, "Stop: a waiter with ticks left becomes owner")       \
+    ROW(STOP_MEETS_NO_LIMIT, "Stop: a waiter without limit becomes owner")      \
+    ROW(STOP_LEAVES_SECOND, "Stop: a second waiter goes on waiting")            \
+    ROW(STOP_MEETS_URGENT, "Stop: a waiter met runs next")                      \
+    ROW(STOP_MEETS_EQUALS, "Stop: meets equals, hub against task order")        \
+    ROW(STOP_RING, "Stop: meets the owner of what it waited for")               \
     ROW(STOP_INACTIVE, "Stop FAIL: inactive")                                   \
     ROW(STOP_CALLER, "Stop FAIL: the caller")                                   \
+    ROW(STOP_CALLER_OWNER, "Stop FAIL: the caller, an owner")                   \
     ROW(SUSPEND_READY, "Suspend: ready")                                        \
     ROW(SUSPEND_WAITING, "Suspend: waiting")                                    \
     ROW(SUSPEND_SLEEPING, "Suspend: sleeping")                                  \
@@ -293,14 +315,10 @@ static uint32_t task_word(const uint32_t *table, uint32_t task, size_t field)
     return table[task_place(task) + field];
 }
 
-static int owns(const uint32_t *table, uint32_t task, int awaited)
+static int owns(const uint32_t *table, uint32_t task, uint32_t hub)
 {
-    for (uint32_t hub = 0; hub < table[HUBS_IN_USE_AT]; hub++)
-        if (table[hub_place(hub) + H_KIND] == RESOURCE &&
-            table[hub_place(hub) + H_COUNT] == task + 1 &&
-            (!awaited || table[list_place(hub)] != 0))
-            return 1;
-    return 0;
+    return table[hub_place(hub) + H_KIND] == RESOURCE &&
+           table[hub_place(hub) + H_COUNT] == task + 1;
 }
 
 static uint32_t length_of(const uint32_t *list)
@@ -382,20 +400,87 @@ static void cover_start(cover *seen, const uint32_t *before, const uint32_t *cal
     uint32_t target = call[C_TARGET], state = task_word(before, target, T_STATE);
 
     hit_if(seen, state == INACTIVE, START_OK);
-    hit_if(seen, state == INACTIVE && owns(before, target, 0), START_OWNER);
     hit_if(seen, state == READY && target != call[C_CALLER], START_READY);
     hit_if(seen, state == WAITING, START_WAITING);
     hit_if(seen, state == SLEEPING, START_SLEEPING);
     hit_if(seen, target == call[C_CALLER], START_CALLER);
 }
 
-static void cover_stop(cover *seen, const uint32_t *before, const uint32_t *call)
+/* The Resources that a task owns, in hub number order, and their first waiters. */
+typedef struct {
+    uint32_t owned, met;
+    uint32_t first[HUBS];  /* of those that somebody waits for: the first waiter */
+    uint32_t second[HUBS]; /* the one behind it, plus 1, or 0 */
+} locks;
+
+static locks locks_of(const uint32_t *table, uint32_t task)
+{
+    locks of = {0, 0, {0}, {0}};
+
+    for (uint32_t hub = 0; hub < table[HUBS_IN_USE_AT]; hub++) {
+        const uint32_t *list = table + list_place(hub);
+        if (!owns(table, task, hub))
+            continue;
+        of.owned++;
+        if (list[0] != 0) {
+            of.second[of.met] = list[1];
+            of.first[of.met++] = list[0] - 1;
+        }
+    }
+    return of;
+}
+
+static void cover_passed(cover *seen, const uint32_t *before, const locks *of, uint32_t hub)
+{
+    for (uint32_t i = 0; i < of->met; i++) {
+        uint32_t waiter = of->first[i], last = i > 0 ? of->first[i - 1] : waiter;
+        hit_if(seen, task_word(before, waiter, T_SUSPENDED) == 1, STOP_MEETS_SUSPENDED);
+        hit(seen, task_word(before, waiter, T_TICKS) > 0 ? STOP_MEETS_TICKS : STOP_MEETS_NO_LIMIT);
+        hit_if(seen, of->second[i] != 0, STOP_LEAVES_SECOND);
+        hit_if(seen, last > waiter && task_word(before, last, T_PRIORITY) ==
+                                          task_word(before, waiter, T_PRIORITY),
+               STOP_MEETS_EQUALS);
+        hit_if(seen, hub != 0 && owns(before, waiter, hub - 1), STOP_RING);
+    }
+}
+
+/* The row for one Resource is followed by those for two and for more. */
+static void cover_stop_owner(cover *seen, const uint32_t *before, const uint32_t *call,
+                             second_reply reply)
+{
+    uint32_t target = call[C_TARGET], state = task_word(before, target, T_STATE);
+    const locks of = locks_of(before, target);
+
+    if (of.owned == 0) {
+        hit(seen, STOP_OWNS_0);
+        return;
+    }
+    hit(seen, (of.met == 0 ? STOP_OWNS_1 : STOP_AWAITED_1) + (of.owned < 3 ? of.owned : 3) - 1);
+    hit_if(seen, state == READY, STOP_OWNER_READY);
+    hit_if(seen, state == WAITING, STOP_OWNER_WAITING);
+    hit_if(seen, state == SLEEPING, STOP_OWNER_SLEEPING);
+    hit_if(seen, task_word(before, target, T_SUSPENDED) == 1, STOP_OWNER_SUSPENDED);
+    hit_if(seen, of.met == 1, STOP_MEETS_1);
+    hit_if(seen, of.met == 2, STOP_MEETS_2);
+    hit_if(seen, of.met >= 3 && of.met < 8, STOP_MEETS_3);
+    hit_if(seen, of.met >= 8 && of.met < 14, STOP_MEETS_8);
+    hit_if(seen, of.met == 14, STOP_MEETS_14);
+    hit_if(seen, of.met > 0 && of.met < of.owned, STOP_PASSES_AND_FREES);
+    hit_if(seen, reply.next != 0 && task_word(before, reply.next - 1, T_STATE) == WAITING,
+           STOP_MEETS_URGENT);
+    cover_passed(seen, before, &of, task_word(before, target, T_HUB));
+}
+
+static void cover_stop(cover *seen, const uint32_t *before, const uint32_t *call,
+                       second_reply reply)
 {
     uint32_t target = call[C_TARGET], state = task_word(before, target, T_STATE);
     int suspended = task_word(before, target, T_SUSPENDED) == 1;
 
     hit_if(seen, state == INACTIVE, STOP_INACTIVE);
     hit_if(seen, target == call[C_CALLER], STOP_CALLER);
+    hit_if(seen, target == call[C_CALLER] && locks_of(before, target).owned > 0,
+           STOP_CALLER_OWNER);
     if (state == INACTIVE || target == call[C_CALLER])
         return;
     hit_if(seen, state == READY, STOP_READY);
@@ -403,8 +488,7 @@ static void cover_stop(cover *seen, const uint32_t *before, const uint32_t *call
     hit_if(seen, suspended && state == READY, STOP_SUSPENDED_READY);
     hit_if(seen, suspended && state == WAITING, STOP_SUSPENDED_WAITING);
     hit_if(seen, suspended && state == SLEEPING, STOP_SUSPENDED_SLEEPING);
-    hit_if(seen, owns(before, target, 0), STOP_OWNER);
-    hit_if(seen, owns(before, target, 1), STOP_OWNER_AWAITED);
+    cover_stop_owner(seen, before, call, reply);
     if (state == WAITING)
         hit(seen, WITHDRAWN_ROWS +
                       kind_side(before[hub_place(task_word(before, target, T_HUB) - 1) + H_KIND],
@@ -508,7 +592,7 @@ static void cover_accepted(cover *seen, const uint32_t *before, const uint32_t *
         cover_start(seen, before, call);
         break;
     case STOP:
-        cover_stop(seen, before, call);
+        cover_stop(seen, before, call, reply);
         break;
     case SUSPEND:
         cover_suspend(seen, before, call);

@@ -1,4 +1,4 @@
-/* The coverage table: which ways through document 01 the tests took, told
+/* The coverage table: which ways through the papers' rules the tests took, told
  * from the calls, their replies and the tables around them. */
 #ifndef COVER_H
 #define COVER_H

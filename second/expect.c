@@ -1,5 +1,5 @@
-/* The tests' own working-out of document 01 and request M-100; expect.h says how
- * it differs. */
+/* The tests' own working-out of document 01 and requests M-100 and M-101; expect.h
+ * says how it differs. */
 #include "expect.h"
 
 #include <stdio.h>
@@ -99,6 +99,15 @@ static int waiter_holds(const uint32_t *table, uint32_t hub, uint32_t task)
     return count == 0;
 }
 
+/* "A table whose Resource owner is inactive is now not well formed." */
+static int owner_holds(const uint32_t *table, uint32_t hub)
+{
+    for (uint32_t task = 0; task < table[1]; task++)
+        if (field(table, task, 0) == 1 && table[137 + hub * 4] == task + 1)
+            return 0;
+    return 1;
+}
+
 static int hub_holds(const uint32_t *table, uint32_t hub)
 {
     uint32_t kind = table[136 + hub * 4], count = table[137 + hub * 4];
@@ -107,7 +116,8 @@ static int hub_holds(const uint32_t *table, uint32_t hub)
                 (kind == 2 && count <= limit && limit >= 1 && limit <= 65535 && start <= limit) ||
                 (kind == 3 && count == 0 && limit == 0 && start == 0) ||
                 (kind == 4 && count <= limit && limit >= 1 && limit <= 8 && start == 0) ||
-                (kind == 5 && count <= table[1] && limit == 1 && start == 0);
+                (kind == 5 && count <= table[1] && limit == 1 && start == 0 &&
+                 owner_holds(table, hub));
 
     if (!right)
         return 0;
@@ -363,6 +373,21 @@ static void hub_request(world *w, const uint32_t *call)
     }
 }
 
+/* Who waits longest among the most urgent owns the Resource next, or nobody. */
+static void pass_locks(world *w, uint32_t stopped)
+{
+    for (thing_hub *h = w->hub; h < w->hub + w->hubs; h++) {
+        thing_task *heir = following(w, WAITING, (uint32_t)(h - w->hub) + 1, NULL);
+        if (h->kind != RESOURCE || h->count != stopped + 1)
+            continue;
+        h->count = 0;
+        if (heir) {
+            h->count = (uint32_t)(heir - w->task) + 1;
+            to_ready(w, heir, OK, 0);
+        }
+    }
+}
+
 static void on_task(world *w, const uint32_t *call)
 {
     thing_task *c = &w->task[call[1]], *t = &w->task[call[2]];
@@ -370,8 +395,10 @@ static void on_task(world *w, const uint32_t *call)
 
     if (call[0] == START && (done = t->state == INACTIVE))
         to_ready(w, t, 0, 0);
-    if (call[0] == STOP && (done = t->state != INACTIVE && t != c))
+    if (call[0] == STOP && (done = t->state != INACTIVE && t != c)) {
         *t = (thing_task){INACTIVE, 0, t->priority, 0, 0, 0, 0, 0, 0};
+        pass_locks(w, call[2]);
+    }
     if (call[0] == SUSPEND && (done = t->state != INACTIVE && t->suspended == 0 && t != c))
         t->suspended = 1;
     if (call[0] == RESUME && (done = t->suspended == 1))

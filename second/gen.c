@@ -121,6 +121,29 @@ static uint32_t pick_task(gen_random *random, const uint32_t *table, size_t fiel
             return task;
 }
 
+/* A task other than this one that owns a Resource, or NOBODY; the likelier, the more
+ * it owns. */
+static uint32_t pick_owner(gen_random *random, const uint32_t *table, uint32_t other_than)
+{
+    uint32_t owners[HUBS], count = 0;
+
+    for (uint32_t hub = 0; hub < hubs_in_use(table); hub++) {
+        uint32_t owner = hub_field(table, hub, H_COUNT) - 1;
+        if (hub_field(table, hub, H_KIND) == RESOURCE && owner != NOBODY && owner != other_than)
+            owners[count++] = owner;
+    }
+    return count > 0 ? owners[gen_below(random, count)] : NOBODY;
+}
+
+static int owns_any(const uint32_t *table, uint32_t task)
+{
+    for (uint32_t hub = 0; hub < hubs_in_use(table); hub++)
+        if (hub_field(table, hub, H_KIND) == RESOURCE &&
+            hub_field(table, hub, H_COUNT) == task + 1)
+            return 1;
+    return 0;
+}
+
 /* ---- Calls ------------------------------------------------------------- */
 
 void gen_turn(gen_random *random, gen_mood *mood)
@@ -215,11 +238,12 @@ static void draw_request(gen_random *random, const gen_mood *mood, const uint32_
     draw_mode(random, mood, table, call);
 }
 
-/* Start, Stop, Suspend and Resume: mostly a task that the service can change. */
+/* Start, Stop, Suspend and Resume: mostly a task that the service can change; Stop
+ * often a Resource's owner, if there is one besides the caller. */
 static void draw_on_task(gen_random *random, const uint32_t *table, uint32_t service,
                          uint32_t *call)
 {
-    uint32_t fit = NOBODY;
+    uint32_t fit = NOBODY, owner = NOBODY;
 
     if (service == START)
         fit = pick_task(random, table, T_STATE, INACTIVE);
@@ -231,6 +255,10 @@ static void draw_on_task(gen_random *random, const uint32_t *table, uint32_t ser
     call[C_TARGET] = fit != NOBODY && gen_chance(random, 75)
                          ? fit
                          : gen_below(random, tasks_in_use(table));
+    if (service == STOP)
+        owner = pick_owner(random, table, call[C_CALLER]);
+    if (owner != NOBODY && gen_chance(random, 50))
+        call[C_TARGET] = owner;
 }
 
 /* Without a running task only Tick, Add task and Blank lead on. */
@@ -411,11 +439,16 @@ static void draw_refused(gen_random *random, const gen_mood *mood, const uint32_
     }
 }
 
-void gen_call(gen_random *random, const gen_mood *mood, const uint32_t *table, uint32_t call[7])
+/* Fields a service doesn't name are ignored, so they get anything. */
+static void draw_ignored(gen_random *random, uint32_t *call)
 {
-    /* Fields a service doesn't name are ignored, so they get anything. */
     for (int i = 0; i < CALL_NUMBERS; i++)
         call[i] = gen_chance(random, 50) ? 0 : any_word(random);
+}
+
+void gen_call(gen_random *random, const gen_mood *mood, const uint32_t *table, uint32_t call[7])
+{
+    draw_ignored(random, call);
     if (table[EDITION_AT] != EDITION)
         call[C_SERVICE] = BLANK;
     else if (gen_chance(random, mood->refused))
@@ -474,16 +507,16 @@ static void build_waiter(gen_random *random, uint32_t *table, uint32_t number, u
         task[T_WORD] = any_word(random);
 }
 
-static void build_task(gen_random *random, uint32_t *table, uint32_t number, uint32_t waiters,
-                       uint32_t favourite)
+/* With a chance of `waits` percent it waits at the hub. An owner isn't inactive. */
+static void build_task(gen_random *random, uint32_t *table, uint32_t number, uint32_t waits,
+                       uint32_t hub)
 {
     uint32_t *task = table + task_place(number);
 
     task[T_STATE] = INACTIVE;
-    if (hubs_in_use(table) > 0 && gen_chance(random, waiters))
-        build_waiter(random, table, number,
-                     gen_chance(random, favourite) ? 0 : gen_below(random, hubs_in_use(table)));
-    if (task[T_STATE] == INACTIVE && gen_chance(random, 85)) {
+    if (hub < hubs_in_use(table) && gen_chance(random, waits))
+        build_waiter(random, table, number, hub);
+    if (task[T_STATE] == INACTIVE && (gen_chance(random, 85) || owns_any(table, number))) {
         task[T_STATE] = gen_chance(random, 75) ? READY : SLEEPING;
         if (task[T_STATE] == SLEEPING)
             task[T_TICKS] = ONE_OF(random, 1, 2, 3, TICKS_MAX);
@@ -519,17 +552,34 @@ static void build_contents(uint32_t *table, uint32_t tasks, uint32_t hubs)
            TASKS_AT * sizeof *table);
 }
 
-/* The tasks' records but for the priorities, which are there, and the lists. */
-static void build_tasks(gen_random *random, uint32_t *table, const gen_mood *mood)
+static void build_priorities(gen_random *random, uint32_t *table, uint32_t priorities)
 {
-    for (uint32_t task = 0; task < tasks_in_use(table); task++)
-        build_task(random, table, task, mood->waits, mood->favourite);
+    for (uint32_t task = 0; task < tasks_in_use(table); task++) {
+        uint32_t lowest = gen_chance(random, 50) ? PRIORITY_MAX + 1 - priorities : 0;
+        table[task_place(task) + T_PRIORITY] = lowest + gen_below(random, priorities);
+    }
+}
+
+static void build_lists(gen_random *random, uint32_t *table)
+{
     for (uint32_t task = 0; task < tasks_in_use(table); task++) {
         if (task_field(table, task, T_STATE) == READY)
             insert(random, table, table + READY_AT, task);
         else if (task_field(table, task, T_STATE) == WAITING)
             insert(random, table, table + list_place(task_field(table, task, T_HUB) - 1), task);
     }
+}
+
+/* The tasks' records but for the priorities, which are there, and the lists. */
+static void build_tasks(gen_random *random, uint32_t *table, const gen_mood *mood)
+{
+    for (uint32_t task = 0; task < tasks_in_use(table); task++) {
+        uint32_t hub = gen_chance(random, mood->favourite)
+                           ? 0
+                           : gen_below(random, hubs_in_use(table));
+        build_task(random, table, task, mood->waits, hub);
+    }
+    build_lists(random, table);
 }
 
 void gen_table(gen_random *random, uint32_t table[600])
@@ -541,13 +591,69 @@ void gen_table(gen_random *random, uint32_t table[600])
     if (gen_chance(random, 2))
         table[gen_chance(random, 50) ? TASKS_IN_USE_AT : HUBS_IN_USE_AT] = 0;
 
-    for (uint32_t task = 0; task < tasks_in_use(table); task++) {
-        uint32_t lowest = gen_chance(random, 50) ? PRIORITY_MAX + 1 - mood.priorities : 0;
-        table[task_place(task) + T_PRIORITY] = lowest + gen_below(random, mood.priorities);
-    }
+    build_priorities(random, table, mood.priorities);
     for (uint32_t hub = 0; hub < hubs_in_use(table); hub++)
         build_hub(random, table, hub, draw_kind(random, mood.kind));
     build_tasks(random, table, &mood);
+}
+
+/* ---- Stops of owners --------------------------------------------------- */
+
+/* Resources, some other hubs among them unless the keeper owns all; it owns so many
+ * percent of them. */
+static void build_locks(gen_random *random, uint32_t *table, uint32_t keeper, uint32_t kept)
+{
+    for (uint32_t hub = 0; hub < hubs_in_use(table); hub++) {
+        uint32_t kind = kept == 100 || gen_chance(random, 75) ? (uint32_t)RESOURCE
+                                                              : from_to(random, EVENT, FIFO);
+        build_hub(random, table, hub, kind);
+        if (kind == RESOURCE && gen_chance(random, kept))
+            table[hub_place(hub) + H_COUNT] = keeper + 1;
+    }
+}
+
+/* So many percent wait, if their hub lets them: each at the hub behind the last
+ * one's, so that many hubs have a waiter, or at any. */
+static void build_queues(gen_random *random, uint32_t *table, uint32_t waits)
+{
+    uint32_t hubs = hubs_in_use(table), first = gen_below(random, hubs);
+    int in_turn = waits == 100 || gen_chance(random, 50);
+
+    for (uint32_t task = 0; task < tasks_in_use(table); task++)
+        build_task(random, table, task, waits,
+                   in_turn ? (first + task) % hubs : gen_below(random, hubs));
+}
+
+/* Somebody has to run. */
+static void build_caller(uint32_t *table, uint32_t number)
+{
+    uint32_t *task = table + task_place(number), priority = task[T_PRIORITY];
+
+    memset(task, 0, TASK_WORDS * sizeof *task);
+    task[T_STATE] = READY;
+    task[T_PRIORITY] = priority;
+}
+
+void gen_stop(gen_random *random, uint32_t table[600], uint32_t call[7])
+{
+    uint32_t keeper;
+
+    do {
+        int all = gen_chance(random, 10); /* it owns 16, and all others but the caller wait */
+        uint32_t tasks = all || gen_chance(random, 30) ? TASKS : from_to(random, 2, TASKS);
+        uint32_t hubs = all || gen_chance(random, 30) ? HUBS : from_to(random, 1, 6);
+        build_contents(table, tasks, hubs);
+        build_priorities(random, table, ONE_OF(random, 1, 2, 4, PRIORITY_MAX + 1));
+        keeper = gen_below(random, tasks);
+        build_locks(random, table, keeper, all ? 100 : ONE_OF(random, 0, 15, 40, 80, 100));
+        build_queues(random, table, all ? 100 : ONE_OF(random, 0, 30, 60, 90));
+        build_caller(table, (keeper + from_to(random, 1, tasks - 1)) % tasks);
+        build_lists(random, table);
+    } while (running_task(table) == keeper);
+    draw_ignored(random, call);
+    call[C_SERVICE] = STOP;
+    call[C_CALLER] = running_task(table);
+    call[C_TARGET] = keeper;
 }
 
 /* ---- Set-ups ----------------------------------------------------------- */
@@ -890,6 +996,38 @@ static int owner_not_in_use(gen_random *random, uint32_t *table, const damage *f
     return 1;
 }
 
+/* An inactive task owns a Resource that nobody waits for, or which tasks do. */
+static int owner_inactive(gen_random *random, uint32_t *table, const damage *family)
+{
+    uint32_t hub = family->which == 0 ? pick_quiet_hub(random, table, RESOURCE)
+                                      : pick_hub(random, table, RESOURCE, 1);
+    uint32_t task = pick_task(random, table, T_STATE, INACTIVE);
+
+    if (hub == NOBODY || task == NOBODY)
+        return 0;
+    table[hub_place(hub) + H_COUNT] = task + 1;
+    return 1;
+}
+
+/* What Stop left before M-101: an owner inactive and in no list, its locks kept. */
+static int owner_stopped(gen_random *random, uint32_t *table, const damage *family)
+{
+    uint32_t owner = pick_owner(random, table, NOBODY), *list;
+
+    (void)family;
+    if (owner == NOBODY)
+        return 0;
+    uint32_t *task = table + task_place(owner), priority = task[T_PRIORITY];
+    if (task[T_STATE] != SLEEPING) {
+        list = task[T_STATE] == READY ? table + READY_AT : list_of(table, owner);
+        take_out(list, place_in(list, owner));
+    }
+    memset(task, 0, TASK_WORDS * sizeof *task);
+    task[T_STATE] = INACTIVE;
+    task[T_PRIORITY] = priority;
+    return 1;
+}
+
 /* Lists. `which` is READY for the ready list, WAITING for a hub's. */
 
 static uint32_t *pick_list(gen_random *random, uint32_t *table, const damage *family,
@@ -1204,6 +1342,9 @@ static const damage damages[] = {
     {"Resource: limit above 1", SECOND_KIND, spoil_hub, RESOURCE, H_LIMIT, 2},
     {"Resource: start", SECOND_KIND, spoil_hub, RESOURCE, H_START, 1},
     {"Resource: owner not in use", SECOND_COUNT, owner_not_in_use, 0, 0, 0},
+    {"Resource: owner inactive, nobody waits", SECOND_OWNER, owner_inactive, 0, 0, 0},
+    {"Resource: owner inactive, somebody waits", SECOND_OWNER, owner_inactive, 1, 0, 0},
+    {"Resource: owner stopped, locks kept", SECOND_OWNER, owner_stopped, 0, 0, 0},
 
     {"ready list: gap", SECOND_READY_LIST, gap_in_list, READY, 0, 0},
     {"ready list: task twice", SECOND_READY_LIST, twice_in_list, READY, 0, 0},

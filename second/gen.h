@@ -10,6 +10,7 @@
  *   d  drill lines, damaged ones among them: gen_drill_line
  *   e  set-ups, for the listing: gen_set_up, and gen_change for one that differs
  *      in one number
+ *   f  Stops of owners (M-101): gen_stop
  */
 #ifndef GEN_H
 #define GEN_H
@@ -46,6 +47,11 @@ void gen_turn(gen_random *random, gen_mood *mood);
 void gen_call(gen_random *random, const gen_mood *mood, const uint32_t *table, uint32_t call[7]);
 
 void gen_table(gen_random *random, uint32_t table[600]);
+
+/* A well-formed table in which one task owns none to 16 Resources, tasks waiting
+ * for most of them, and a call in which the running task stops it: what gen_call
+ * comes upon seldom, up to 14 waiters met in one call. */
+void gen_stop(gen_random *random, uint32_t table[600], uint32_t call[7]);
 
 /* Well formed as well, with a set-up of every size, none and 16 often, whose
  * numbers have every count of digits. */

@@ -1,4 +1,5 @@
-/* Demand 3's bookkeeping; ledger.h says what it reads and what it doesn't. */
+/* Demand 3's bookkeeping, with M-101's balance of each Resource; ledger.h says what
+ * it reads and what it doesn't. */
 #include "ledger.h"
 
 #include <string.h>
@@ -20,7 +21,17 @@ void ledger_begin(ledger *book)
     book->requests = 0;
     memset(book->open, 0, sizeof book->open);
     for (int hub = 0; hub < HUBS; hub++)
-        book->hub[hub].puts = book->hub[hub].gets = 0;
+        book->hub[hub].puts = book->hub[hub].gets = book->hub[hub].owners_removed = 0;
+}
+
+/* An accepted Stop with answer 1 whose target owned the hub in the table before. */
+static int stop_removes_owner(const uint32_t *before, const uint32_t *call, second_reply reply,
+                              uint32_t hub)
+{
+    const uint32_t *record = before + hub_place(hub);
+
+    return call[C_SERVICE] == STOP && reply.answer == OK && record[H_KIND] == RESOURCE &&
+           record[H_COUNT] == call[C_TARGET] + 1;
 }
 
 /* ---- Classes ----------------------------------------------------------- */
@@ -77,15 +88,20 @@ static int class_after(const uint32_t *after, uint32_t task, ledger_class *class
     return 1;
 }
 
-/* Met means met: the first waiter, of the other side, at the caller's hub. */
-static int may_be_met(const ledger_request *request, const uint32_t *before, const uint32_t *call)
+/* Met means met: the first waiter, of the other side, at the caller's hub; or the
+ * first waiter for a Resource that the stopped task owned. */
+static int may_be_met(const ledger_request *request, const uint32_t *before, const uint32_t *call,
+                      second_reply reply)
 {
-    return call[C_SERVICE] == HUB_REQUEST && call[C_TARGET] == request->hub &&
-           call[C_SIDE] != request->side && before[list_place(request->hub)] == request->task + 1;
+    int by_caller = call[C_SERVICE] == HUB_REQUEST && call[C_TARGET] == request->hub &&
+                    call[C_SIDE] != request->side;
+
+    return before[list_place(request->hub)] == request->task + 1 &&
+           (by_caller || stop_removes_owner(before, call, reply, request->hub));
 }
 
 static const char *follow_waiter(ledger *book, uint32_t task, const uint32_t *before,
-                                 const uint32_t *call, const uint32_t *after)
+                                 const uint32_t *call, second_reply reply, const uint32_t *after)
 {
     ledger_request *request = book->open[task];
 
@@ -99,7 +115,7 @@ static const char *follow_waiter(ledger *book, uint32_t task, const uint32_t *be
         return still_shown(request, after) ? NULL : "a waiting request changed";
     }
     book->open[task] = NULL;
-    if (request->class == IS_MET && !may_be_met(request, before, call))
+    if (request->class == IS_MET && !may_be_met(request, before, call, reply))
         return "a request turned met that the call didn't meet";
     if (request->class == IS_TIMED_OUT &&
         (call[C_SERVICE] != TICK || request->ticks == 0 || request->age != request->ticks))
@@ -121,19 +137,35 @@ static void enter_meeting(ledger *book, const ledger_request *request, const uin
         hub->got[hub->gets++] = task_word(after, request->task, T_WORD);
 }
 
-/* A put met in the same call as a get comes before it in order of meeting. */
-static const char *enter_meetings(ledger *book, const ledger_request *of_caller,
-                                  const ledger_request *of_waiter, const uint32_t *after)
+/* What one call met: the caller's request, and those that waited. */
+typedef struct {
+    const ledger_request *of_caller; /* or NULL */
+    const ledger_request *of_waiter[TASKS];
+    size_t waiters;
+} meetings;
+
+/* A put met in the same call as a get comes before it in order of meeting. Only
+ * Stop, which is no request, meets waiters without the caller. */
+static const char *enter_meetings(ledger *book, const meetings *met, const uint32_t *call,
+                                  const uint32_t *after)
 {
-    if (of_waiter != NULL && (of_caller == NULL || of_caller->class != IS_MET))
+    if (met->waiters > 0 && met->of_caller == NULL && call[C_SERVICE] != STOP)
         return "a waiter was met but not the caller";
     for (uint32_t side = PUT; side <= GET; side++) {
-        if (of_caller != NULL && of_caller->class == IS_MET && of_caller->side == side)
-            enter_meeting(book, of_caller, after);
-        if (of_waiter != NULL && of_waiter->side == side)
-            enter_meeting(book, of_waiter, after);
+        if (met->of_caller != NULL && met->of_caller->side == side)
+            enter_meeting(book, met->of_caller, after);
+        for (size_t i = 0; i < met->waiters; i++)
+            if (met->of_waiter[i]->side == side)
+                enter_meeting(book, met->of_waiter[i], after);
     }
     return NULL;
+}
+
+static void enter_removed(ledger *book, const uint32_t *before, const uint32_t *call,
+                          second_reply reply)
+{
+    for (uint32_t hub = 0; hub < before[HUBS_IN_USE_AT]; hub++)
+        book->hub[hub].owners_removed += (uint32_t)stop_removes_owner(before, call, reply, hub);
 }
 
 static int words_equal(const uint32_t *a, const uint32_t *b, uint32_t count)
@@ -167,16 +199,41 @@ static const char *hub_adds_up(const ledger_hub *hub, const uint32_t *table, uin
                    ? NULL
                    : "FIFO: words of met puts aren't those of met gets and those held";
     default:
-        return hub->gets - hub->puts == (count != 0) ? NULL : "Resource: locks don't add up";
+        return hub->gets - hub->puts - hub->owners_removed == (count != 0)
+                   ? NULL
+                   : "Resource: met locks - met unlocks - owners removed isn't 1 owned, 0 free";
     }
 }
 
 /* ---- The book ---------------------------------------------------------- */
 
+/* Follows the task's request, or enters the caller's; what turned met is added. */
+static const char *enter_task(ledger *book, uint32_t task, const uint32_t *before,
+                              const uint32_t *call, second_reply reply, const uint32_t *after,
+                              meetings *met)
+{
+    const ledger_request *was = book->open[task], *made = &book->request[book->requests];
+    const char *wrong;
+
+    if (was != NULL) {
+        if ((wrong = follow_waiter(book, task, before, call, reply, after)) != NULL)
+            return wrong;
+        if (was->class == IS_MET)
+            met->of_waiter[met->waiters++] = was;
+    } else if (call[C_SERVICE] == HUB_REQUEST && call[C_CALLER] == task) {
+        if ((wrong = enter_request(book, call, reply, after)) != NULL)
+            return wrong;
+        met->of_caller = made->class == IS_MET ? made : NULL;
+    }
+    if (waits(after, task) != (book->open[task] != NULL))
+        return "tasks in state 3 aren't the waiting requests, one each";
+    return NULL;
+}
+
 const char *ledger_enter(ledger *book, const uint32_t *before, const uint32_t call[7],
                          second_reply reply, const uint32_t *after)
 {
-    ledger_request *of_caller = NULL, *of_waiter = NULL;
+    meetings met = {NULL, {NULL}, 0};
     const char *wrong;
 
     if (reply.refusal != ACCEPTED)
@@ -186,23 +243,12 @@ const char *ledger_enter(ledger *book, const uint32_t *before, const uint32_t ca
         return NULL;
     }
 
-    for (uint32_t task = 0; task < after[TASKS_IN_USE_AT]; task++) {
-        ledger_request *was = book->open[task];
-        if (was != NULL) {
-            if ((wrong = follow_waiter(book, task, before, call, after)) != NULL)
-                return wrong;
-            if (was->class == IS_MET)
-                of_waiter = was; /* at most one is first in the caller's hub's list */
-        } else if (call[C_SERVICE] == HUB_REQUEST && call[C_CALLER] == task) {
-            of_caller = &book->request[book->requests];
-            if ((wrong = enter_request(book, call, reply, after)) != NULL)
-                return wrong;
-        }
-        if (waits(after, task) != (book->open[task] != NULL))
-            return "tasks in state 3 aren't the waiting requests, one each";
-    }
-    if ((wrong = enter_meetings(book, of_caller, of_waiter, after)) != NULL)
+    for (uint32_t task = 0; task < after[TASKS_IN_USE_AT]; task++)
+        if ((wrong = enter_task(book, task, before, call, reply, after, &met)) != NULL)
+            return wrong;
+    if ((wrong = enter_meetings(book, &met, call, after)) != NULL)
         return wrong;
+    enter_removed(book, before, call, reply);
     for (uint32_t hub = 0; hub < after[HUBS_IN_USE_AT]; hub++)
         if ((wrong = hub_adds_up(&book->hub[hub], after, hub,
                                  book->hub[hub].gets > 0 ? book->hub[hub].gets - 1 : 0)) != NULL)

@@ -21,9 +21,10 @@ typedef struct {
     uint32_t age;   /* accepted Ticks since */
 } ledger_request;
 
-/* The words of one hub's met requests, in order of meeting. */
+/* The words of one hub's met requests, in order of meeting. At a Resource a put
+ * unlocks, a get locks, and Stop may take the owner away (M-101). */
 typedef struct {
-    uint32_t puts, gets;
+    uint32_t puts, gets, owners_removed;
     uint32_t put[LEDGER_REQUESTS], got[LEDGER_REQUESTS];
 } ledger_hub;
 

@@ -1,6 +1,6 @@
-/* The hub kernel of document 01, from the paper alone: well formed, lists,
- * hubs, services, refusals, the listing, edges, in that order. The contract is
- * second.h.
+/* The hub kernel of document 01 with M-100 and M-101, from the papers alone: well
+ * formed, lists, hubs, services, refusals, the listing, edges, in that order. The
+ * contract is second.h.
  *
  * Everything after refusal_of() relies on a well-formed table; that is why the
  * walks below have no bounds of their own: a list that a task joins has at
@@ -17,9 +17,10 @@ static const uint32_t blank_contents[TASKS_AT] = {
 
 /* ---- Well formed ------------------------------------------------------- */
 
-/* What one pass over the task records tells the walk of the lists: sets of
- * tasks, bit i for task i. */
+/* What one pass over the task records tells the walk of the hubs and lists: sets
+ * of tasks, bit i for task i. */
 typedef struct {
+    uint32_t inactive;
     uint32_t ready;
     uint32_t putters;
     uint32_t waiters[HUBS];
@@ -81,6 +82,7 @@ static int task_clause(const uint32_t *table, uint32_t number, census *seen)
         if ((task[T_SUSPENDED] | task[T_HUB] | task[T_TICKS] | task[T_SIDE] | task[T_WORD] |
              task[T_ANSWER]) != 0)
             return SECOND_INACTIVE;
+        seen->inactive |= bit;
         return SECOND_RIGHT;
     case READY:
         if ((task[T_HUB] | task[T_TICKS] | task[T_SIDE]) != 0 || task[T_ANSWER] > TO ||
@@ -147,6 +149,12 @@ static int kind_allows(uint32_t kind, uint32_t limit, uint32_t start)
     }
 }
 
+/* Of a Resource whose count is in range: no bit stands for its count 0. */
+static int owner_inactive(const uint32_t *hub, const census *seen)
+{
+    return hub[H_KIND] == RESOURCE && (seen->inactive << 1 >> hub[H_COUNT] & 1) != 0;
+}
+
 static int getters_may_wait(const uint32_t *hub, uint32_t waiters)
 {
     if (hub[H_KIND] == PORT)
@@ -171,6 +179,8 @@ static int hub_clause(const uint32_t *table, uint32_t number, const census *seen
         return SECOND_KIND;
     if (hub[H_COUNT] > most)
         return SECOND_COUNT;
+    if (owner_inactive(hub, seen))
+        return SECOND_OWNER;
 
     int clause = list_clause(table, table + list_place(number), waiters, SECOND_WAITING_LIST);
     if (clause != SECOND_RIGHT)
@@ -190,7 +200,7 @@ static int hub_clause(const uint32_t *table, uint32_t number, const census *seen
 
 int second_well_formed(const uint32_t *table, size_t words)
 {
-    census seen = {0, 0, {0}};
+    census seen = {0, 0, 0, {0}};
     int clause;
 
     if (words != WORDS)
@@ -370,13 +380,21 @@ static outcome fifo_get(uint32_t *table, uint32_t number, uint32_t *received)
     return MET;
 }
 
-static outcome resource_put(uint32_t *table, uint32_t number, uint32_t caller)
+/* The first waiter is met and becomes owner; without one the Resource is free. */
+static void pass_on(uint32_t *table, uint32_t number)
 {
     uint32_t *hub = table + hub_place(number);
 
+    hub[H_COUNT] = waiting_side(table, number) == GET ? meet_first(table, number, 0) + 1 : 0;
+}
+
+static outcome resource_put(uint32_t *table, uint32_t number, uint32_t caller)
+{
+    const uint32_t *hub = table + hub_place(number);
+
     if (hub[H_COUNT] != caller + 1)
         return FAILED;
-    hub[H_COUNT] = waiting_side(table, number) == GET ? meet_first(table, number, 0) + 1 : 0;
+    pass_on(table, number);
     return MET;
 }
 
@@ -466,6 +484,16 @@ static int start(uint32_t *table, uint32_t target)
     return 1;
 }
 
+/* In hub number order, which those met keep among equals in the ready list. */
+static void give_up_locks(uint32_t *table, uint32_t owner)
+{
+    for (uint32_t number = 0; number < table[HUBS_IN_USE_AT]; number++) {
+        const uint32_t *hub = table + hub_place(number);
+        if (hub[H_KIND] == RESOURCE && hub[H_COUNT] == owner + 1)
+            pass_on(table, number);
+    }
+}
+
 static int stop(uint32_t *table, uint32_t target, uint32_t caller)
 {
     uint32_t *task = table + task_place(target), priority = task[T_PRIORITY];
@@ -476,6 +504,7 @@ static int stop(uint32_t *table, uint32_t target, uint32_t caller)
     memset(task, 0, TASK_WORDS * sizeof *task);
     task[T_STATE] = INACTIVE;
     task[T_PRIORITY] = priority;
+    give_up_locks(table, target);
     return 1;
 }
 

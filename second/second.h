@@ -1,5 +1,6 @@
-/* The second program: the hub kernel of document 01 again, in C11, written
- * from the paper alone. It is what the proved kernel is compared with.
+/* The second program: the hub kernel of document 01 again, with requests M-100
+ * and M-101, in C11, written from the papers alone. It is what the proved kernel
+ * is compared with.
  *
  * Ownership: the caller owns the table and lends it for one call. No globals,
  * no allocation, nothing kept between calls.
@@ -11,7 +12,8 @@
  * Refusals, tested in this order; a refused call answers 0, next 0 (mask 0,
  * count 0; length 0) and writes nothing:
  *   1  length isn't 600 words (2,400 bytes)
- *   2  table not well formed (never for Blank)
+ *   2  table not well formed (never for Blank); so is, since M-101, one in which
+ *      an inactive task owns a Resource: Stop left such tables before
  *   3  service above 10
  *   4  services 1 to 7: caller isn't the running task
  *   5  service 1 and the summary: hub not in use; 2 to 5: task not in use
@@ -55,6 +57,7 @@ typedef enum {
     SECOND_SLEEPING,
     SECOND_KIND,         /* kind, limit or start outside the kinds table */
     SECOND_COUNT,        /* count outside the kinds table */
+    SECOND_OWNER,        /* a Resource's owner is inactive */
     SECOND_READY_LIST,   /* not exactly the ready tasks, each once, then zeros */
     SECOND_WAITING_LIST, /* not exactly the hub's waiters, each once, then zeros */
     SECOND_ORDER,        /* a list's priority numbers fall */

@@ -1,6 +1,6 @@
 /* The second program's tests: constructed cases, runs from Blank with demand 3
- * checked, built tables, damaged tables, listings, coverage. `test SIZE` runs
- * them all, one line each; the first failure ends the program.
+ * checked, built tables, Stops of owners, damaged tables, listings, coverage.
+ * `test SIZE` runs them all, one line each; the first failure ends the program.
  *
  * Each call is checked against expect.c word for word, and besides for what
  * must hold whatever expect.c says: an accepted call leaves a well-formed
@@ -29,6 +29,7 @@ typedef struct {
     const char *name;
     uint32_t runs, calls;         /* family a: runs, calls in each */
     uint32_t tables, table_calls; /* family b */
+    uint32_t stops;               /* family f */
     uint32_t damages, flips;      /* family c: tables per family; tables with flips */
     uint32_t set_ups, rooms;      /* family e: tables listed; tables listed into every room */
     unsigned seconds;             /* a program that loops is ended after these */
@@ -36,9 +37,9 @@ typedef struct {
 } scale;
 
 static const scale scales[] = {
-    {"quick", 60, 400, 1000, 8, 3, 3000, 200, 3, 60, 0},
-    {"gate", 1500, 500, 60000, 8, 110, 200000, 20000, 80, 600, 1},
-    {"long", 20000, 1000, 1000000, 8, 1000, 5000000, 400000, 2000, 7200, 1},
+    {"quick", 60, 400, 1000, 8, 400, 3, 3000, 200, 3, 60, 0},
+    {"gate", 1500, 500, 60000, 8, 20000, 110, 200000, 20000, 80, 600, 1},
+    {"long", 20000, 1000, 1000000, 8, 400000, 1000, 5000000, 400000, 2000, 7200, 1},
 };
 
 /* Where the tests are, for the report of a failure, and what they counted. */
@@ -285,6 +286,28 @@ static second_reply check_call(bench *at, uint32_t *table, const uint32_t *call)
     return reply;
 }
 
+/* One call of a run from Blank: demand 3 is checked too. With `alone` it is all that
+ * is checked. */
+static second_reply enter_call(bench *at, uint32_t *table, const uint32_t *call, int alone)
+{
+    uint32_t before[WORDS];
+    const char *wrong;
+
+    memcpy(before, table, sizeof before);
+    second_reply reply = alone ? second_call(table, WORDS, call) : check_call(at, table, call);
+    if ((wrong = ledger_enter(&at->book, before, call, reply, table)) != NULL)
+        fail(at, call, wrong);
+    return reply;
+}
+
+static void end_run(bench *at, const uint32_t *call, const uint32_t *table)
+{
+    const char *wrong = ledger_end(&at->book, table);
+
+    if (wrong != NULL)
+        fail(at, call, wrong);
+}
+
 /* ---- Constructed cases ------------------------------------------------- */
 
 /* One call on the table of the step before, its reply, and up to four words of
@@ -302,14 +325,16 @@ static void take_steps(bench *at, const char *name, const step *steps, size_t co
     uint32_t table[WORDS] = {0};
 
     at->part = name;
+    ledger_begin(&at->book);
     for (size_t i = 0; i < count; i++) {
         at->seed = i + 1;
-        if (!same_reply(check_call(at, table, steps[i].call), steps[i].reply))
+        if (!same_reply(enter_call(at, table, steps[i].call, 0), steps[i].reply))
             fail(at, steps[i].call, "the case expects another reply");
         for (int j = 0; steps[i].words[j].at != 0; j++)
             if (table[steps[i].words[j].at] != steps[i].words[j].value)
                 fail(at, steps[i].call, "the case expects another word");
     }
+    end_run(at, NULL, table);
 }
 
 #define TAKE_STEPS(at, name, steps) take_steps(at, name, steps, sizeof(steps) / sizeof *(steps))
@@ -400,13 +425,109 @@ static void case_resource(bench *at)
         {{1, 1, 0, 2, 3, 9, 0}, {0, 0, 1}, {{216, 2}, {20, 9}}},
         {{4, 0, 1, 0, 0, 0, 0}, {0, 1, 1}, {{17, 1}, {216, 2}}},
         {{1, 0, 0, 1, 1, 0, 0}, {0, 1, 1}, {{137, 2}, {216, 0}, {20, 0}, {17, 1}}},
-        {{3, 0, 1, 0, 0, 0, 0}, {0, 1, 1}, {{137, 2}, {16, 1}, {17, 0}}}, /* stays owned */
-        {{1, 0, 0, 2, 2, 0, 0}, {0, 2, 1}, {{137, 2}}},
-        {{2, 0, 1, 0, 0, 0, 0}, {0, 1, 1}, {{137, 2}}},
+        {{3, 0, 1, 0, 0, 0, 0}, {0, 1, 1}, {{137, 0}, {16, 1}, {17, 0}}}, /* becomes free */
+        {{1, 0, 0, 2, 2, 0, 0}, {0, 1, 1}, {{137, 1}}},
+        {{2, 0, 1, 0, 0, 0, 0}, {0, 1, 1}, {{137, 1}}},
         {{6, 0, 0, 0, 0, 0, 0}, {0, 1, 2}, {{0, 0}}},
-        {{1, 1, 0, 1, 2, 0, 0}, {0, 1, 2}, {{137, 0}}}, /* a restarted owner still owns */
+        {{1, 1, 0, 1, 2, 0, 0}, {0, 2, 2}, {{137, 1}}}, /* a restarted owner owns no more */
     };
     TAKE_STEPS(at, "Resource", steps);
+}
+
+/* M-101: task 0 owns three Resources; task 1 waits for the third, with ticks, task
+ * 2, suspended, and task 4 for the first, nobody for the second. Task 3 stops it. */
+static void case_stop(bench *at)
+{
+    static const step steps[] = {
+        {{0, 0, 0, 0, 0, 0, 0}, {0, 0, 0}, {{0, 0}}},
+        {{10, 0, 5, 0, 0, 1, 0}, {0, 0, 0}, {{0, 0}}},
+        {{10, 0, 5, 0, 0, 1, 0}, {0, 0, 0}, {{0, 0}}},
+        {{10, 0, 5, 0, 0, 1, 0}, {0, 0, 0}, {{0, 0}}},
+        {{9, 0, 3, 1, 0, 0, 0}, {0, 0, 1}, {{0, 0}}},
+        {{1, 0, 2, 2, 1, 0, 0}, {0, 1, 1}, {{145, 1}}},
+        {{1, 0, 0, 2, 1, 0, 0}, {0, 1, 1}, {{137, 1}}},
+        {{1, 0, 1, 2, 1, 0, 0}, {0, 1, 1}, {{141, 1}}},
+        {{7, 0, 0, 0, 0, 100, 0}, {0, 0, 0}, {{12, 100}}},
+        {{9, 0, 4, 1, 0, 0, 0}, {0, 0, 2}, {{0, 0}}},
+        {{1, 1, 2, 2, 3, 5, 0}, {0, 0, 0}, {{248, 2}, {20, 5}}},
+        {{9, 0, 4, 1, 0, 0, 0}, {0, 0, 3}, {{0, 0}}},
+        {{1, 2, 0, 2, 1, 0, 0}, {0, 0, 0}, {{216, 3}}},
+        {{9, 0, 6, 1, 0, 0, 0}, {0, 0, 4}, {{0, 0}}},
+        {{9, 0, 4, 1, 0, 0, 0}, {0, 0, 5}, {{0, 0}}},
+        {{1, 4, 0, 2, 3, 9, 0}, {0, 0, 4}, {{217, 5}, {44, 9}}},
+        {{4, 3, 2, 0, 0, 0, 0}, {0, 1, 4}, {{25, 1}}},
+        {{3, 3, 0, 0, 0, 0, 0}, {0, 1, 2}, {{137, 3}, {141, 0}, {145, 2}, {8, 1}}},
+        {{1, 1, 1, 2, 2, 0, 0}, {0, 1, 2}, {{200, 3}, {201, 2}, {202, 4}, {141, 2}}},
+        {{8, 0, 0, 0, 0, 0, 0}, {0, 0, 2}, {{12, 0}, {20, 0}, {31, 1}, {44, 8}}},
+        {{3, 1, 2, 0, 0, 0, 0}, {0, 1, 2}, {{137, 5}, {216, 0}, {201, 5}, {44, 0}}},
+        {{3, 1, 1, 0, 0, 0, 0}, {0, 2, 2}, {{141, 2}, {145, 2}}}, /* FAIL: it keeps its locks */
+        {{2, 1, 0, 0, 0, 0, 0}, {0, 1, 1}, {{0, 0}}},
+        {{1, 0, 1, 1, 2, 0, 0}, {0, 2, 1}, {{141, 2}}}, /* started again, it owns nothing */
+        {{3, 0, 1, 0, 0, 0, 0}, {0, 1, 1}, {{141, 0}, {145, 0}, {137, 5}}},
+    };
+    TAKE_STEPS(at, "Stop of an owner", steps);
+}
+
+/* 14 waiters met in one Stop, the most there can be: task 0 owns 14 Resources and
+ * sleeps, tasks 1 to 14, all equals, wait for them from the last to the first, and
+ * task 15 stops it. So the ready list is in hub number order, not in the tasks'. */
+static void case_stop_14(bench *at)
+{
+    const uint32_t resource[7] = {10, 0, 5, 0, 0, 1, 0}, sleeps[7] = {7, 0, 0, 0, 0, 9, 0};
+    uint32_t table[WORDS] = {0}, add[7] = {9, 0, 5, 1, 0, 0, 0};
+
+    begin(at, "14 met by a Stop", 0);
+    ledger_begin(&at->book);
+    enter_call(at, table, (uint32_t[7]){0}, 0);
+    enter_call(at, table, add, 0);
+    for (uint32_t hub = 0; hub < 14; hub++) {
+        enter_call(at, table, resource, 0);
+        enter_call(at, table, (uint32_t[7]){1, 0, hub, 2, 1, 0, 0}, 0);
+    }
+    enter_call(at, table, sleeps, 0);
+    for (uint32_t task = 1; task <= 14; task++) {
+        enter_call(at, table, add, 0);
+        enter_call(at, table, (uint32_t[7]){1, task, 14 - task, 2, 3, 7, 0}, 0);
+    }
+    add[C_TARGET] = 200;
+    enter_call(at, table, add, 0);
+    if (!same_reply(enter_call(at, table, (uint32_t[7]){3, 15, 0, 0, 0, 0, 0}, 0),
+                    (second_reply){0, 1, 15}))
+        fail(at, NULL, "the waiter for the first Resource runs next");
+    for (uint32_t hub = 0; hub < 14; hub++)
+        if (table[200 + hub] != 15 - hub || table[137 + 4 * hub] != 15 - hub ||
+            table[216 + 16 * hub] != 0)
+            fail(at, NULL, "each Resource passed, in hub number order");
+    if (table[214] != 16 || table[215] != 0)
+        fail(at, NULL, "the caller is behind them");
+    end_run(at, NULL, table);
+}
+
+/* A table that Stop left before M-101: task 1 inactive, and owner of the Resource. */
+static void case_inactive_owner(bench *at)
+{
+    static const uint32_t calls[][7] = {
+        {0}, {9, 0, 2, 1, 0, 0, 0}, {9, 0, 2, 0, 0, 0, 0}, {10, 0, 5, 0, 0, 1, 0},
+    };
+    uint32_t table[WORDS] = {0};
+    uint8_t text[LISTING_MOST];
+
+    begin(at, "inactive owner", 0);
+    for (size_t i = 0; i < sizeof calls / sizeof *calls; i++)
+        check_call(at, table, calls[i]);
+    table[137] = 2;
+    for (uint32_t service = 1; service <= 11; service++)
+        if (check_call(at, table, (uint32_t[7]){service, 0, 0, 1, 2, 0, 0}).refusal != 2)
+            fail(at, NULL, "an inactive owner is refusal 2");
+    if (second_summary(table, WORDS, 0).refusal != 2 ||
+        second_listing(table, WORDS, text, sizeof text).refusal != 2)
+        fail(at, NULL, "an inactive owner is refusal 2 for summary and listing");
+    table[137] = 1;
+    if (check_call(at, table, (uint32_t[7]){6, 0, 0, 0, 0, 0, 0}).refusal != 0)
+        fail(at, NULL, "an owner that isn't inactive");
+    table[137] = 2;
+    if (check_call(at, table, calls[0]).refusal != 0)
+        fail(at, NULL, "Blank takes any table");
 }
 
 static void case_ticks(bench *at)
@@ -617,6 +738,9 @@ static void part_cases(bench *at)
     case_refusal_order(at);
     case_slips(at);
     case_resource(at);
+    case_stop(at);
+    case_stop_14(at);
+    case_inactive_owner(at);
     case_ticks(at);
     case_caller_as_target(at);
     case_full(at);
@@ -626,12 +750,10 @@ static void part_cases(bench *at)
     case_longest(at);
 }
 
-/* With `alone`, demand 3 is all that is checked: mutants/run asks whether it
- * catches by itself what breaks it. */
+/* mutants/run asks whether demand 3 alone catches what breaks it. */
 static void one_run(bench *at, uint32_t calls, int alone)
 {
-    uint32_t table[WORDS] = {0}, before[WORDS], call[7];
-    const char *wrong;
+    uint32_t table[WORDS] = {0}, call[7];
     gen_mood mood;
 
     gen_draw_mood(&at->random, &mood);
@@ -640,16 +762,12 @@ static void one_run(bench *at, uint32_t calls, int alone)
         if (i % 64 == 63)
             gen_turn(&at->random, &mood);
         gen_call(&at->random, &mood, table, call);
-        memcpy(before, table, sizeof before);
-        if (call[C_SERVICE] == BLANK && i > 0 && (wrong = ledger_end(&at->book, table)) != NULL)
-            fail(at, call, wrong);
-        second_reply reply = alone ? second_call(table, WORDS, call) : check_call(at, table, call);
-        if ((wrong = ledger_enter(&at->book, before, call, reply, table)) != NULL)
-            fail(at, call, wrong);
+        if (call[C_SERVICE] == BLANK && i > 0)
+            end_run(at, call, table);
+        second_reply reply = enter_call(at, table, call, alone);
         at->requests += call[C_SERVICE] == HUB_REQUEST && reply.refusal == ACCEPTED;
     }
-    if ((wrong = ledger_end(&at->book, table)) != NULL)
-        fail(at, NULL, wrong);
+    end_run(at, NULL, table);
 }
 
 static void part_runs(bench *at, const scale *to, int alone)
@@ -675,6 +793,26 @@ static void part_tables(bench *at, const scale *to)
         for (uint32_t j = 0; j < to->table_calls; j++) {
             gen_call(&at->random, &mood, table, call);
             check_call(at, table, call);
+        }
+    }
+}
+
+/* The Stop, and a few calls more: whoever got a lock has it. */
+static void part_stops(bench *at, const scale *to)
+{
+    uint32_t table[WORDS], call[7];
+    gen_mood mood;
+
+    for (uint32_t i = 0; i < to->stops; i++) {
+        begin(at, "stops", i);
+        gen_stop(&at->random, table, call);
+        if (second_well_formed(table, WORDS) != SECOND_RIGHT || !expect_well_formed(table))
+            fail(at, NULL, "a built table isn't well formed");
+        gen_draw_mood(&at->random, &mood);
+        mood.tasks = mood.hubs = 0; /* nothing to add first */
+        for (int j = 0; j < 4; j++) {
+            check_call(at, table, call);
+            gen_call(&at->random, &mood, table, call);
         }
     }
 }
@@ -840,14 +978,14 @@ static void report(const char *part, const char *what, uint64_t count, const cha
     fflush(stdout);
 }
 
-static void run_parts(bench *at, const scale *to)
+static void run_well_formed(bench *at, const scale *to)
 {
     char what[128];
     uint64_t calls = at->calls;
     double since = seconds();
 
     part_cases(at);
-    report("cases", "marked lines, refusal order, lengths, bytes, corners, listings",
+    report("cases", "marked lines, refusal order, lengths, bytes, corners, Stops, listings",
            at->calls - calls, "calls", since);
 
     calls = at->calls, since = seconds();
@@ -862,6 +1000,18 @@ static void run_parts(bench *at, const scale *to)
     report("tables", what, at->calls - calls, "calls", since);
 
     calls = at->calls, since = seconds();
+    part_stops(at, to);
+    snprintf(what, sizeof what, "%" PRIu32 " Stops of a task that owns none to 16 Resources",
+             to->stops);
+    report("stops", what, at->calls - calls, "calls", since);
+}
+
+static void run_damaged(bench *at, const scale *to)
+{
+    char what[128];
+    uint64_t calls = at->calls;
+    double since = seconds();
+
     part_damaged(at, to);
     snprintf(what, sizeof what, "%zu families of %" PRIu32 " damaged tables", gen_damages(),
              to->damages);
@@ -871,9 +1021,14 @@ static void run_parts(bench *at, const scale *to)
     part_flips(at, to);
     snprintf(what, sizeof what, "%" PRIu32 " tables with words changed", to->flips);
     report("flips", what, at->calls - calls, "calls", since);
+}
 
+static void run_listings(bench *at, const scale *to)
+{
+    char what[128];
     uint64_t listings = at->listings;
-    since = seconds();
+    double since = seconds();
+
     part_listings(at, to);
     snprintf(what, sizeof what,
              "%" PRIu32 " set-ups, %" PRIu32 " into every room; %" PRIu64 " texts in parts above",
@@ -907,7 +1062,9 @@ int main(int count, char **words)
             part_runs(&at, &scales[i], alone);
             return 0;
         }
-        run_parts(&at, &scales[i]);
+        run_well_formed(&at, &scales[i]);
+        run_damaged(&at, &scales[i]);
+        run_listings(&at, &scales[i]);
         if (table)
             cover_print(&at.seen);
         if (scales[i].coverage)

@@ -4,8 +4,8 @@
  *
  * Each value in the file is the second program's: the calls from gen.c, replies
  * and tables from second.c, classes and the words of the meetings from ledger.c.
- * The seeds were searched for, so that 40 of the 54 slips of second/mutants show
- * in the file. The program fails unless the ten runs together have every class,
+ * The seeds were searched for, so that 39 of the first 54 slips of second/mutants
+ * show in the file (40 before M-101). The program fails unless the ten runs together have every class,
  * meetings alone and with a waiter, every service, the refusals 3 to 6 and every
  * kind of hub. */
 #include <inttypes.h>
@@ -21,7 +21,7 @@
 enum { RUNS = 10, CALLS = 24 };
 
 static const uint64_t seeds[RUNS] = {
-    410789, 368890, 603406, 2178998, 2843506, 383324, 1963138, 2005245, 120749, 1788735,
+    410789, 368890, 603406, 2178998, 2843506, 383324, 1963138, 2005245, 120749, 1584567,
 };
 
 static const char *const kinds[] = {
@@ -245,6 +245,7 @@ static void print_run(const drawn_run *run, int number)
     print_requests(run);
     print_words("puts", hub->put, hub->puts, bears_word(kind));
     print_words("gets", hub->got, hub->gets, 1);
+    printf("    removed = %" PRIu32 ";\n", hub->owners_removed);
     printf("    count = %" PRIu32 ";\n", count);
     print_words("held", run->table + store_place(0), kind == FIFO ? count : 0, 1);
     printf("  };\n}\n\nagrees-%d : Agrees drawn-%d\nunfolding drawn-%d shows\nagrees-%d = refl\n",

@@ -101,12 +101,16 @@ still-one true false f = refl
 still-one false true f = absurd (false≢true (f refl))
 still-one false false f = refl
 
+pub agree-moved : (s s′ : State) (rs : List Request) → Agree s rs → MovedOrMet s s′ → ((j : ℕ) → task s′ j .state ≡ 3 → task s j .state ≡ 3)
+    → Agree s′ (map (again s′) rs)
+agree-moved s s′ rs k m new = record {
+  entries = entries-again s s′ m rs (k .entries);
+  one = λ i. rw (waiting-again s′ i rs, k .one i) (still-one (eqb (task s i .state) 3) (eqb (task s′ i .state) 3) (λ e. eq-eqb _ 3 (new i (eqb-true _ 3 e))));
+}
+
 pub agree-quiet : (s s′ : State) (rs : List Request) → Agree s rs → Quiet s s′ → Agree s′ (map (again s′) rs)
 unfolding Quiet
-agree-quiet s s′ rs k q = record {
-  entries = entries-again s s′ (λ j e. inl (q j .old e)) rs (k .entries);
-  one = λ i. rw (waiting-again s′ i rs, k .one i) (still-one (eqb (task s i .state) 3) (eqb (task s′ i .state) 3) (λ e. eq-eqb _ 3 (q i .new (eqb-true _ 3 e))));
-}
+agree-quiet s s′ rs k q = agree-moved s s′ rs k (λ j e. inl (q j .old e)) (λ j. q j .new)
 
 -- ---- those that turn
 

@@ -29,7 +29,7 @@ use mathlib.Core.Option.{Option}
 use mathlib.Core.Path.{_∙_, _≡_, ap, refl, subst, sym}
 use native.Mathlib.Omega.{arith}
 
-same-moved : (t t′ : Task) → t′ ≡ t → t .state ≡ 3 → Moved t t′
+pub same-moved : (t t′ : Task) → t′ ≡ t → t .state ≡ 3 → Moved t t′
 same-moved t t′ q g =
     stays (ap (λ (t : Task). t .state) q ∙ g) (ap (λ (t : Task). t .hub) q) (ap (λ (t : Task). t .side) q) (ap (λ (t : Task). t .word) q)
 

@@ -1,17 +1,19 @@
 -- The balances: what a hub's kind promises of the words of its met puts and gets, in order of meeting, and one call's share
 -- in it; the hub table keeps each share, a clause for each row. About any list of waiters met.
 -- Not here: that the words met in a call are those that the verdict says (Asked.antt).
-use Prim.Native.Nat.{_+_, pred, ℕ}
+use Prim.Native.Nat.{_+_, pred, suc, ℕ}
+use Rattle.history.specs.History.{isOwned}
+use Rattle.lists.specs.Lists.{bit}
 use Rattle.rules.proofs.Cases.{condCase}
 use Rattle.rules.proofs.Hubs.{core}
 use Rattle.rules.proofs.Verdicts.{hubAfter}
 use Rattle.rules.specs.Calls.{kept}
-use Rattle.rules.specs.HubTable.{Meeting, Verdict, fail, getEvent, getFifo, getPort, getSemaphore, met, notNow, onGet, onPut, onSide, putEvent, putFifo, putPort, putSemaphore}
+use Rattle.rules.specs.HubTable.{Meeting, Verdict, alone, fail, getEvent, getFifo, getPort, getResource, getSemaphore, met, notNow, onGet, onPut, onSide, pass, putEvent, putFifo, putPort, putResource, putSemaphore}
 use Rattle.rules.specs.Lists.{firstWaiting, holding, queued}
 use Rattle.rules.specs.Table.{Event, Fifo, Get, Hub, Kind, NoKind, NoSide, Port, Put, Resource, Semaphore, Side, State, kindOf, sideOf, task}
 use Rattle.rules.specs.WellFormed.{bearsWord}
 use Rattle.rules.specs.declared.Call.{Call}
-use borrow.Author.Tests.{eqb-true, ltb-true}
+use borrow.Author.Tests.{eq-eqb, eqb-true, ltb-true, ne-eqb}
 use lib.Dec.{eqb, ltb}
 use lib.ListN.{length, length-append}
 use mathlib.Core.Bool.{true}
@@ -23,49 +25,64 @@ use native.Mathlib.Omega.{arith}
 
 -- ---- by kind
 
--- Event and Semaphore: start + puts = count + gets; FIFO: puts = gets, then the words held; Port: puts = gets
-unfoldable pub Balanced : Kind → Hub → List ℕ → List ℕ → Type 0
-Balanced NoKind h puts gets = Unit {0}
-Balanced Event h puts gets = h .start + length puts ≡ h .count + length gets
-Balanced Semaphore h puts gets = h .start + length puts ≡ h .count + length gets
-Balanced Port h puts gets = puts ≡ gets
-Balanced Fifo h puts gets = puts ≡ gets ++ h .held
-Balanced Resource h puts gets = Unit {0}
+-- 1 when owned and 0 when free
+abbrev pub ownedBit : Hub → ℕ
+ownedBit h = bit (isOwned h)
 
--- one call's share: h before it, h′ after it
+pub owned-some : (h : Hub) (i : ℕ) → h .count ≡ suc i → ownedBit h ≡ 1
+owned-some h i e = rw (ne-eqb (h .count) 0 (λ z. omega (arith, e, z)))
+
+pub owned-none : (h : Hub) → h .count ≡ 0 → ownedBit h ≡ 0
+owned-none h e = rw (eq-eqb (h .count) 0 e)
+
+-- Event and Semaphore: start + puts = count + gets; FIFO: puts = gets, then the words held; Port: puts = gets; Resource: gets are
+-- the puts, the n owners that Stops removed, and 1 when owned
+unfoldable pub Balanced : Kind → Hub → ℕ → List ℕ → List ℕ → Type 0
+Balanced NoKind h n puts gets = Unit {0}
+Balanced Event h n puts gets = h .start + length puts ≡ h .count + length gets
+Balanced Semaphore h n puts gets = h .start + length puts ≡ h .count + length gets
+Balanced Port h n puts gets = puts ≡ gets
+Balanced Fifo h n puts gets = puts ≡ gets ++ h .held
+Balanced Resource h n puts gets = length gets ≡ length puts + n + ownedBit h
+
+-- one call's share: h before it, h′ after it, n owners removed
 abbrev Counts : Hub → Hub → List ℕ → List ℕ → Type 0
 Counts h h′ puts gets = (h′ .start ≡ h .start) × (h .count + length puts ≡ h′ .count + length gets)
 
-unfoldable pub Share : Kind → Hub → Hub → List ℕ → List ℕ → Type 0
-Share NoKind h h′ puts gets = Unit {0}
-Share Event h h′ puts gets = Counts h h′ puts gets
-Share Semaphore h h′ puts gets = Counts h h′ puts gets
-Share Port h h′ puts gets = puts ≡ gets
-Share Fifo h h′ puts gets = h .held ++ puts ≡ gets ++ h′ .held
-Share Resource h h′ puts gets = Unit {0}
+unfoldable pub Share : Kind → Hub → Hub → ℕ → List ℕ → List ℕ → Type 0
+Share NoKind h h′ n puts gets = Unit {0}
+Share Event h h′ n puts gets = Counts h h′ puts gets
+Share Semaphore h h′ n puts gets = Counts h h′ puts gets
+Share Port h h′ n puts gets = puts ≡ gets
+Share Fifo h h′ n puts gets = h .held ++ puts ≡ gets ++ h′ .held
+Share Resource h h′ n puts gets = ownedBit h + length gets ≡ ownedBit h′ + length puts + n
 
-pub balance-step : (k : Kind) (h h′ : Hub) (ps gs puts gets : List ℕ) → Balanced k h ps gs → Share k h h′ puts gets → Balanced k h′ (ps ++ puts) (gs ++ gets)
+pub balance-step : (k : Kind) (h h′ : Hub) (m n : ℕ) (ps gs puts gets : List ℕ) → Balanced k h m ps gs → Share k h h′ n puts gets → Balanced k h′ (m + n) (ps ++ puts) (gs ++ gets)
 unfolding Balanced Share
-balance-step NoKind h h′ ps gs puts gets b l = tt
-balance-step Event h h′ ps gs puts gets b l = rw (length-append ps puts, length-append gs gets) (omega (arith, b, l .0, l .1))
-balance-step Semaphore h h′ ps gs puts gets b l = rw (length-append ps puts, length-append gs gets) (omega (arith, b, l .0, l .1))
-balance-step Port h h′ ps gs puts gets b l = rw (b, l)
-balance-step Fifo h h′ ps gs puts gets b l = rw (b, append-assoc gs (h .held) puts, l, append-assoc gs gets (h′ .held)) refl
-balance-step Resource h h′ ps gs puts gets b l = tt
+balance-step NoKind h h′ m n ps gs puts gets b l = tt
+balance-step Event h h′ m n ps gs puts gets b l = rw (length-append ps puts, length-append gs gets) (omega (arith, b, l .0, l .1))
+balance-step Semaphore h h′ m n ps gs puts gets b l = rw (length-append ps puts, length-append gs gets) (omega (arith, b, l .0, l .1))
+balance-step Port h h′ m n ps gs puts gets b l = rw (b, l)
+balance-step Fifo h h′ m n ps gs puts gets b l = rw (b, append-assoc gs (h .held) puts, l, append-assoc gs gets (h′ .held)) refl
+balance-step Resource h h′ m n ps gs puts gets b l = rw (length-append ps puts, length-append gs gets) (omega (arith, b, l))
 
 -- a hub is as it was apart from its waiting list, and nothing is met there
 counts-same : (h h′ : Hub) → core h′ ≡ core h → Counts h h′ [] []
 unfolding core queued
 counts-same h h′ e = (ap (λ (x : Hub). x .start) e, ap (λ (n : ℕ). n + 0) (sym (ap (λ (x : Hub). x .count) e)))
 
-pub share-same : (k : Kind) (h h′ : Hub) → core h′ ≡ core h → Share k h h′ [] []
+owned-same : (h h′ : Hub) → core h′ ≡ core h → ownedBit h′ ≡ ownedBit h
+unfolding core queued
+owned-same h h′ e = ap (λ (x : Hub). ownedBit x) e
+
+pub share-same : (k : Kind) (h h′ : Hub) → core h′ ≡ core h → Share k h h′ 0 [] []
 unfolding Share core queued
 share-same NoKind h h′ e = tt
 share-same Event h h′ e = counts-same h h′ e
 share-same Semaphore h h′ e = counts-same h h′ e
 share-same Port h h′ e = refl
 share-same Fifo h h′ e = append-nil (h .held) ∙ sym (ap (λ (x : Hub). x .held) e)
-share-same Resource h h′ e = tt
+share-same Resource h h′ e = omega (arith, owned-same h h′ e)
 
 -- the share is the same for two hubs that differ in their waiting lists alone
 counts-core : (h x x′ : Hub) (puts gets : List ℕ) → core x′ ≡ core x → Counts h x puts gets → Counts h x′ puts gets
@@ -73,14 +90,14 @@ unfolding core queued
 counts-core h x x′ puts gets e l =
     (ap (λ (y : Hub). y .start) e ∙ l .0, l .1 ∙ ap (λ (n : ℕ). n + length gets) (sym (ap (λ (y : Hub). y .count) e)))
 
-pub share-core : (k : Kind) (h x x′ : Hub) (puts gets : List ℕ) → core x′ ≡ core x → Share k h x puts gets → Share k h x′ puts gets
+pub share-core : (k : Kind) (h x x′ : Hub) (n : ℕ) (puts gets : List ℕ) → core x′ ≡ core x → Share k h x n puts gets → Share k h x′ n puts gets
 unfolding Share core queued
-share-core NoKind h x x′ puts gets e l = tt
-share-core Event h x x′ puts gets e l = counts-core h x x′ puts gets e l
-share-core Semaphore h x x′ puts gets e l = counts-core h x x′ puts gets e l
-share-core Port h x x′ puts gets e l = l
-share-core Fifo h x x′ puts gets e l = l ∙ ap (λ (y : List ℕ). gets ++ y) (sym (ap (λ (y : Hub). y .held) e))
-share-core Resource h x x′ puts gets e l = tt
+share-core NoKind h x x′ n puts gets e l = tt
+share-core Event h x x′ n puts gets e l = counts-core h x x′ puts gets e l
+share-core Semaphore h x x′ n puts gets e l = counts-core h x x′ puts gets e l
+share-core Port h x x′ n puts gets e l = l
+share-core Fifo h x x′ n puts gets e l = l ∙ ap (λ (y : List ℕ). gets ++ y) (sym (ap (λ (y : Hub). y .held) e))
+share-core Resource h x x′ n puts gets e l = omega (arith, l, owned-same x x′ e)
 
 -- ---- what a verdict meets: x is the word that the caller puts
 
@@ -111,7 +128,7 @@ getsBy Get fail = []
 -- ---- the hub table's law
 
 abbrev Law : Kind → Side → State → Hub → ℕ → Verdict → Type 0
-Law k d s h x v = Share k h (hubAfter h v) (putsBy d s x v) (getsBy d v)
+Law k d s h x v = Share k h (hubAfter h v) 0 (putsBy d s x v) (getsBy d v)
 
 law-not : (k : Kind) (d : Side) (s : State) (h : Hub) (x : ℕ) → Law k d s h x notNow
 unfolding getsBy hubAfter putsBy
@@ -122,7 +139,7 @@ law-not k Get s h x = share-same k h h refl
 -- x₀ is the word of the call, x the word kept: the same at a Port or FIFO
 law-put : (k : Kind) (s : State) (f : Option ℕ) (h : Hub) (i x₀ x : ℕ) → (bearsWord k ≡ true → x₀ ≡ x) → ((w : ℕ) → f ≡ some w → k ≡ Fifo → h .held ≡ [])
     → Law k Put s h x (onPut k f h i x₀)
-unfolding Share bearsWord getsBy holding hubAfter onPut putEvent putFifo putPort putSemaphore putsBy
+unfolding Share bearsWord getsBy holding hubAfter onPut pass putEvent putFifo putPort putResource putSemaphore putsBy
 law-put NoKind s f h i x₀ x q e = tt
 law-put Event s (some w) h i x₀ x q e = (refl, refl)
 law-put Event s none h i x₀ x q e =
@@ -137,10 +154,15 @@ law-put Port s none h i x₀ x q e = law-not Port Put s h x
 law-put Fifo s (some w) h i x₀ x q e = rw (e w refl refl, q refl)
 law-put Fifo s none h i x₀ x q e =
     rw (q refl) (condCase (Law Fifo Put s h x) (ltb (h .count) (h .limit)) _ _ (λ b. refl) (λ b. law-not Fifo Put s h x))
-law-put Resource s f h i x₀ x q e = tt
+law-put Resource s f h i x₀ x q e =
+    condCase (Law Resource Put s h x) (eqb (h .count) (suc i)) (pass f h) fail (λ b. passes f (eqb-true (h .count) (suc i) b)) (λ b. law-not Resource Put s h x)
+  where
+    passes : (f : Option ℕ) → h .count ≡ suc i → Law Resource Put s h x (pass f h)
+    passes (some w) e = omega (arith, owned-some h i e, owned-some (hubAfter h (pass (some w) h)) w refl)
+    passes none e = omega (arith, owned-some h i e, owned-none (hubAfter h (pass none h)) refl)
 
 law-get : (k : Kind) (s : State) (f : Option ℕ) (h : Hub) (i x : ℕ) → Law k Get s h x (onGet k s f h i)
-unfolding Share getEvent getFifo getPort getSemaphore getsBy holding hubAfter onGet putsBy
+unfolding Share getEvent getFifo getPort getResource getSemaphore getsBy holding hubAfter onGet putsBy
 law-get NoKind s f h i x = tt
 law-get Event s (some w) h i x = condCase (Law Event Get s h x) (eqb (h .count) 1) _ _ (λ b. (refl, refl)) (λ b. law-not Event Get s h x)
 law-get Event s none h i x =
@@ -160,7 +182,10 @@ law-get Fifo s f h i x = fifo (h .held) refl f
     fifo [] e f = law-not Fifo Get s h x
     fifo (y ∷ ys) e (some w) = rw e
     fifo (y ∷ ys) e none = rw e (append-nil (y ∷ ys))
-law-get Resource s f h i x = tt
+law-get Resource s f h i x =
+    condCase (Law Resource Get s h x) (eqb (h .count) 0) _ _
+    (λ b. omega (arith, owned-none h (eqb-true (h .count) 0 b), owned-some (hubAfter h (alone (suc i) (h .held) 0)) i refl))
+    (λ b. condCase (Law Resource Get s h x) (eqb (h .count) (suc i)) fail notNow (λ _. law-not Resource Get s h x) (λ _. law-not Resource Get s h x))
 
 kept-word : (h : Hub) (c : Call) → c .side ≡ 1 → bearsWord (kindOf (h .kind)) ≡ true → c .word ≡ kept h c
 unfolding kept

@@ -1,11 +1,12 @@
--- What a call does to a waiting task, by service: it waits on with its ticks, less one at a Tick; a hub request meets it; a
--- Stop of it stops it; a Tick times it out. So each way out of waiting has its own service.
+-- What a call does to a waiting task, by service: it waits on with its ticks, less one at a Tick; a hub request meets it, or a Stop
+-- whose target owned what it waits for; a Stop of it stops it; a Tick times it out.
 use Prim.Native.Nat.{_+_, _<_, _≤_, suc, zero, ℕ}
 use Rattle.history.proofs.Again.{Meets}
 use Rattle.history.proofs.Asked.{rests-settle}
-use Rattle.rules.proofs.Accepted.{caller-ready}
+use Rattle.history.proofs.Stopping.{stop-fates}
+use Rattle.rules.proofs.Accepted.{caller-ready, on-task}
 use Rattle.rules.proofs.Cases.{condCase, sameOr}
-use Rattle.rules.proofs.Changes.{added-other, inUse, past-end, set-case, set-other, set-same}
+use Rattle.rules.proofs.Changes.{added-other, inUse, past-end, set-case, set-same}
 use Rattle.rules.proofs.Quiet.{tick-above, tickBy-other}
 use Rattle.rules.proofs.Settled.{answer-other, wake-same}
 use Rattle.rules.proofs.Valid.{Valid}
@@ -46,7 +47,7 @@ Older n t t′ = 1 ≤ t .ticks → (t′ .ticks + n ≡ t .ticks) × (1 ≤ t�
 -- task j, which waits with record t, has record t′ after call c of service w
 pub data Fate (w : Service) (c : Call) (j : ℕ) (t t′ : Task) : Type 0 where
   rests : t′ .state ≡ 3 → Older (ticksOf w) t t′ → Fate w c j t t′
-  meets : w ≡ HubRequest → Meets t′ → Fate w c j t t′
+  meets : (w ≡ HubRequest) ⊎ (w ≡ Stop) → Meets t′ → Fate w c j t t′
   stops : w ≡ Stop → j ≡ c .target → t′ .state ≡ 1 → Fate w c j t t′
   times : w ≡ Tick → t′ .state ≡ 2 → t′ .answer ≡ 3 → Fate w c j t t′
 
@@ -114,28 +115,15 @@ rests-addTask key s c =
 
 -- ---- Stop
 
-stop-fate : (b : Bool) (s : State) (c : Call) (j : ℕ) → task s (c .caller) .state ≡ 2 → task s j .state ≡ 3
-    → Fate Stop c j (task s j) (task (grant b (stop (c .target) s) s c) j)
-unfolding grant
-stop-fate b s c j run e = by b
-  where
-    apart : j ≢ c .caller
-    apart q = omega (arith, run, rw q at e)
-
-    stopped : j ≡ c .target → task (stop (c .target) s) j .state ≡ 1
-    stopped q =
-        unfold inactive leave stop in
-        (rw q (ap (λ (t : Task). t .state) (set-same (leave (c .target) s) (c .target) (inactive (task s (c .target) .priority)) (inUse s (c .target) 1 (rw q at e)))))
-
-    other : j ≢ c .target → task (stop (c .target) s) j ≡ task s j
-    other n = unfold leave stop in set-other (leave (c .target) s) (c .target) (inactive (task s (c .target) .priority)) j n
-
-    by : (b : Bool) → Fate Stop c j (task s j) (task (grant b (stop (c .target) s) s c) j)
-    by true =
-        sameOr j (c .target)
-        (λ q. stops refl q (ap (λ (t : Task). t .state) (answer-other (stop (c .target) s) (c .caller) 1 0 j apart) ∙ stopped q))
-        (λ n. same-fate Stop c j _ _ refl e (answer-other (stop (c .target) s) (c .caller) 1 0 j apart ∙ other n))
-    by false = same-fate Stop c j _ _ refl e (answer-other s (c .caller) 2 0 j apart)
+stop-fate : (key : ℕ → ℕ) (b : Bool) (s : State) (c : Call) (j : ℕ) → Valid s → task s (c .caller) .state ≡ 2 → c .target < length (s .tasks) → task s j .state ≡ 3
+    → Fate Stop c j (task s j) (task (grant b (stop key (c .target) s) s c) j)
+unfolding grant readied
+stop-fate key true s c j g run u e =
+    stop-fates key s c g run u (λ t. Fate Stop c j (task s j) t) j e
+    (λ q t z. stops refl q z)
+    (λ h b. meets (inr refl) (refl, refl))
+    (λ f. same-fate Stop c j _ _ refl e refl)
+stop-fate key false s c j g run u e = same-fate Stop c j _ _ refl e (answer-other s (c .caller) 2 0 j (λ q. omega (arith, run, rw q at e)))
 
 -- ---- Tick, one task and then all: a task's record is as it was until its turn
 
@@ -177,7 +165,7 @@ module _ (key : ℕ → ℕ) where
 pub fate-serve : (key : ℕ → ℕ) (w : Service) → w ≢ Blank → (s : State) (c : Call) → Valid s → refusalFor w s c ≡ 0 → (j : ℕ) → task s j .state ≡ 3
     → Fate w c j (task s j) (task (serve key w s c) j)
 unfolding Rests bearsAnswer serve
-fate-serve key w nb s c g e j st = by w nb (caller-ready s (g .listed) c w e)
+fate-serve key w nb s c g e j st = by w nb e (caller-ready s (g .listed) c w e)
   where
     rest : (w : Service) (s′ : State) → ticksOf w ≡ 0 → Rests s s′ → Fate w c j (task s j) (task s′ j)
     rest w s′ z r = let q = r j st in on-fate w c j (task s j) (task s′ j) z (q .0) (q .1)
@@ -187,21 +175,21 @@ fate-serve key w nb s c g e j st = by w nb (caller-ready s (g .listed) c w e)
 
     asks : (s′ : State) → (task s′ j ≡ task s j) ⊎ Meets (task s′ j) → Fate HubRequest c j (task s j) (task s′ j)
     asks s′ (inl q) = same-fate HubRequest c j _ _ refl st q
-    asks s′ (inr m) = meets refl m
+    asks s′ (inr m) = meets (inl refl) m
 
-    by : (w : Service) → w ≢ Blank → (bearsAnswer w ≡ true → task s (c .caller) .state ≡ 2) → Fate w c j (task s j) (task (serve key w s c) j)
-    by Blank nb r = absurd (nb refl)
-    by HubRequest nb r = asks (serve key HubRequest s c) (rests-settle key s c (r refl) (verdict s c) j st)
-    by Start nb r =
+    by : (w : Service) → w ≢ Blank → refusalFor w s c ≡ 0 → (bearsAnswer w ≡ true → task s (c .caller) .state ≡ 2) → Fate w c j (task s j) (task (serve key w s c) j)
+    by Blank nb e r = absurd (nb refl)
+    by HubRequest nb e r = asks (serve key HubRequest s c) (rests-settle key s c (r refl) (verdict s c) j st)
+    by Start nb e r =
         rest Start (serve key Start s c) refl (rests-grant _ s _ c
         (λ b. rests-start key s s (c .target) (rests-refl s) (λ f. omega (arith, f, eqb-true (task s (c .target) .state) 1 b)))
         (two (r refl)))
-    by Stop nb r = stop-fate _ s c j (r refl) st
-    by Suspend nb r = rest Suspend (serve key Suspend s c) refl (rests-grant _ s _ c (λ b. rests-flag s 1 (c .target)) (two (r refl)))
-    by Resume nb r = rest Resume (serve key Resume s c) refl (rests-grant _ s _ c (λ b. rests-flag s 0 (c .target)) (two (r refl)))
-    by Yield nb r = rest Yield (serve key Yield s c) refl (rests-yield key s (c .caller) (two (r refl)))
-    by Sleep nb r = rest Sleep (serve key Sleep s c) refl (rests-sleep s (c .ticks) (c .caller) (two (r refl)))
-    by Tick nb r = tick-fate key (length (s .tasks)) s c j (inUse s j 1 st) st
-    by AddTask nb r = rest AddTask (serve key AddTask s c) refl (rests-addTask key s c)
-    by AddHub nb r = unfold addHub in same-fate AddHub c j (task s j) (task s j) refl st refl
-    by Unknown nb r = rest Unknown s refl (rests-refl s)
+    by Stop nb e r = stop-fate key _ s c j g (r refl) (unfold refusalFor in on-task s (g .listed) c e .1) st
+    by Suspend nb e r = rest Suspend (serve key Suspend s c) refl (rests-grant _ s _ c (λ b. rests-flag s 1 (c .target)) (two (r refl)))
+    by Resume nb e r = rest Resume (serve key Resume s c) refl (rests-grant _ s _ c (λ b. rests-flag s 0 (c .target)) (two (r refl)))
+    by Yield nb e r = rest Yield (serve key Yield s c) refl (rests-yield key s (c .caller) (two (r refl)))
+    by Sleep nb e r = rest Sleep (serve key Sleep s c) refl (rests-sleep s (c .ticks) (c .caller) (two (r refl)))
+    by Tick nb e r = tick-fate key (length (s .tasks)) s c j (inUse s j 1 st) st
+    by AddTask nb e r = rest AddTask (serve key AddTask s c) refl (rests-addTask key s c)
+    by AddHub nb e r = unfold addHub in same-fate AddHub c j (task s j) (task s j) refl st refl
+    by Unknown nb e r = rest Unknown s refl (rests-refl s)

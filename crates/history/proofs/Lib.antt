@@ -13,4 +13,5 @@ pub mod Opened
 pub mod Promise
 pub mod Reasons
 pub mod Run
+pub mod Stopping
 pub mod Those

@@ -2,22 +2,27 @@
 use Prim.Native.Nat.{_<_, ℕ}
 use Rattle.history.specs.History.{made, partOf}
 use Rattle.history.specs.Statements.{MadeBy, noCall}
-use Rattle.rules.proofs.Accepted.{Asked, request-tests}
+use Rattle.lists.proofs.Laws.{boolCase}
+use Rattle.rules.proofs.Accepted.{Asked, on-task, request-tests}
 use Rattle.rules.proofs.Cases.{sameOr}
 use Rattle.rules.proofs.Changes.{hub-added-other, hub-added-same, length-addHub}
-use Rattle.rules.proofs.Hubs.{SameHubs, core, hub-else, hub-target, hubs-serve, many-settle}
-use Rattle.rules.proofs.Quiet.{isAddTask, isResume, isSleep, isStart, isStop, isSuspend, isTick, isUnknown, isYield}
+use Rattle.rules.proofs.Handed.{handed, handed-not, handed-owned, passed-all}
+use Rattle.rules.proofs.Hubs.{SameHubs, core, hub-else, hub-target, hubs-answer, hubs-deactivate, hubs-serve, many-settle, many-stop}
+use Rattle.rules.proofs.Listed.{listed-deactivate}
+use Rattle.rules.proofs.Quiet.{isAddTask, isResume, isSleep, isStart, isSuspend, isTick, isUnknown, isYield}
 use Rattle.rules.proofs.Valid.{Listed}
 use Rattle.rules.proofs.Verdicts.{hubAfter}
-use Rattle.rules.specs.Calls.{AddHub, AddTask, Blank, HubRequest, Resume, Service, Sleep, Start, Stop, Suspend, Tick, Unknown, Yield, addHub, blank, newHub, serve, settle}
-use Rattle.rules.specs.HubTable.{Verdict, fail, met, notNow, verdict}
+use Rattle.rules.specs.Calls.{AddHub, AddTask, Blank, HubRequest, Resume, Service, Sleep, Start, Stop, Suspend, Tick, Unknown, Yield, addHub, blank, deactivate, grant, heir, newHub, passAll, serve, settle, stop}
+use Rattle.rules.specs.HubTable.{Verdict, fail, met, notNow, pass, verdict}
 use Rattle.rules.specs.Lists.{holding, queued}
 use Rattle.rules.specs.Refusals.{refusalFor}
-use Rattle.rules.specs.Table.{Hub, State, hub}
+use Rattle.rules.specs.Table.{Hub, State, hub, owns}
 use Rattle.rules.specs.declared.Call.{Call}
 use lib.ListN.{List·getD-append, getD, length, length-append}
 use lib.Seq.{getD-append-seam}
+use mathlib.Core.Bool.{Bool, false, true}
 use mathlib.Core.List.{List, [], _++_, _∷_}
+use mathlib.Core.Option.{Option}
 use mathlib.Core.Path.{_∙_, _≡_, ap, refl, subst, sym}
 use native.Mathlib.Omega.{arith}
 
@@ -76,12 +81,40 @@ makes-addHub s c cs m = record {
     last : getD (cs ++ c ∷ []) (length (s .hubs)) noCall ≡ c
     last = rw (← m .many) (getD-append-seam cs c [] noCall)
 
+-- Stop: a Resource passes, kind, limit and start as they were
+makes-passed : (c : Call) (i : ℕ) (f : Option ℕ) (x : Hub) → MadeBy c x → MadeBy c (handed i f x)
+makes-passed c i f x m =
+    boolCase (owns i x) (λ o. rw (handed-owned i f x o) (made-after c x (pass f x) m)) (λ o. rw (handed-not i f x o) m)
+
+makes-stop : (key : ℕ → ℕ) (i : ℕ) (s : State) (cs : List Call) → Listed s → i < length (s .tasks) → Makes s cs → Makes (stop key i s) cs
+unfolding stop
+makes-stop key i s cs l u m = record {
+  many = m .many ∙ sym (many-stop key i s);
+  each = λ h k. made-core (getD cs h noCall) (handed i (heir s₁ h) (hub s₁ h)) (hub (stop key i s) h) (hubs-after h)
+      (makes-passed (getD cs h noCall) i (heir s₁ h) (hub s₁ h) (out h (subst (λ (n : ℕ). h < n) (many-stop key i s) k)));
+}
+  where
+    s₁ : State
+    s₁ = deactivate i s
+
+    out : (h : ℕ) → h < length (s .hubs) → MadeBy (getD cs h noCall) (hub s₁ h)
+    out h k = made-core (getD cs h noCall) (hub s h) (hub s₁ h) (hubs-deactivate i s .each h) (m .each h k)
+
+    hubs-after : (h : ℕ) → core (hub (passAll key i (length (s .hubs)) s₁) h) ≡ core (handed i (heir s₁ h) (hub s₁ h))
+    hubs-after h = rw (← hubs-deactivate i s .many) (passed-all key i s₁ (listed-deactivate i s l u) .hubs h)
+
+makes-grant : (key : ℕ → ℕ) (b : Bool) (s : State) (c : Call) (cs : List Call) → Listed s → c .target < length (s .tasks) → Makes s cs
+    → Makes (grant b (stop key (c .target) s) s c) cs
+unfolding grant
+makes-grant key true s c cs l u m = makes-same _ _ cs (hubs-answer (c .caller) 1 0 _) (makes-stop key (c .target) s cs l u m)
+makes-grant key false s c cs l u m = makes-same _ _ cs (hubs-answer (c .caller) 2 0 s) m
+
 pub makes-serve : (key : ℕ → ℕ) (w : Service) (s : State) (c : Call) (cs : List Call) → Listed s → refusalFor w s c ≡ 0 → Makes s cs → Makes (serve key w s c) (made (partOf w) c cs)
 unfolding made partOf
 makes-serve key Blank s c cs l e m = unfold serve in makes-blank
 makes-serve key HubRequest s c cs l e m = unfold serve in makes-request key s c cs (request-tests s l c e) m
 makes-serve key Start s c cs l e m = makes-same s _ cs (hubs-serve key Start isStart s c) m
-makes-serve key Stop s c cs l e m = makes-same s _ cs (hubs-serve key Stop isStop s c) m
+makes-serve key Stop s c cs l e m = unfold serve in makes-grant key _ s c cs l (unfold refusalFor in on-task s l c e .1) m
 makes-serve key Suspend s c cs l e m = makes-same s _ cs (hubs-serve key Suspend isSuspend s c) m
 makes-serve key Resume s c cs l e m = makes-same s _ cs (hubs-serve key Resume isResume s c) m
 makes-serve key Yield s c cs l e m = makes-same s _ cs (hubs-serve key Yield isYield s c) m

@@ -9,9 +9,10 @@ use Rattle.history.proofs.Meetings.{met-in}
 use Rattle.history.proofs.Reasons.{class-own, one-met, turned-failed, turned-met, turned-timed, turned-withdrawn}
 use Rattle.history.proofs.Run.{Sound, accepted-service, refusal-shown, shown-next, sound-run}
 use Rattle.history.proofs.Those.{each-imp}
-use Rattle.history.specs.History.{Class, History, Request, asked, at, begun, failed, history, howMany, metCount, next, opened, partOf, reread, rowClass, shown, those, timedOut, turned, turnedBy, turnedTo, withdrawn, wordsOf}
+use Rattle.history.specs.History.{Class, History, Request, asked, at, begun, failed, history, howMany, isOwned, metCount, next, opened, partOf, removedAt, reread, rowClass, shown, those, timedOut, turned, turnedBy, turnedTo, withdrawn, wordsOf}
 use Rattle.history.specs.Statements.{Begins, Demand3, Each, EachMet, MetBy, OneEach, Own, addedAs, requestAt}
 use Rattle.lists.proofs.Laws.{boolCase}
+use Rattle.lists.specs.Lists.{bit}
 use Rattle.rules.proofs.After.{well-formed-not-2}
 use Rattle.rules.proofs.Promise.{blank-accepted}
 use Rattle.rules.proofs.Valid.{Range}
@@ -19,7 +20,7 @@ use Rattle.rules.specs.Calls.{HubRequest, Stop, Tick, serve, serviceOf}
 use Rattle.rules.specs.HubTable.{verdict}
 use Rattle.rules.specs.Refusals.{refusalFor, refusalOf}
 use Rattle.rules.specs.Reply.{tableAfter}
-use Rattle.rules.specs.Table.{Event, Fifo, Hub, Kind, NoKind, Port, Semaphore, State, hub, kindOf, noHub}
+use Rattle.rules.specs.Table.{Event, Fifo, Hub, Kind, NoKind, Port, Resource, Semaphore, State, hub, kindOf, noHub}
 use Rattle.rules.specs.WellFormed.{urgency}
 use Rattle.rules.specs.declared.Call.{Call}
 use borrow.Author.Tests.{ltb-false, ltb-true}
@@ -41,8 +42,8 @@ module _ (x : History) (g : Sound x) where
 
   -- ---- the balances
 
-  balanced : (h : ℕ) (k : Kind) → kindOf (hub s h .kind) ≡ k → Balanced k (hub s h) (wordsOf h 1 (x .met)) (wordsOf h 2 (x .met))
-  balanced h k e = subst (λ (k : Kind). Balanced k (hub s h) (wordsOf h 1 (x .met)) (wordsOf h 2 (x .met))) e (g .account .balanced h)
+  balanced : (h : ℕ) (k : Kind) → kindOf (hub s h .kind) ≡ k → Balanced k (hub s h) (removedAt h (x .removed)) (wordsOf h 1 (x .met)) (wordsOf h 2 (x .met))
+  balanced h k e = subst (λ (k : Kind). Balanced k (hub s h) (removedAt h (x .removed)) (wordsOf h 1 (x .met)) (wordsOf h 2 (x .met))) e (g .account .balanced h)
 
   count : (h d : ℕ) → length (wordsOf h d (x .met)) ≡ metCount h d (x .requests)
   unfolding metCount wordsOf
@@ -66,6 +67,11 @@ module _ (x : History) (g : Sound x) where
   event h e =
       let r : Range Event (length (s .tasks)) (hub s h) = rw e at (g .valid .ranges .range h (in-use h Event e (λ q. let z : _≡_ {A = ℕ} 0 1 = cc in omega arith))) in
       omega (arith, balanced h Event e, count h 1, count h 2, r .2)
+
+  resource : (h : ℕ) → kindOf (hub s h .kind) ≡ Resource
+      → metCount h 2 (x .requests) ≡ metCount h 1 (x .requests) + removedAt h (x .removed) + bit (isOwned (hub s h))
+  unfolding Balanced
+  resource h e = omega (arith, balanced h Resource e, count h 1, count h 2)
 
   -- ---- the next call
 
@@ -107,6 +113,7 @@ module _ (x : History) (g : Sound x) where
     event = event;
     fifo = λ h e. unfold Balanced in balanced h Fifo e;
     port = λ h e. unfold Balanced in balanced h Port e;
+    resource = resource;
     own = own;
     metMeansMet = λ c. each-next Class.met (λ s′. MetBy s s′ c) c (λ o. turned-met (urgency s) _ s (x .requests) c (g .account .agree) (g .valid) o refl);
     fails = λ c. each-next failed (λ s′. Own c) c (λ o. turned-failed (urgency s) _ s (x .requests) c (g .account .agree) (g .valid) o refl);

@@ -1,29 +1,35 @@
--- Why a request turned: met by the caller or as its partner, failed in its own call, timed out in a Tick, withdrawn in a Stop
--- of its task. By service, of a state; and that a hub request meets at most one request of each side.
-use Prim.Native.Nat.{_+_, _≤_, ℕ}
-use Rattle.history.proofs.Again.{Agree, Entry, each-turned}
+-- Why a request turned: met by the caller, as its partner or by a Stop of the owner, failed in its own call, timed out in a Tick,
+-- withdrawn in a Stop of its task. By service, of a state; and that a hub request meets at most one request of each side.
+use Prim.Native.Nat.{_+_, _<_, _≤_, ℕ}
+use Rattle.history.proofs.Again.{Agree, Entry, each-turned, turned-none}
 use Rattle.history.proofs.Asked.{class-of-met, class-settle, metCaller, metIn, metWaiter, turned-settle, waiters-met}
 use Rattle.history.proofs.Classes.{class-met, class-stopped, class-timed, class-waiting}
 use Rattle.history.proofs.Fates.{Fate, fate-serve, meets, rests, stops, times}
 use Rattle.history.proofs.Opened.{opened-case}
+use Rattle.history.proofs.Stopping.{stop-one, stop-owner, stop-turned}
 use Rattle.history.proofs.Those.{each-append, each-imp, each-none, howMany-cons}
 use Rattle.history.specs.History.{Class, Request, asked, at, classOf, failed, howMany, opened, partOf, reread, rowClass, those, timedOut, turned, unread, waiting, withdrawn}
-use Rattle.history.specs.Statements.{ByRow, Each, MetBy, Own, itself, partner}
+use Rattle.history.specs.Statements.{ByRow, Each, MetBy, Own, itself, partner, passed}
 use Rattle.lists.specs.Lists.{bit}
-use Rattle.rules.proofs.Accepted.{Asked, request-tests}
-use Rattle.rules.proofs.Cases.{condCase, sameOr}
+use Rattle.rules.proofs.Accepted.{Asked, on-task, request-tests}
+use Rattle.rules.proofs.Cases.{and-l, and-r, condCase, sameOr}
+use Rattle.rules.proofs.Changes.{inUse}
+use Rattle.rules.proofs.Handed.{is-heir, takes}
 use Rattle.rules.proofs.Hubs.{core, hub-target}
-use Rattle.rules.proofs.Settled.{Partners, met-caller, partners}
+use Rattle.rules.proofs.Passing.{length-stop}
+use Rattle.rules.proofs.Quiet.{Quiet}
+use Rattle.rules.proofs.Settled.{Partners, answer-same, met-caller, partners, quiet-told}
 use Rattle.rules.proofs.Valid.{Valid}
 use Rattle.rules.proofs.Verdicts.{Few, across, few, hubAfter, meets-first, meets-later, meets-never, meets-none, waitersMet}
-use Rattle.rules.specs.Calls.{AddHub, AddTask, Blank, HubRequest, Resume, Service, Sleep, Start, Stop, Suspend, Tick, Unknown, Yield, serve, serviceOf, settle}
+use Rattle.rules.specs.Calls.{AddHub, AddTask, Blank, HubRequest, Resume, Service, Sleep, Start, Stop, Suspend, Tick, Unknown, Yield, grant, mayStop, serve, serviceOf, settle, stop}
 use Rattle.rules.specs.HubTable.{Meeting, Verdict, fail, met, notNow, verdict}
-use Rattle.rules.specs.Lists.{firstWaiting, holding, queued}
+use Rattle.rules.specs.Lists.{answer, answered, firstWaiting, holding, queued}
 use Rattle.rules.specs.Refusals.{refusalFor}
-use Rattle.rules.specs.Table.{Hub, State, Task, hub, sideOf, task}
+use Rattle.rules.specs.Table.{Hub, State, Task, hub, owns, sideOf, task}
 use Rattle.rules.specs.declared.Call.{Call}
 use borrow.Author.Tests.{ne-eqb}
 use lib.Dec.{eqb}
+use lib.ListN.{length}
 use mathlib.Core.Bool.{Bool, _&&_, and-false, false, false≢true, true}
 use mathlib.Core.List.{List, [], _++_, _∷_}
 use mathlib.Core.Logic.{_≢_, _⊎_, inl, inr}
@@ -35,7 +41,7 @@ use native.Mathlib.Omega.{arith}
 
 unfoldable Reason : Class → Service → Call → Request → Type 0
 Reason waiting w c r = Unit {0}
-Reason Class.met w c r = w ≡ HubRequest
+Reason Class.met w c r = (w ≡ HubRequest) ⊎ (w ≡ Stop)
 Reason failed w c r = ⊥
 Reason timedOut w c r = w ≡ Tick
 Reason withdrawn w c r = (w ≡ Stop) × (r .task ≡ c .target)
@@ -183,50 +189,96 @@ one-row s c h d t f v (meets-first n ws x w y e) =
 one-row s c h d t f v meets-later = omega (arith, none-at h d)
 one-row s c h d t f v meets-never = omega (arith, none-at h d)
 
--- by service: nobody turns met but in a hub request
+-- a Stop: by what the target owned
+by-stop : (key : ℕ → ℕ) (s : State) (rs : List Request) (c : Call) → Agree s rs → Valid s → (run : task s (c .caller) .state ≡ 2) → (u : c .target < length (s .tasks))
+    → serviceOf (c .service) ≡ Stop → Each (MetBy s (answer (c .caller) 1 0 (stop key (c .target) s)) c) (turned Class.met (answer (c .caller) 1 0 (stop key (c .target) s)) rs)
+unfolding answered takes
+by-stop key s rs c a g run u sv =
+    each-imp _ _ (λ r b. passed (record {
+      service = sv;
+      answer = ap (λ (t : Task). t .answer) (answer-same (stop key (c .target) s) (c .caller) 1 0 (rw (length-stop key (c .target) s) (inUse s (c .caller) 0 run)));
+      owned = and-l _ _ (b .0);
+      side = b .1;
+      first = is-heir _ (r .task) (and-r (owns (c .target) (hub s (r .hub))) _ (b .0));
+      owner = stop-owner key s c g run u rs a (r .hub) (r .task) (b .0);
+    })) _ (stop-turned key s c g run u rs a)
 
-is-request : (w : Service) → (w ≡ HubRequest) ⊎ (w ≢ HubRequest)
-is-request Blank = inr (λ b. let z : _≡_ {A = ℕ} 0 1 = cc in omega arith)
-is-request HubRequest = inl refl
-is-request Start = inr (λ b. let z : _≡_ {A = ℕ} 0 1 = cc in omega arith)
-is-request Stop = inr (λ b. let z : _≡_ {A = ℕ} 0 1 = cc in omega arith)
-is-request Suspend = inr (λ b. let z : _≡_ {A = ℕ} 0 1 = cc in omega arith)
-is-request Resume = inr (λ b. let z : _≡_ {A = ℕ} 0 1 = cc in omega arith)
-is-request Yield = inr (λ b. let z : _≡_ {A = ℕ} 0 1 = cc in omega arith)
-is-request Sleep = inr (λ b. let z : _≡_ {A = ℕ} 0 1 = cc in omega arith)
-is-request Tick = inr (λ b. let z : _≡_ {A = ℕ} 0 1 = cc in omega arith)
-is-request AddTask = inr (λ b. let z : _≡_ {A = ℕ} 0 1 = cc in omega arith)
-is-request AddHub = inr (λ b. let z : _≡_ {A = ℕ} 0 1 = cc in omega arith)
-is-request Unknown = inr (λ b. let z : _≡_ {A = ℕ} 0 1 = cc in omega arith)
+-- by service: nobody turns met but in a hub request or a Stop
 
--- P of those that turn met, where it holds of those that a hub request meets
+data Meets : Service → Type 0 where
+  asks : Meets HubRequest
+  frees : Meets Stop
+  never : (w : Service) → w ≢ HubRequest → w ≢ Stop → Meets w
+
+-- two names are not one
+clash : _≡_ {A = ℕ} 0 1 → ⊥
+clash e = omega (arith, e)
+
+meets-by : (w : Service) → Meets w
+meets-by Blank = never Blank (λ e. clash (cc)) (λ e. clash (cc))
+meets-by HubRequest = asks
+meets-by Start = never Start (λ e. clash (cc)) (λ e. clash (cc))
+meets-by Stop = frees
+meets-by Suspend = never Suspend (λ e. clash (cc)) (λ e. clash (cc))
+meets-by Resume = never Resume (λ e. clash (cc)) (λ e. clash (cc))
+meets-by Yield = never Yield (λ e. clash (cc)) (λ e. clash (cc))
+meets-by Sleep = never Sleep (λ e. clash (cc)) (λ e. clash (cc))
+meets-by Tick = never Tick (λ e. clash (cc)) (λ e. clash (cc))
+meets-by AddTask = never AddTask (λ e. clash (cc)) (λ e. clash (cc))
+meets-by AddHub = never AddHub (λ e. clash (cc)) (λ e. clash (cc))
+meets-by Unknown = never Unknown (λ e. clash (cc)) (λ e. clash (cc))
+
+-- P of those that turn met, where it holds of those that a hub request meets and of those that a Stop that is granted meets
 met-case : (P : State → List Request → Type 0) (key : ℕ → ℕ) (w : Service) (s : State) (rs : List Request) (c : Call) → Agree s rs → Valid s → refusalFor w s c ≡ 0
-    → (w ≡ HubRequest → Asked s c → P (settle key (verdict s c) s c) (metIn s c (verdict s c))) → ((s′ : State) → P s′ [])
+    → (w ≡ HubRequest → Asked s c → P (settle key (verdict s c) s c) (metIn s c (verdict s c)))
+    → (w ≡ Stop → task s (c .caller) .state ≡ 2 → c .target < length (s .tasks) → P (answer (c .caller) 1 0 (stop key (c .target) s)) (turned Class.met (answer (c .caller) 1 0 (stop key (c .target) s)) rs))
+    → ((s′ : State) → P s′ [])
     → P (serve key w s c) (turned Class.met (serve key w s c) (opened (partOf w) s c rs))
-met-case P key w s rs c a g ok f z = by (is-request w)
+met-case P key w s rs c a g ok f k z = by w (meets-by w) ok f k
   where
-    nobody : w ≢ HubRequest → turned Class.met (serve key w s c) (opened (partOf w) s c rs) ≡ []
-    nobody n = each-none _ (turned-by key w s rs c a g ok Class.met (λ r. ⊥) (λ r e. n (unfold Reason in e)) (λ e o. n e))
+    nobody : (w : Service) → refusalFor w s c ≡ 0 → w ≢ HubRequest → w ≢ Stop → turned Class.met (serve key w s c) (opened (partOf w) s c rs) ≡ []
+    nobody w ok n m =
+        each-none _ (turned-by key w s rs c a g ok Class.met (λ r. ⊥) (λ r e. neither (unfold Reason in e)) (λ e o. n e))
+      where
+        neither : (w ≡ HubRequest) ⊎ (w ≡ Stop) → ⊥
+        neither (inl e) = n e
+        neither (inr e) = m e
 
     request : Asked s c → P (settle key (verdict s c) s c) (metIn s c (verdict s c)) → P (serve key HubRequest s c) (turned Class.met (serve key HubRequest s c) (opened (partOf HubRequest) s c rs))
     request t p =
         unfold opened partOf serve in
         rw (turned-settle key s c (t .run) rs a (verdict s c) _ (few s c) (partners s (g .listed) c)) p
 
-    by : (w ≡ HubRequest) ⊎ (w ≢ HubRequest) → P (serve key w s c) (turned Class.met (serve key w s c) (opened (partOf w) s c rs))
-    by (inl e) =
-        let t = request-tests s (g .listed) c (rw e at ok) in
-        rw e (request t (f e t))
-    by (inr n) = rw (nobody n) (z (serve key w s c))
+    -- where it isn't granted nobody's record but the caller's changes
+    granted : (b : Bool) → task s (c .caller) .state ≡ 2
+        → P (answer (c .caller) 1 0 (stop key (c .target) s)) (turned Class.met (answer (c .caller) 1 0 (stop key (c .target) s)) rs)
+        → P (grant b (stop key (c .target) s) s c) (turned Class.met (grant b (stop key (c .target) s) s c) rs)
+    granted true run p = unfold grant in p
+    granted false run p =
+        unfold grant in
+        rw (turned-none s (answer (c .caller) 2 0 s) rs (a .entries) (λ j e. unfold Quiet in quiet-told s c run 2 0 s refl j .old e)) (z (answer (c .caller) 2 0 s))
+
+    by : (w : Service) → Meets w → refusalFor w s c ≡ 0 → (w ≡ HubRequest → Asked s c → P (settle key (verdict s c) s c) (metIn s c (verdict s c)))
+        → (w ≡ Stop → task s (c .caller) .state ≡ 2 → c .target < length (s .tasks) → P (answer (c .caller) 1 0 (stop key (c .target) s)) (turned Class.met (answer (c .caller) 1 0 (stop key (c .target) s)) rs))
+        → P (serve key w s c) (turned Class.met (serve key w s c) (opened (partOf w) s c rs))
+    by w asks ok f k = let t = request-tests s (g .listed) c ok in request t (f refl t)
+    by w frees ok f k =
+        let t = on-task s (g .listed) c (unfold refusalFor in ok) in
+        unfold opened partOf serve in granted (mayStop (task s (c .target)) c) (t .0) (k refl (t .0) (t .1))
+    by w (never v n m) ok f k = rw (nobody v ok n m) (z (serve key v s c))
 
 pub turned-met : (key : ℕ → ℕ) (w : Service) (s : State) (rs : List Request) (c : Call) → Agree s rs → Valid s → refusalFor w s c ≡ 0 → serviceOf (c .service) ≡ w
     → Each (MetBy s (serve key w s c) c) (turned Class.met (serve key w s c) (opened (partOf w) s c rs))
 turned-met key w s rs c a g ok sv =
     met-case (λ s′ l. Each (MetBy s s′ c) l) key w s rs c a g ok
     (λ e t. met-row key s c (sv ∙ e) t (verdict s c) refl (few s c) (partners s (g .listed) c))
+    (λ e run u. by-stop key s rs c a g run u (sv ∙ e))
     (λ s′. unfold Each in tt)
 
 pub one-met : (key : ℕ → ℕ) (w : Service) (s : State) (rs : List Request) (c : Call) → Agree s rs → Valid s → refusalFor w s c ≡ 0
     → (h d : ℕ) → howMany (at h d) (turned Class.met (serve key w s c) (opened (partOf w) s c rs)) ≤ 1
 one-met key w s rs c a g ok h d =
-    met-case (λ s′ l. howMany (at h d) l ≤ 1) key w s rs c a g ok (λ e t. one-row s c h d (t .side) _ (verdict s c) (few s c)) (λ s′. omega (arith, none-at h d))
+    met-case (λ s′ l. howMany (at h d) l ≤ 1) key w s rs c a g ok
+    (λ e t. one-row s c h d (t .side) _ (verdict s c) (few s c))
+    (λ e run u. stop-one key s c g run u rs a h d)
+    (λ s′. omega (arith, none-at h d))

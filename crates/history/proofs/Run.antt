@@ -23,7 +23,7 @@ use mathlib.Core.Path.{_∙_, _≡_, refl}
 pub record Sound (x : History) : Type 0 where
   pub formed : wellFormed (x .table) ≡ true
   pub valid : Valid (shown (x .table))
-  pub account : Account (shown (x .table)) (x .requests) (x .met)
+  pub account : Account (shown (x .table)) (x .requests) (x .met) (x .removed)
   pub makes : Makes (shown (x .table)) (x .added)
 
 -- ---- a call, by its service on the state shown
@@ -47,7 +47,7 @@ unfolding nextBy turnedBy
 sound-by zero x c g e = record {
   formed = well-formed-after (x .table) c e;
   valid = read-valid (tableAfter (x .table) c) (well-formed-after (x .table) c e);
-  account = rw (shown-next x c e) (account-serve _ (serviceOf (c .service)) (shown (x .table)) (x .requests) (x .met) c (g .account) (g .valid) (accepted-service x c e));
+  account = rw (shown-next x c e) (account-serve _ (serviceOf (c .service)) (shown (x .table)) (x .requests) (x .met) (x .removed) c (g .account) (g .valid) (accepted-service x c e));
   makes = rw (shown-next x c e) (makes-serve _ (serviceOf (c .service)) (shown (x .table)) c (x .added) (g .valid .listed) (accepted-service x c e) (g .makes));
 }
 sound-by (suc n) x c g e = record {

@@ -1,9 +1,13 @@
--- Laws of `those`, `howMany` and `Each`, for any list: appended, mapped, tests that agree, none, just one; what holds of each.
-use Prim.Native.Nat.{_+_, _<_, suc, zero, ℕ}
+-- Laws of `those`, `howMany` and `Each`, for any list: appended, mapped, tests that agree, none, just one; what holds of each; of the numbers below n.
+use Prim.Native.Nat.{_+_, _<_, _≤_, suc, zero, ℕ}
 use Rattle.history.specs.History.{howMany, those}
 use Rattle.history.specs.Statements.{Each}
 use Rattle.lists.proofs.Laws.{boolCase}
 use Rattle.lists.specs.Lists.{bit}
+use Rattle.rules.proofs.Cases.{sameOr}
+use Rattle.rules.specs.Table.{tab}
+use borrow.Author.Tests.{eq-eqb, ltb-false, ltb-true, ne-eqb}
+use lib.Dec.{eqb, ltb}
 use lib.ListN.{getD, length, length-append}
 use mathlib.Core.Bool.{Bool, _&&_, and-false, cond, false, true}
 use mathlib.Core.List.{List, [], _++_, _∷_, map}
@@ -49,6 +53,10 @@ module _ {A : Type 0} where
   each-those P p [] a = tt
   each-those P p (x ∷ xs) a = boolCase (p x) (λ b. rw b ((a .0, b), each-those P p xs (a .1))) (λ b. rw b (each-those P p xs (a .1)))
 
+  pub no-entries : (xs : List A) → length xs ≡ 0 → xs ≡ []
+  no-entries [] e = refl
+  no-entries (x ∷ xs) e = absurd (omega (arith, e))
+
   -- ---- those that pass
 
   pub those-append : (p : A → Bool) (xs ys : List A) → those p (xs ++ ys) ≡ those p xs ++ those p ys
@@ -72,6 +80,15 @@ module _ {A : Type 0} where
   unfolding Each those
   those-none p [] a = refl
   those-none p (x ∷ xs) a = rw (a .0, those-none p xs (a .1))
+
+  -- those that pass two tests
+  pub those-those : (p q : A → Bool) (xs : List A) → those p (those q xs) ≡ those (λ x. q x && p x) xs
+  unfolding those
+  those-those p q [] = refl
+  those-those p q (x ∷ xs) =
+      boolCase (q x)
+      (λ b. boolCase (p x) (λ e. rw (b, e, those-those p q xs)) (λ e. rw (b, e, those-those p q xs)))
+      (λ b. rw (b, those-those p q xs))
 
   -- a test that also asks for b
   pub howMany-and : (p : A → Bool) (b : Bool) (xs : List A) → howMany (λ x. p x && b) xs ≡ cond b (howMany p xs) 0
@@ -101,3 +118,43 @@ module _ {A B : Type 0} where
   unfolding Each
   each-map P f [] a = tt
   each-map P f (x ∷ xs) a = (a .0, each-map P f xs (a .1))
+
+-- ---- the numbers below n: each once
+
+below-none : (p : ℕ → Bool) (n i h : ℕ) → h < i → howMany (λ g. eqb g h) (those p (tab n i (λ g. g))) ≡ 0
+unfolding tab those
+below-none p zero i h l = refl
+below-none p (suc n) i h l =
+    boolCase (p i)
+    (λ b. rw (b, ne-eqb i h (λ e. omega (arith, e))) (below-none p n (suc i) h (omega arith)))
+    (λ b. rw b (below-none p n (suc i) h (omega arith)))
+
+below-from : (p : ℕ → Bool) (n i h : ℕ) → i ≤ h → h < i + n → howMany (λ g. eqb g h) (those p (tab n i (λ g. g))) ≡ bit (p h)
+unfolding tab those
+below-from p zero i h l u = absurd (omega arith)
+below-from p (suc n) i h l u =
+    sameOr i h
+    (λ e. boolCase (p i)
+    (λ b. rw (b, eq-eqb i h e, below-none p n (suc i) h (omega (arith, e)), ← e, b) refl)
+    (λ b. rw (b, below-none p n (suc i) h (omega (arith, e)), ← e, b) refl))
+    (λ d. boolCase (p i)
+    (λ b. rw (b, ne-eqb i h d) (below-from p n (suc i) h (omega arith) (omega arith)))
+    (λ b. rw b (below-from p n (suc i) h (omega arith) (omega arith))))
+
+past : (p : ℕ → Bool) (n i h : ℕ) → i + n ≤ h → howMany (λ g. eqb g h) (those p (tab n i (λ g. g))) ≡ 0
+unfolding tab those
+past p zero i h l = refl
+past p (suc n) i h l =
+    boolCase (p i)
+    (λ b. rw (b, ne-eqb i h (λ e. omega (arith, e))) (past p n (suc i) h (omega arith)))
+    (λ b. rw b (past p n (suc i) h (omega arith)))
+
+-- of the numbers below n that pass, h is one if it passes, where none from n on passes
+pub howMany-below : (p : ℕ → Bool) (n h : ℕ) → (p h ≡ true → h < n) → howMany (λ g. eqb g h) (those p (tab n 0 (λ g. g))) ≡ bit (p h)
+howMany-below p n h f =
+    boolCase (ltb h n)
+    (λ b. below-from p n 0 h (omega arith) (omega (arith, ltb-true h n b)))
+    (λ b. past-none b)
+  where
+    past-none : ltb h n ≡ false → howMany (λ g. eqb g h) (those p (tab n 0 (λ g. g))) ≡ bit (p h)
+    past-none b = boolCase (p h) (λ e. absurd (omega (arith, f e, ltb-false h n b))) (λ e. rw e (past p n 0 h (omega (arith, ltb-false h n b))))

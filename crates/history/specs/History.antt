@@ -6,11 +6,11 @@ use Rattle.rules.specs.Calls.{AddHub, AddTask, Blank, HubRequest, Resume, Servi
 use Rattle.rules.specs.HubTable.{Verdict, fail, notNow}
 use Rattle.rules.specs.Refusals.{refusalOf}
 use Rattle.rules.specs.Reply.{tableAfter}
-use Rattle.rules.specs.Table.{Inactive, NoStage, Ready, Sleeping, Stage, State, Task, Waiting, hub, one, read, stageOf, task}
+use Rattle.rules.specs.Table.{Hub, Inactive, NoStage, Ready, Sleeping, Stage, State, Task, Waiting, hub, one, owns, read, stageOf, tab, task}
 use Rattle.rules.specs.declared.Call.{Call}
 use lib.Dec.{eqb}
 use lib.ListN.{getD, length}
-use mathlib.Core.Bool.{Bool, _&&_, cond}
+use mathlib.Core.Bool.{Bool, _&&_, cond, not}
 use mathlib.Core.List.{List, [], _++_, _∷_, map}
 
 -- ---- lists
@@ -132,16 +132,18 @@ partOf AddHub = adds
 partOf Unknown = passes
 
 -- the table as it stands; the accepted hub requests since the last Blank, in the order of the calls; those that are met, in
--- the order of meeting; the accepted Add hub calls, in order: hub h is made by the one at place h
+-- the order of meeting; the accepted Add hub calls, in order: hub h is made by the one at place h; the hubs whose owner a Stop
+-- removed, in the order of the calls
 pub record History : Type 0 where
   pub table : List ℕ
   pub requests : List Request
   pub met : List Request
   pub added : List Call
+  pub removed : List ℕ
 
 -- a run's beginning: the table after an accepted Blank
 unfoldable pub begun : List ℕ → History
-begun t = record { table = t; requests = []; met = []; added = [] }
+begun t = record { table = t; requests = []; met = []; added = []; removed = [] }
 
 -- the requests that the table after an accepted call is read for: with its own, where it opens one
 unfoldable pub opened : Part → State → Call → List Request → List Request
@@ -163,6 +165,23 @@ made opens c cs = cs
 made adds c cs = cs ++ c ∷ []
 made passes c cs = cs
 
+-- M-101 "owners removed by Stop": an accepted Stop with answer 1, and each hub that its target owned in the table before; s is
+-- the state before the call, s′ the one after it
+unfoldable pub removedBy : Service → State → State → Call → List ℕ
+removedBy Blank s s′ c = []
+removedBy HubRequest s s′ c = []
+removedBy Start s s′ c = []
+removedBy Stop s s′ c =
+    cond (eqb (task s′ (c .caller) .answer) 1) (those (λ h. owns (c .target) (hub s h)) (tab (length (s .hubs)) 0 (λ h. h))) []
+removedBy Suspend s s′ c = []
+removedBy Resume s s′ c = []
+removedBy Yield s s′ c = []
+removedBy Sleep s s′ c = []
+removedBy Tick s s′ c = []
+removedBy AddTask s s′ c = []
+removedBy AddHub s s′ c = []
+removedBy Unknown s s′ c = []
+
 -- those that call c turns into k, where t is the table before; by the refusal number, none where it is refused
 unfoldable pub turnedBy : ℕ → Class → List ℕ → Call → List Request → List Request
 turnedBy zero k t c rs = turned k (shown (tableAfter t c)) (opened (partOf (serviceOf (c .service))) (shown t) c rs)
@@ -178,8 +197,15 @@ nextBy zero x c = record {
   requests = map (again (shown (tableAfter (x .table) c))) (opened (partOf (serviceOf (c .service))) (shown (x .table)) c (x .requests));
   met = sinceBlank (partOf (serviceOf (c .service))) (x .met) ++ turnedBy 0 met (x .table) c (x .requests);
   added = made (partOf (serviceOf (c .service))) c (x .added);
+  removed = sinceBlank (partOf (serviceOf (c .service))) (x .removed) ++ removedBy (serviceOf (c .service)) (shown (x .table)) (shown (tableAfter (x .table) c)) c;
 }
-nextBy (suc r) x c = record { table = tableAfter (x .table) c; requests = x .requests; met = x .met; added = x .added }
+nextBy (suc r) x c = record {
+  table = tableAfter (x .table) c;
+  requests = x .requests;
+  met = x .met;
+  added = x .added;
+  removed = x .removed;
+}
 
 unfoldable pub next : History → Call → History
 next x c = nextBy (refusalOf (x .table) c) x c
@@ -202,6 +228,14 @@ at h d r = eqb (r .hub) h && eqb (r .side) d
 -- how many requests of a side at a hub are met
 unfoldable pub metCount : ℕ → ℕ → List Request → ℕ
 metCount h d rs = howMany (λ r. at h d r && isMet r) rs
+
+-- how many owners of a hub a Stop removed
+abbrev pub removedAt : ℕ → List ℕ → ℕ
+removedAt h hs = howMany (λ g. eqb g h) hs
+
+-- a Resource is owned, or free
+abbrev pub isOwned : Hub → Bool
+isOwned x = not (eqb (x .count) 0)
 
 -- the word that a met request passed on: the word put, or the word received
 abbrev pub passed : Request → ℕ

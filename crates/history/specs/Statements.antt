@@ -3,14 +3,14 @@
 -- A run: a Blank, accepted, on any 600 words (`Begins`), and then any calls, any seven numbers each, refused ones included;
 -- x is its history (History.antt), and x .table the table as it stands.
 use Prim.Native.Nat.{_+_, _<_, _≤_, suc, ℕ}
-use Rattle.history.specs.History.{History, Request, at, classOf, failed, history, howMany, isMet, met, metCount, next, rowClass, shown, timedOut, turnedTo, unread, waiting, waitsBy, withdrawn, wordsOf}
+use Rattle.history.specs.History.{History, Request, at, classOf, failed, history, howMany, isMet, isOwned, met, metCount, next, removedAt, rowClass, shown, timedOut, turnedTo, unread, waiting, waitsBy, withdrawn, wordsOf}
 use Rattle.lists.specs.Lists.{bit}
 use Rattle.rules.specs.Calls.{Blank, HubRequest, Stop, Tick, serviceOf}
 use Rattle.rules.specs.HubTable.{Meeting, Verdict, verdict}
 use Rattle.rules.specs.Lists.{firstWaiting}
 use Rattle.rules.specs.Refusals.{WT, modeOf, refusalOf}
 use Rattle.rules.specs.Reply.{tableAfter}
-use Rattle.rules.specs.Table.{Event, Fifo, Hub, Port, Semaphore, State, hub, kindOf, task}
+use Rattle.rules.specs.Table.{Event, Fifo, Hub, Port, Resource, Semaphore, State, hub, kindOf, owns, task}
 use Rattle.rules.specs.WellFormed.{wellFormed}
 use Rattle.rules.specs.declared.Call.{Call}
 use lib.Dec.{eqb}
@@ -111,10 +111,20 @@ pub record ByCaller (s s′ : State) (c : Call) (r : Request) : Type 0 where
   pub first : firstWaiting s (r .side) (hub s (c .target) .waiters) ≡ some (r .task)
   pub caller : classOf (task s′ (c .caller)) ≡ met
 
+-- M-101: the first waiter of a Resource that the stopped task owned, who owns it now
+pub record ByStop (s s′ : State) (c : Call) (r : Request) : Type 0 where
+  pub service : serviceOf (c .service) ≡ Stop
+  pub answer : task s′ (c .caller) .answer ≡ 1
+  pub owned : owns (c .target) (hub s (r .hub)) ≡ true
+  pub side : r .side ≡ 2
+  pub first : firstWaiting s 2 (hub s (r .hub) .waiters) ≡ some (r .task)
+  pub owner : owns (r .task) (hub s′ (r .hub)) ≡ true
+
 -- who met r in call c
 pub data MetBy (s s′ : State) (c : Call) (r : Request) : Type 0 where
   itself : ByRow s s′ c r → MetBy s s′ c r
   partner : ByCaller s s′ c r → MetBy s s′ c r
+  passed : ByStop s s′ c r → MetBy s s′ c r
 
 -- ---- demand 3
 
@@ -142,11 +152,15 @@ pub record Demand3 (x : History) : Type 0 where
       → wordsOf h 1 (x .met) ≡ wordsOf h 2 (x .met) ++ hub (shown (x .table)) h .held
   -- Port: the words of met puts, in order of meeting, are the words of met gets
   pub port : (h : ℕ) → kindOf (hub (shown (x .table)) h .kind) ≡ Port → wordsOf h 1 (x .met) ≡ wordsOf h 2 (x .met)
+  -- Resource: met locks less met unlocks less owners removed by Stop is 1 when owned and 0 when free
+  pub resource : (h : ℕ) → kindOf (hub (shown (x .table)) h .kind) ≡ Resource
+      → metCount h 2 (x .requests) ≡ metCount h 1 (x .requests) + removedAt h (x .removed) + bit (isOwned (hub (shown (x .table)) h))
   -- a request is met, fails or waits as the hub table's row for it says: call c opens it, and it takes the next place
   pub own : (c : Call) → serviceOf (c .service) ≡ HubRequest → refusalOf (x .table) c ≡ 0
       → requestAt (next x c) (length (x .requests)) .class ≡ rowClass (verdict (shown (x .table)) c) c
   -- a request that came back is never met unless somebody, or the hub's own count or store, met it: whoever turns met in a
-  -- call is its caller, by the hub table's row, or the first waiter of the other side at its hub, the caller being met too
+  -- call is its caller, by the hub table's row, or the first waiter of the other side at its hub, the caller being met too, or
+  -- the first waiter of a Resource whose owner the call stopped
   pub metMeansMet : (c : Call) → Each (MetBy (shown (x .table)) (shown (tableAfter (x .table) c)) c) (turnedTo met x c)
   -- a request fails in its own call only, times out in a Tick only, is withdrawn by a Stop of its task only
   pub fails : (c : Call) → Each (Own c) (turnedTo failed x c)

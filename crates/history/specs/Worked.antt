@@ -1,16 +1,17 @@
--- Two runs worked out over the tables themselves, by computation: the marked calls of document 01, and one with a Stop.
+-- Three runs worked out over the tables themselves, by computation: the marked calls of document 01, one with a Stop of a task
+-- that waits, one with a Stop of a task that owns a Resource (M-101).
 -- A line for each call behind the Blank, a line for each request that the calls opened; refused calls open none.
 use Prim.Native.Nat.{ℕ}
-use Rattle.history.specs.History.{Class, History, Request, again, asked, begun, classBy, classOf, failed, history, made, met, metCount, next, nextBy, opened, partOf, reread, shown, sinceBlank, those, timedOut, turned, turnedBy, turnedTo, waiting, withdrawn, wordsOf}
+use Rattle.history.specs.History.{Class, History, Request, again, asked, begun, classBy, classOf, failed, history, made, met, metCount, next, nextBy, opened, partOf, removedAt, removedBy, reread, shown, sinceBlank, those, timedOut, turned, turnedBy, turnedTo, waiting, withdrawn, wordsOf}
 use Rattle.lists.specs.Lists.{allZero, entries, insert, numbers, occ, packed, without}
-use Rattle.rules.specs.Calls.{addHub, addStarted, addTask, blank, flag, grant, hold, kept, meetAll, newHub, serve, served, serviceOf, settle, slept, start, stop, tickAll, tickBy, tickOne, wait, yielded}
+use Rattle.rules.specs.Calls.{addHub, addStarted, addTask, blank, carryOut, deactivate, flag, grant, hold, kept, meetAll, newHub, passAll, passOne, serve, served, serviceOf, settle, slept, start, stop, tickAll, tickBy, tickOne, wait, yielded}
 use Rattle.rules.specs.HubTable.{getEvent, getFifo, getPort, getResource, getSemaphore, onGet, onPut, onSide, pass, putEvent, putFifo, putPort, putResource, putSemaphore, verdict}
 use Rattle.rules.specs.Lists.{answer, answered, asleep, counted, firstFree, firstWaiting, flagged, holding, joinHub, joinReady, leave, queued, readied, unqueue, waits, wake}
 use Rattle.rules.specs.Lists.{next as running}
 use Rattle.rules.specs.Refusals.{byRunning, goodHub, goodWait, modeOf, need, onTask, refusal, refusalFor, refusalIn}
 use Rattle.rules.specs.Reply.{tableAfter, tableBy, tableIn}
-use Rattle.rules.specs.Table.{contents, heldIn, hub, hubAt, inactive, kindOf, noHub, read, rows, setHub, setReady, setTask, sideOf, stageOf, tab, taskAt, words}
-use Rattle.rules.specs.WellFormed.{bearsWord, contentsRight, every, exactly, fieldsRight, forAll, hubsRight, inOrder, kindRight, listsExact, listsPacked, mayWait, oneSide, rising, stageRight, storeRight, storesRight, tasksRight, unusedZero, valid, waitersRight, wellFormedIn, written}
+use Rattle.rules.specs.Table.{contents, heldIn, hub, hubAt, inactive, isResource, kindOf, noHub, owns, read, rows, setHub, setReady, setTask, sideOf, stageOf, tab, taskAt, words}
+use Rattle.rules.specs.WellFormed.{bearsWord, contentsRight, every, exactly, fieldsRight, forAll, hubsRight, inOrder, kindRight, listsExact, listsPacked, mayWait, oneSide, ownerRight, ownersRight, rising, stageRight, storeRight, storesRight, tasksRight, unusedZero, valid, waitersRight, wellFormedIn, written}
 use Rattle.rules.specs.declared.Call.{Call}
 use lib.ListN.{replicate}
 use mathlib.Core.List.{List, [], _∷_}
@@ -26,11 +27,13 @@ row i h d w k x = record { task = i; hub = h; side = d; word = w; class = k; rec
 unfoldable pub run : List Call → History
 run cs = history (begun (tableAfter (replicate 600 0) (call 0 0 0 0 0 0 0))) cs
 
--- what is seen of it: its requests; the words of met puts and of met gets at hub 0, its count and the words it holds
+-- what is seen of it: its requests; the words of met puts and of met gets at hub 0, how many owners of it a Stop removed, its
+-- count and the words it holds
 pub record Seen : Type 0 where
   pub requests : List Request
   pub puts : List ℕ
   pub gets : List ℕ
+  pub removed : ℕ
   pub count : ℕ
   pub held : List ℕ
 
@@ -39,13 +42,14 @@ seen x = record {
   requests = x .requests;
   puts = wordsOf 0 1 (x .met);
   gets = wordsOf 0 2 (x .met);
+  removed = removedAt 0 (x .removed);
   count = hub (shown (x .table)) 0 .count;
   held = hub (shown (x .table)) 0 .held;
 }
 
 -- what is seen of a run; to unfold it is to unfold all that it computes with
 unfoldable pub shows : List Call → Seen
-unfolding addHub addStarted addTask again allZero answer answered asked asleep bearsWord begun blank byRunning classBy classOf contents contentsRight counted entries every exactly fieldsRight firstFree firstWaiting flag flagged forAll getEvent getFifo getPort getResource getSemaphore goodHub goodWait grant heldIn history hold holding hubAt hubsRight inOrder inactive insert joinHub joinReady kept kindOf kindRight leave listsExact listsPacked made mayWait meetAll metCount modeOf need newHub next nextBy noHub numbers occ onGet onPut onSide onTask oneSide opened packed partOf pass putEvent putFifo putPort putResource putSemaphore queued read readied refusal refusalFor refusalIn reread rising rows run running seen serve served serviceOf setHub setReady setTask settle sideOf sinceBlank slept stageOf stageRight start stop storeRight storesRight tab tableBy tableIn taskAt tasksRight those tickAll tickBy tickOne turned turnedBy turnedTo unqueue unusedZero valid verdict wait waitersRight waits wake wellFormedIn without words wordsOf written yielded
+unfolding addHub addStarted addTask again allZero answer answered asked asleep bearsWord begun blank byRunning carryOut classBy classOf contents contentsRight counted deactivate entries every exactly fieldsRight firstFree firstWaiting flag flagged forAll getEvent getFifo getPort getResource getSemaphore goodHub goodWait grant heldIn history hold holding hubAt hubsRight inOrder inactive insert isResource joinHub joinReady kept kindOf kindRight leave listsExact listsPacked made mayWait meetAll metCount modeOf need newHub next nextBy noHub numbers occ onGet onPut onSide onTask oneSide opened ownerRight ownersRight owns packed partOf pass passAll passOne putEvent putFifo putPort putResource putSemaphore queued read readied refusal refusalFor refusalIn removedBy reread rising rows run running seen serve served serviceOf setHub setReady setTask settle sideOf sinceBlank slept stageOf stageRight start stop storeRight storesRight tab tableBy tableIn taskAt tasksRight those tickAll tickBy tickOne turned turnedBy turnedTo unqueue unusedZero valid verdict wait waitersRight waits wake wellFormedIn without words wordsOf written yielded
 shows cs = seen (run cs)
 
 -- the marked calls behind the Blank
@@ -77,6 +81,20 @@ stopped =
     ∷ call 1 1 0 2 1 0 0  -- gets again: it waits
     ∷ []
 
+-- a Resource whose owner is stopped: it passes to the task that waits, which unlocks it
+unfoldable pub passes : List Call
+passes =
+    call 9 0 1 1 0 0 0  -- task 0, priority 1, started
+    ∷ call 9 0 2 1 0 0 0  -- task 1, priority 2, started
+    ∷ call 9 0 3 1 0 0 0  -- task 2, priority 3, started
+    ∷ call 10 0 5 0 0 1 0  -- hub 0, a Resource
+    ∷ call 1 0 0 2 1 0 0  -- task 0 locks it: met
+    ∷ call 7 0 0 0 0 9 0  -- and sleeps
+    ∷ call 1 1 0 2 3 5 0  -- task 1 locks under WT: it waits
+    ∷ call 3 2 0 0 0 0 0  -- task 2 stops task 0: task 1 is met and owns it
+    ∷ call 1 1 0 1 1 0 0  -- task 1 unlocks: met, and it is free
+    ∷ []
+
 --       task hub side word class received
 pub worked : (
     shows marked ≡ record {
@@ -89,6 +107,7 @@ pub worked : (
           ∷ [];
       puts = 77 ∷ 9 ∷ [];
       gets = 77 ∷ [];
+      removed = 0;
       count = 1;
       held = 9 ∷ [];
     }
@@ -103,9 +122,19 @@ pub worked : (
           ∷ [];
       puts = 0 ∷ [];
       gets = 0 ∷ 0 ∷ [];
+      removed = 0;
+      count = 0;
+      held = [];
+    }
+    ) × (
+    shows passes ≡ record {
+      requests = row 0 0 2 0 met 0 ∷ row 1 0 2 0 met 0 ∷ row 1 0 1 0 met 0 ∷ [];
+      puts = 0 ∷ [];
+      gets = 0 ∷ 0 ∷ [];
+      removed = 1;
       count = 0;
       held = [];
     }
     )
-unfolding marked shows stopped
-worked = (refl, refl)
+unfolding marked passes shows stopped
+worked = (refl, refl, refl)

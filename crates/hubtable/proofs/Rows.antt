@@ -2,7 +2,8 @@
 -- a Semaphore of limit 1.
 -- Not here: the paths of each function (its own folder). Assumes nothing.
 use Prim.Native.Nat.{_-_, _<_, _≤_, pred, suc, zero, ℕ}
-use Rattle.hubtable.specs.Says.{first, metWith}
+use Rattle.hubtable.specs.Says.{metWith}
+use Rattle.records.specs.Records.{first}
 use Rattle.rules.proofs.Valid.{Range}
 use Rattle.rules.specs.HubTable.{getEvent, getFifo, getSemaphore, met, notNow, onGet, onPut, pass, putEvent, putSemaphore}
 use Rattle.rules.specs.Table.{Event, Fifo, Hub, NoKind, Port, Resource, Semaphore, State, kindOf, task}
@@ -14,17 +15,6 @@ use mathlib.Core.Option.{Option, none, some}
 use mathlib.Core.Path.{_≡_, refl, sym}
 use native.Mathlib.Numerals.{sub-one}
 use native.Mathlib.Omega.{arith}
-
--- ---- the first waiter
-
-pub first-none : (n : ℕ) → n ≡ 0 → first n ≡ none
-unfolding first
-first-none n e = rw e
-
-pub first-some : (n : ℕ) → (n ≡ 0 → ⊥) → first n ≡ some (pred n)
-unfolding first
-first-some zero h = absurd (h refl)
-first-some (suc n) h = refl
 
 -- ---- a Resource's owner
 

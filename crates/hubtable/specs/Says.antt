@@ -1,11 +1,12 @@
--- What this crate's answers say, in the terms of the rules: definitions alone. In order: a hub record as the rules' hub, a
--- waiter, the waiters met, the words held afterwards, a verdict; the bound of its messages.
+-- What this crate's answers say, in the terms of the rules: definitions alone. In order: a hub record as the rules' hub, the
+-- waiters met, the words held afterwards, a verdict; the bound of its messages.
 -- Not here: the hub table itself (crate rules, specs/HubTable.antt).
-use Prim.Native.Nat.{_<_, suc, zero, ℕ}
+use Prim.Native.Nat.{_<_, ℕ}
 use Rattle.hubtable.specs.declared.Store.the-variants.{Append, Keep, Take, TakeAppend}
 use Rattle.hubtable.specs.declared.Store.{Store}
 use Rattle.hubtable.specs.declared.Verdict.the-variants.{Fail, Met, NotNow}
 use Rattle.hubtable.specs.declared.Verdict.{Verdict}
+use Rattle.records.specs.Records.{first}
 use Rattle.records.specs.declared.HubRecord.{HubRecord}
 use Rattle.rules.specs.HubTable.{Meeting, Verdict as Row, fail, met, notNow}
 use Rattle.rules.specs.Table.{Hub}
@@ -20,11 +21,6 @@ pub record RecordOf (h : HubRecord) (x : Hub) : Type 0 where
   pub count : h .count ≡ x .count
   pub limit : h .limit ≡ x .limit
   pub start : h .start ≡ x .start
-
--- a waiter as a list has it: task number plus 1, or 0 for none
-unfoldable pub first : ℕ → Option ℕ
-first zero = none
-first (suc w) = some w
 
 -- the waiters met, who have word y afterwards: one or none
 unfoldable pub metWith : Option ℕ → ℕ → List Meeting

@@ -3,7 +3,8 @@
 // A message is one number; what a verdict says of messages is below any bound that those handed in are below.
 // Not here: where the words stand in the table, and what a verdict does to it.
 ghost use Prim.Native.Nat.{_<_, suc, ℕ};
-ghost use Rattle.hubtable.specs.Says.{Below, RecordOf, StoreBelow, first, metWith, says, storeAfter};
+ghost use Rattle.hubtable.specs.Says.{Below, RecordOf, StoreBelow, metWith, says, storeAfter};
+ghost use Rattle.records.specs.Records.{first};
 ghost use Rattle.rules.proofs.Valid.{Held, Range};
 ghost use Rattle.rules.specs.HubTable.{getFifo, getPort, getResource, getSemaphore, met, onGet, onPut, putFifo, putPort, putResource, putSemaphore};
 ghost use Rattle.rules.specs.Table.{Hub, State, kindOf, task};

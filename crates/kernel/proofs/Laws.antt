@@ -4,7 +4,7 @@
 use Prim.Native.Nat.{_<_, _≤_, suc, zero, ℕ}
 use Rattle.kernel.specs.Promise.{CalledIn}
 use Rattle.lists.proofs.Laws.{boolCase}
-use Rattle.moves.specs.Moves.{Sound, keyOf}
+use Rattle.moves.specs.Moves.{keyOf}
 use Rattle.records.specs.Records.{Table}
 use Rattle.rules.proofs.Accepted.{caller-ready, on-task, request-tests}
 use Rattle.rules.proofs.After.{accepted, accepted-formed, accepted-long, valid-in, words-in}
@@ -51,9 +51,6 @@ module _ (s : State) (c : Call) (v : Service) (e : serviceOf (c .service) ≡ v)
 -- two keys that agree at every task are one
 pub key-is : (ks : List ℕ) (key : ℕ → ℕ) → ((j : ℕ) → getD ks j 0 ≡ key j) → keyOf ks ≡ key
 key-is ks key e = λ i j. e j i
-
-pub valid-sound : (s : State) → Valid s → Sound s
-valid-sound s g = record { tasks = g .tasks; hubs = g .hubs; listed = g .listed }
 
 -- ---- the refusal of a table, test by test
 

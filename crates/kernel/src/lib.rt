@@ -43,6 +43,7 @@ fn serve_target(t: &mut [u32], ts: usize, keys: &[u32], c: Call)
     requires { ⌜ Table ts (now t) ⌝ }
     requires { ⌜ c .caller < 16 ⌝ }
     requires { ⌜ c .target < 16 ⌝ }
+    requires { ⌜ getD (now t) 2 0 ≤ 16 ⌝ }
     ensures { λ _. ⌜ ((L : Layout) (s : State) → Laid ts L → Valid s → refusal s c ≡ 0 → 1 ≤ c .service → c .service ≤ 5
         → now (t .entry) ≡ words L s
         → now (t .exit) ≡ words L (serve (keyOf (now (keys .entry))) (serviceOf (c .service)) s c)) ⌝ }
@@ -51,7 +52,7 @@ fn serve_target(t: &mut [u32], ts: usize, keys: &[u32], c: Call)
     match service {
         rules::HUB_REQUEST => requests::request(t, ts, keys, c),
         rules::START => tasks::start_task(t, ts, keys, c),
-        rules::STOP => tasks::stop_task(t, ts, c),
+        rules::STOP => tasks::stop_task(t, ts, keys, c),
         rules::SUSPEND => tasks::suspend_task(t, ts, c),
         _ => tasks::resume_task(t, ts, c),
     }

@@ -1,19 +1,22 @@
 -- What the moves do to the words of a state. In order: a list of the table takes another value; a task record is read and
--- written; leaving every list is leaving the one list in which the task stands; what of a state a move keeps.
+-- written; leaving every list is leaving the one list in which the task stands; a hub's record and its first waiter, read.
 -- Not here: where a state's parts stand (rules, Places), joining and leaving a list as such (lists, Laws). Assumes nothing.
-use Prim.Native.Nat.{_*_, _+_, _<_, _≤_, suc, zero, ℕ}
+use Prim.Native.Nat.{_*_, _+_, _-_, _<_, _≤_, suc, zero, ℕ}
+use Rattle.lists.proofs.Counting.{occ-here}
 use Rattle.lists.proofs.Laws.{boolCase, join-entries, leave-entries, length-entries, place-entries, without-none}
 use Rattle.lists.specs.Lists.{entries, indexOf, insertAt, occ, placeIn, placeOf, removeAt, without}
 use Rattle.moves.specs.Moves.{Sound, keyOf, taskOf}
 use Rattle.messages.specs.Messages.{messageAt, messages}
-use Rattle.records.specs.Records.{taskAt, taskWords as recordWords, width}
+use Rattle.records.specs.Records.{first, hubsAt as hubsFrom, taskAt, taskWords as recordWords, waitsAt as waitsFrom, width}
 use Rattle.records.specs.declared.TaskRecord.{TaskRecord}
+use Rattle.rules.proofs.Changes.{inUse}
 use Rattle.rules.proofs.Cut.{Cut, cut-part, cut-paste, cut-sets}
 use Rattle.rules.proofs.Layouts.{Laid, answer-at, message-word, message-written, sized, wide}
-use Rattle.rules.proofs.Places.{cut-ready, cut-task, cut-waiters, same-hub, same-task, task-word}
-use Rattle.rules.proofs.Valid.{Listed}
-use Rattle.rules.specs.Lists.{joinHub, joinReady, leave, queued, unqueue}
-use Rattle.rules.specs.Table.{Hub, Layout, State, Task, hub, noHub, readyAt, setHub, setReady, setTask, task, taskSize, taskWords, waitsAt, words}
+use Rattle.rules.proofs.Places.{cut-ready, cut-task, cut-waiters, hub-word, same-hub, same-task, task-word, wait-word}
+use Rattle.rules.proofs.Standing.{listed-waits}
+use Rattle.rules.proofs.Valid.{Listed, Valid}
+use Rattle.rules.specs.Lists.{firstWaiting, joinHub, joinReady, leave, queued, unqueue}
+use Rattle.rules.specs.Table.{Hub, Layout, State, Task, hub, hubWords, noHub, readyAt, setHub, setReady, setTask, task, taskSize, taskWords, waitsAt, words}
 use borrow.Author.Tests.{eq-eqb, ltb-false, ltb-true, ne-eqb}
 use borrow.Rule.Slice.PartMut.{midOf, putMid}
 use lib.Dec.{ltb}
@@ -22,6 +25,7 @@ use lib.Seq.{sets}
 use mathlib.Core.Bool.{and-false}
 use mathlib.Core.List.{List, [], _∷_, map}
 use mathlib.Core.Logic.{_≢_}
+use mathlib.Core.Option.{none}
 use mathlib.Core.Path.{_∙_, _≡_, ap, refl, sym}
 use native.Mathlib.Nat.{add-zero}
 use native.Mathlib.Omega.{arith}
@@ -195,3 +199,53 @@ module _ (L : Layout) (s : State) (sound : Sound s) (i : ℕ) (x : TaskRecord) (
 
   pub by-nowhere : x .hub ≡ 0 → (x .state ≡ 2 → ⊥) → words L s ≡ words L (leave i s)
   by-nowhere z n = ap (words L) (sym (leave-none s (sound .listed) i (λ q. n (state-is ∙ q)) (λ h. not-there s (sound .listed) i h (λ g. omega (arith, z, hub-is, g)))))
+
+-- ---- a hub's record and the first entry of its list, read
+
+pub hub-number : {ts : ℕ} (L : Layout) (s : State) → Laid ts L → length (s .hubs) ≤ 16 → (h : ℕ) → h < length (s .hubs) → (k : ℕ) → k < 4
+    → getD (words L s) (hubsFrom ts + h * 4 + k) 0 ≡ getD (hubWords (hub s h)) k 0
+hub-number L s y fits h used k l = rw (y .size) (hub-word L (sized y) s h (omega arith) used k l)
+
+pub entry-read : {ts : ℕ} (L : Layout) (s : State) → Laid ts L → length (s .hubs) ≤ 16 → (h : ℕ) → h < length (s .hubs)
+    → getD (words L s) (waitsFrom ts + h * 16) 0 ≡ getD (entries 16 (hub s h .waiters)) 0 0
+entry-read L s y fits h used = rw (y .size) (rw add-zero at (wait-word L (sized y) s h (omega arith) used 0 (omega arith)))
+
+-- ---- the first waiter of a side, by the first entry e of the list
+
+module _ (s : State) (d : ℕ) where
+  pub no-entry : (l : List ℕ) → getD (entries 16 l) 0 0 ≡ 0 → firstWaiting s d l ≡ none
+  unfolding entries firstWaiting
+  no-entry [] z = refl
+  no-entry (x ∷ xs) z = absurd (omega (arith, z))
+
+  pub nobody : (l : List ℕ) → ((i : ℕ) → 1 ≤ occ i l → task s i .side ≡ d → ⊥) → firstWaiting s d l ≡ none
+  unfolding firstWaiting occ
+  nobody [] n = refl
+  nobody (x ∷ xs) n =
+      rw (ne-eqb (task s x .side) d (n x (occ-here x xs))) (nobody xs (λ i o. n i (omega (arith, o))))
+
+  module _ (l : List ℕ) (e : ℕ) (q : e ≡ getD (entries 16 l) 0 0) (some-e : e ≡ 0 → ⊥) where
+    pub entry-stands : 1 ≤ occ (e - 1) l
+    unfolding entries
+    entry-stands = go l q
+      where
+        go : (l : List ℕ) → e ≡ getD (entries 16 l) 0 0 → 1 ≤ occ (e - 1) l
+        go [] z = absurd (some-e z)
+        go (x ∷ xs) z = let m : e - 1 ≡ x = omega (arith, z) in rw m (occ-here x xs)
+
+    pub entry-first : task s (e - 1) .side ≡ d → firstWaiting s d l ≡ first e
+    unfolding entries first firstWaiting
+    entry-first w = go l q
+      where
+        go : (l : List ℕ) → e ≡ getD (entries 16 l) 0 0 → firstWaiting s d l ≡ first e
+        go [] z = absurd (some-e z)
+        go (x ∷ xs) z = let m : e - 1 ≡ x = omega (arith, z) in rw (z, eq-eqb (task s x .side) d (rw m at w)) refl
+
+-- whoever stands in a hub's list is in use
+pub waiter-in : (s : State) → Listed s → (h i : ℕ) → 1 ≤ occ i (hub s h .waiters) → i < length (s .tasks)
+waiter-in s l h i o = inUse s i 1 (listed-waits s l h i o .0)
+
+-- ---- what of a valid state a move rests on
+
+pub valid-sound : (s : State) → Valid s → Sound s
+valid-sound s g = record { tasks = g .tasks; hubs = g .hubs; listed = g .listed }

@@ -1,4 +1,4 @@
-// The moves that every service is made of: a task joins a list or leaves it, is answered, made ready, woken.
+// The moves that every service is made of: a task joins a list or leaves it, is answered, made ready, woken; who waits first.
 // Each says of every state that the table holds which state it holds afterwards. Safe on any table of the length required.
 // Not here: which move a service makes, and when.
 use records::HubNo;
@@ -7,9 +7,10 @@ use records::TaskRecord;
 ghost use Prim.Native.Nat.{_*_, _+_, _<_, _≤_};
 ghost use Rattle.messages.specs.Messages.{messages};
 ghost use Rattle.moves.specs.Moves.{JoinsHub, JoinsReady, Sound, TaskHeld, keyOf, taskOf};
-ghost use Rattle.records.specs.Records.{Table, width};
+ghost use Rattle.records.specs.Records.{Table, first, width};
 ghost use Rattle.rules.proofs.Layouts.{Laid};
-ghost use Rattle.rules.specs.Lists.{answer, leave, queued, readied, wake};
+ghost use Rattle.rules.proofs.Valid.{Waits};
+ghost use Rattle.rules.specs.Lists.{answer, firstWaiting, leave, queued, readied, wake};
 ghost use Rattle.rules.specs.Table.{Layout, State, hub, setHub, setReady, setTask, task, words};
 ghost use Rattle.lists.specs.Lists.{occ, without};
 ghost use lib.ListN.{length};
@@ -84,6 +85,22 @@ pub fn set_task(t: &mut [u32], ts: usize, i: TaskNo, x: TaskRecord)
         → now (t .exit) ≡ words L (setTask (i .0) (taskOf x) s)) ⌝ }
 {
     records::set_task(t, ts, i, x);
+}
+
+// The first task that waits at hub h on this side, plus 1, or 0. One list holds one side only, so its first entry tells.
+pub fn first_waiter(t: &[u32], ts: usize, h: HubNo, side: u32) -> u32
+    requires { ⌜ Table ts (now t) ⌝ }
+    requires { ⌜ h .0 < 16 ⌝ }
+    ensures { λ r. ⌜ ((L : Layout) (s : State) → Laid ts L → Sound s → Waits s → h .0 < length (s .hubs)
+        → now (t .entry) ≡ words L s
+        → first r ≡ firstWaiting s side (hub s (h .0) .waiters)) ⌝ }
+{
+    let e = lists::word(t, records::waits_at(ts, h));
+    if e == 0 {
+        return 0;
+    }
+    let x = task_at(t, ts, TaskNo((e - 1) as usize));
+    if x.side == side { e } else { 0 }
 }
 
 // "taken from any list": a ready task stands in the ready list, a waiting one in the list of its hub, any other in none.

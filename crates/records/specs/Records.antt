@@ -1,12 +1,13 @@
 -- Where the bodies of a table stand, and a record as a list of words has it: definitions alone. `ts` is how many words a task
 -- record has, 8 in edition 1 and 9 in edition 2; `at` is the word at which the hub records start, and a word past the end is 0.
 -- Not here: what the words mean, and the rest of the table.
-use Prim.Native.Nat.{_*_, _+_, _-_, _<_, _≤_, ℕ}
+use Prim.Native.Nat.{_*_, _+_, _-_, _<_, _≤_, suc, zero, ℕ}
 use Rattle.messages.specs.Messages.{messageAt, messageWords, messages}
 use Rattle.records.specs.declared.HubRecord.{HubRecord}
 use Rattle.records.specs.declared.TaskRecord.{TaskRecord}
 use lib.ListN.{getD, length}
 use mathlib.Core.List.{List, [], _++_, _∷_}
+use mathlib.Core.Option.{Option, none, some}
 use mathlib.Core.Path.{_≡_}
 
 -- ---- sizes and places, as the rules have them
@@ -48,6 +49,13 @@ pub record RecordAt (at size i p : ℕ) : Type 0 where
 pub record RowAt (at size i p : ℕ) : Type 0 where
   pub place : p ≡ at + i * size
   pub inside : p + size ≤ at + 16 * size
+
+-- ---- an entry of a list
+
+-- the task that an entry names: its number plus 1, or 0 for none
+unfoldable pub first : ℕ → Option ℕ
+first zero = none
+first (suc w) = some w
 
 -- ---- a task record, and a hub record
 

@@ -1,49 +1,47 @@
 -- What the functions of this crate read off a table and write into it, in the terms of the rules. In order: a hub's record;
--- the first waiter of a side; what a met request rests on; the word that is kept; a verdict that meets nobody.
+-- what a met request rests on; the word that is kept; a verdict that meets nobody.
 -- Not here: the store (Stores.antt), where a state's parts stand (rules, Places), the moves (moves, Laws). Assumes nothing.
-use Prim.Native.Nat.{_*_, _+_, _-_, _<_, _≤_, suc, zero, ℕ}
-use Rattle.hubtable.specs.Says.{RecordOf, first, metWith, says, storeAfter}
+use Prim.Native.Nat.{_*_, _+_, _<_, _≤_, ℕ}
+use Rattle.hubtable.specs.Says.{RecordOf, metWith, says, storeAfter}
 use Rattle.hubtable.specs.declared.Meeting.{Meeting}
 use Rattle.hubtable.specs.declared.Store.the-variants.{Append, Keep, Take, TakeAppend}
 use Rattle.hubtable.specs.declared.Store.{Store}
 use Rattle.hubtable.specs.declared.Verdict.the-variants.{Met}
-use Rattle.lists.proofs.Counting.{occ-here}
 use Rattle.lists.proofs.Laws.{boolCase}
-use Rattle.lists.specs.Lists.{entries, occ}
+use Rattle.moves.proofs.Laws.{hub-number, waiter-in}
 use Rattle.moves.specs.Moves.{Sound}
-use Rattle.records.specs.Records.{hubAt, hubsAt as hubsFrom, waitsAt as waitsFrom}
+use Rattle.records.specs.Records.{first, hubAt, hubsAt as hubsFrom}
 use Rattle.requests.specs.Requests.{StoreFits}
 use Rattle.rules.proofs.Accepted.{Asked, request-tests}
 use Rattle.rules.proofs.Changes.{inUse, length-setHub}
-use Rattle.rules.proofs.Layouts.{Laid, sized}
+use Rattle.rules.proofs.Layouts.{Laid}
 use Rattle.rules.proofs.Listed.{listed-answer, listed-hold}
 use Rattle.rules.proofs.Numbers.{bears-number}
-use Rattle.rules.proofs.Places.{hub-word, wait-word}
 use Rattle.rules.proofs.Settled.{InUse, length-answer, partners, partners-in}
-use Rattle.rules.proofs.Standing.{first-waits, listed-waits}
-use Rattle.rules.proofs.Valid.{Held, Listed, Range, Valid}
+use Rattle.rules.proofs.Standing.{first-waits}
+use Rattle.rules.proofs.Valid.{Held, Range, Valid}
 use Rattle.rules.proofs.Verdicts.{Each, held-side, hubAfter, range-side, waitersMet}
 use Rattle.rules.specs.Calls.{HubRequest, hold, kept, meetAll, serve, settle, wait}
 use Rattle.rules.specs.HubTable.{Verdict, fail, notNow, verdict}
 use Rattle.rules.specs.Lists.{answer, firstWaiting, holding}
 use Rattle.rules.specs.Refusals.{refusalFor}
-use Rattle.rules.specs.Table.{Event, Fifo, Hub, Kind, Layout, NoKind, Port, Resource, Semaphore, State, hub, hubWords, kindOf, setHub, setTask, sideOf, task, words}
+use Rattle.rules.specs.Table.{Event, Fifo, Hub, Kind, Layout, NoKind, Port, Resource, Semaphore, State, hub, hubWords, kindOf, setHub, setTask, sideOf, words}
 use Rattle.rules.specs.declared.Call.{Call}
 use borrow.Author.Tests.{eq-eqb, eqb-false, ne-eqb}
 use lib.Dec.{eqb}
 use lib.ListN.{drop, getD, length, length-append}
 use mathlib.Core.Bool.{and-false}
-use mathlib.Core.List.{List, [], _++_, _∷_}
-use mathlib.Core.Option.{Option, none, some}
+use mathlib.Core.List.{[], _++_, _∷_}
+use mathlib.Core.Option.{Option, some}
 use mathlib.Core.Path.{_∙_, _≡_, ap, refl, subst, sym}
 use native.Mathlib.Nat.{add-zero}
 use native.Mathlib.Omega.{arith}
 
--- ---- a hub's record, and the first entry of its list
+-- ---- a hub's record
 
 module _ {ts : ℕ} (L : Layout) (s : State) (y : Laid ts L) (fits : length (s .hubs) ≤ 16) (h : ℕ) (used : h < length (s .hubs)) where
   word : (k : ℕ) → k < 4 → getD (words L s) (hubsFrom ts + h * 4 + k) 0 ≡ getD (hubWords (hub s h)) k 0
-  word k l = rw (y .size) (hub-word L (sized y) s h (omega arith) used k l)
+  word = hub-number L s y fits h used
 
   pub hub-read : RecordOf (hubAt (hubsFrom ts) (words L s) h) (hub s h)
   unfolding hubAt
@@ -53,50 +51,6 @@ module _ {ts : ℕ} (L : Layout) (s : State) (y : Laid ts L) (fits : length (s .
     limit = word 2 (omega arith);
     start = word 3 (omega arith);
   }
-
-  pub entry-read : getD (words L s) (waitsFrom ts + h * 16) 0 ≡ getD (entries 16 (hub s h .waiters)) 0 0
-  entry-read = rw (y .size) (rw add-zero at (wait-word L (sized y) s h (omega arith) used 0 (omega arith)))
-
--- ---- the first waiter of a side, by the first entry e of the list
-
-module _ (s : State) (d : ℕ) where
-  pub no-entry : (l : List ℕ) → getD (entries 16 l) 0 0 ≡ 0 → firstWaiting s d l ≡ none
-  unfolding entries firstWaiting
-  no-entry [] z = refl
-  no-entry (x ∷ xs) z = absurd (omega (arith, z))
-
-  pub nobody : (l : List ℕ) → ((i : ℕ) → 1 ≤ occ i l → task s i .side ≡ d → ⊥) → firstWaiting s d l ≡ none
-  unfolding firstWaiting occ
-  nobody [] n = refl
-  nobody (x ∷ xs) n =
-      rw (ne-eqb (task s x .side) d (n x (occ-here x xs))) (nobody xs (λ i o. n i (omega (arith, o))))
-
-  module _ (l : List ℕ) (e : ℕ) (q : e ≡ getD (entries 16 l) 0 0) (some-e : e ≡ 0 → ⊥) where
-    pub entry-stands : 1 ≤ occ (e - 1) l
-    unfolding entries
-    entry-stands = go l q
-      where
-        go : (l : List ℕ) → e ≡ getD (entries 16 l) 0 0 → 1 ≤ occ (e - 1) l
-        go [] z = absurd (some-e z)
-        go (x ∷ xs) z = let m : e - 1 ≡ x = omega (arith, z) in rw m (occ-here x xs)
-
-    pub entry-first : task s (e - 1) .side ≡ d → firstWaiting s d l ≡ first e
-    unfolding entries first firstWaiting
-    entry-first w = go l q
-      where
-        go : (l : List ℕ) → e ≡ getD (entries 16 l) 0 0 → firstWaiting s d l ≡ first e
-        go [] z = absurd (some-e z)
-        go (x ∷ xs) z = let m : e - 1 ≡ x = omega (arith, z) in rw (z, eq-eqb (task s x .side) d (rw m at w)) refl
-
--- whoever stands in a hub's list is in use
-pub waiter-in : (s : State) → Listed s → (h i : ℕ) → 1 ≤ occ i (hub s h .waiters) → i < length (s .tasks)
-waiter-in s l h i o = inUse s i 1 (listed-waits s l h i o .0)
-
--- the task that an entry names
-pub first-is : (e w : ℕ) → (e ≡ 0 → ⊥) → first e ≡ some w → e - 1 ≡ w
-unfolding first
-first-is zero w n q = absurd (n refl)
-first-is (suc e) w n q = let z : e ≡ w = cc in omega (arith, z)
 
 -- ---- what a met request rests on
 

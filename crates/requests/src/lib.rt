@@ -10,17 +10,17 @@ use records::TaskNo;
 use records::TaskRecord;
 use rules::Call;
 ghost use Prim.Native.Nat.{_<_, _≤_, pred, ℕ};
-ghost use Rattle.hubtable.specs.Says.{Below, RecordOf, StoreBelow, first, says, storeAfter};
+ghost use Rattle.hubtable.specs.Says.{Below, RecordOf, StoreBelow, says, storeAfter};
 ghost use Rattle.hubtable.specs.declared.Verdict.the-variants.{Met};
 ghost use Rattle.messages.specs.Messages.{messages};
 ghost use Rattle.moves.specs.Moves.{Sound, keyOf};
-ghost use Rattle.records.specs.Records.{Table, width};
+ghost use Rattle.records.specs.Records.{Table, first, width};
 ghost use Rattle.requests.specs.Requests.{StoreFits};
 ghost use Rattle.rules.proofs.Layouts.{Laid};
 ghost use Rattle.rules.proofs.Valid.{Valid};
 ghost use Rattle.rules.specs.Calls.{HubRequest, hold, kept, serve, wait};
 ghost use Rattle.rules.specs.HubTable.{verdict};
-ghost use Rattle.rules.specs.Lists.{firstWaiting, waits};
+ghost use Rattle.rules.specs.Lists.{waits};
 ghost use Rattle.rules.specs.Refusals.{refusalFor};
 ghost use Rattle.rules.specs.Table.{Hub, Layout, State, hub, setTask, task, words};
 ghost use lib.ListN.{drop, getD, length};
@@ -37,22 +37,6 @@ fn hub_at(t: &[u32], ts: usize, h: HubNo) -> HubRecord
         → RecordOf r (hub s (h .0))) ⌝ }
 {
     records::hub(t, records::hubs_at(ts), h)
-}
-
-// The first task that waits at hub h on this side, plus 1, or 0. One list holds one side only, so its first entry tells.
-fn first_waiter(t: &[u32], ts: usize, h: HubNo, side: u32) -> u32
-    requires { ⌜ Table ts (now t) ⌝ }
-    requires { ⌜ h .0 < 16 ⌝ }
-    ensures { λ r. ⌜ ((L : Layout) (s : State) → Laid ts L → Valid s → h .0 < length (s .hubs)
-        → now (t .entry) ≡ words L s
-        → first r ≡ firstWaiting s side (hub s (h .0) .waiters)) ⌝ }
-{
-    let e = lists::word(t, records::waits_at(ts, h));
-    if e == 0 {
-        return 0;
-    }
-    let x = moves::task_at(t, ts, TaskNo((e - 1) as usize));
-    if x.side == side { e } else { 0 }
 }
 
 // The message of the task that a list's entry names.
@@ -93,10 +77,10 @@ fn judge(t: &[u32], ts: usize, c: Call) -> Verdict
     let h = HubNo(c.target as usize);
     let x = hub_at(t, ts, h);
     if c.side == rules::PUT {
-        let waiter = first_waiter(t, ts, h, rules::GET);
+        let waiter = moves::first_waiter(t, ts, h, rules::GET);
         return hubtable::on_put(x, waiter, c.caller, c.word as u64);
     }
-    let waiter = first_waiter(t, ts, h, rules::PUT);
+    let waiter = moves::first_waiter(t, ts, h, rules::PUT);
     let its = word_of(t, ts, waiter);
     let oldest = oldest_of(t, ts, h);
     hubtable::on_get(x, waiter, its, oldest, c.caller)

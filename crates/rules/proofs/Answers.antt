@@ -4,10 +4,11 @@ use Prim.Native.Nat.{_<_, _≤_, suc, zero, ℕ}
 use Rattle.rules.proofs.Accepted.{caller-ready}
 use Rattle.rules.proofs.Cases.{condCase}
 use Rattle.rules.proofs.Changes.{inUse, length-setTask, set-same}
+use Rattle.rules.proofs.Passing.{length-stop}
 use Rattle.rules.proofs.Settled.{Partners, answer-same, met-caller, partners, wait-caller}
 use Rattle.rules.proofs.Valid.{Valid}
 use Rattle.rules.proofs.Verdicts.{waitersMet}
-use Rattle.rules.specs.Calls.{AddHub, AddTask, Blank, HubRequest, Resume, Service, Sleep, Start, Stop, Suspend, Tick, Unknown, Yield, flag, grant, serve, served, serviceOf, settle, slept, start, stop, yielded}
+use Rattle.rules.specs.Calls.{AddHub, AddTask, Blank, HubRequest, Resume, Service, Sleep, Start, Stop, Suspend, Tick, Unknown, Yield, flag, grant, serve, served, serviceOf, settle, slept, start, yielded}
 use Rattle.rules.specs.HubTable.{Verdict, fail, met, notNow, verdict}
 use Rattle.rules.specs.Lists.{answer, answered, asleep, joinReady, leave, waits}
 use Rattle.rules.specs.Refusals.{refusal, refusalFor}
@@ -45,14 +46,14 @@ small-settle key notNow s c run p =
 small-settle key fail s c run p = small-answer s c 2 0 (inUse s (c .caller) 0 run) (omega arith)
 
 small-serve : (key : ℕ → ℕ) (v : Service) (s : State) (c : Call) → Valid s → refusalFor v s c ≡ 0 → bearsAnswer v ≡ true → Small c (serve key v s c)
-unfolding asleep bearsAnswer flag joinReady leave serve setReady slept start stop yielded
+unfolding asleep bearsAnswer flag joinReady leave serve setReady slept start yielded
 small-serve key v s c g e b = by v b (caller-ready s (g .listed) c v e b)
   where
     by : (v : Service) → bearsAnswer v ≡ true → task s (c .caller) .state ≡ 2 → Small c (serve key v s c)
     by Blank b run = absurd (false≢true b)
     by HubRequest b run = small-settle key (verdict s c) s c run (partners s (g .listed) c)
     by Start b run = small-grant _ _ s c (length-setTask s (c .target) _) (inUse s (c .caller) 0 run)
-    by Stop b run = small-grant _ _ s c (length-setTask (leave (c .target) s) (c .target) _) (inUse s (c .caller) 0 run)
+    by Stop b run = small-grant _ _ s c (length-stop key (c .target) s) (inUse s (c .caller) 0 run)
     by Suspend b run = small-grant _ _ s c (length-setTask s (c .target) _) (inUse s (c .caller) 0 run)
     by Resume b run = small-grant _ _ s c (length-setTask s (c .target) _) (inUse s (c .caller) 0 run)
     by Yield b run = small-answer (leave (c .caller) s) c 1 0 (inUse s (c .caller) 0 run) (omega arith)

@@ -4,9 +4,10 @@ use Prim.Native.Nat.{_<_, suc, zero, ℕ}
 use Rattle.lists.specs.Lists.{insert}
 use Rattle.rules.proofs.Cases.{condCase}
 use Rattle.rules.proofs.Changes.{hub-leave, hub-set-keeps, hub-set-other, hub-set-same, length-setHub}
-use Rattle.rules.proofs.Quiet.{Other, isAddTask, isResume, isSleep, isStart, isStop, isSuspend, isTick, isUnknown, isYield}
+use Rattle.rules.proofs.Passing.{pass-keeps}
+use Rattle.rules.proofs.Quiet.{Other, isAddTask, isResume, isSleep, isStart, isSuspend, isTick, isUnknown, isYield}
 use Rattle.rules.proofs.Verdicts.{hubAfter}
-use Rattle.rules.specs.Calls.{AddTask, Resume, Service, Sleep, Start, Stop, Suspend, Tick, Unknown, Yield, addStarted, addTask, flag, grant, hold, kept, meetAll, serve, settle, slept, start, stop, tickAll, tickBy, tickOne, wait, yielded}
+use Rattle.rules.specs.Calls.{AddTask, Resume, Service, Sleep, Start, Suspend, Tick, Unknown, Yield, addStarted, addTask, carryOut, deactivate, flag, grant, hold, kept, meetAll, passAll, serve, settle, slept, start, stop, tickAll, tickBy, tickOne, wait, yielded}
 use Rattle.rules.specs.HubTable.{Meeting, Verdict, fail, met, notNow}
 use Rattle.rules.specs.Lists.{answer, holding, joinHub, joinReady, leave, queued, unqueue, waits, wake}
 use Rattle.rules.specs.Table.{Hub, State, hub, noHub, setHub, setReady, setTask, task}
@@ -47,7 +48,7 @@ hubs-set : (h : ℕ) (x : Hub) (s : State) → core x ≡ core (hub s h) → Sam
 hubs-set h x s e = record { many = length-setHub s h x; each = λ g. hub-set-keeps s h x core e g }
 
 module _ (key : ℕ → ℕ) where
-  hubs-wake : (i a w : ℕ) (s : State) → SameHubs s (wake key i a w s)
+  pub hubs-wake : (i a w : ℕ) (s : State) → SameHubs s (wake key i a w s)
   unfolding joinReady setReady setTask wake
   hubs-wake i a w s = hubs-left i s _ refl
 
@@ -67,6 +68,15 @@ module _ (key : ℕ → ℕ) where
   hubs-tick zero s = hubs-refl s s refl
   hubs-tick (suc n) s = hubs-trans s (tickAll key n s) _ (hubs-tick n s) (hubs-tickBy _ n (tickAll key n s))
 
+  many-carry : (h : ℕ) (v : Verdict) (s : State) → length (carryOut key h v s .hubs) ≡ length (s .hubs)
+  unfolding carryOut hold
+  many-carry h (met n ws x ms) s = hubs-meetAll ms _ .many ∙ length-setHub s h (holding n ws (hub s h))
+  many-carry h notNow s = refl
+  many-carry h fail s = refl
+
+  pub many-pass : (i n : ℕ) (s : State) → length (passAll key i n s .hubs) ≡ length (s .hubs)
+  many-pass i n s = pass-keeps key (λ (z : State). length (z .hubs) ≡ length (s .hubs)) (λ h z e. many-carry h _ z ∙ e) i n s refl
+
   pub hubs-join : (h i : ℕ) (s : State) → SameHubs s (joinHub key h i s)
   unfolding core joinHub queued
   hubs-join h i s = hubs-set h (queued (insert key i (hub s h .waiters)) (hub s h)) s refl
@@ -80,15 +90,26 @@ module _ (key : ℕ → ℕ) where
 
 -- ---- services that meet no request
 
+pub hubs-deactivate : (i : ℕ) (s : State) → SameHubs s (deactivate i s)
+unfolding deactivate setTask
+hubs-deactivate i s = hubs-left i s _ refl
+
+pub hubs-answer : (i a w : ℕ) (s : State) → SameHubs s (answer i a w s)
+unfolding answer setTask
+hubs-answer i a w s = hubs-refl s _ refl
+
+pub many-stop : (key : ℕ → ℕ) (i : ℕ) (s : State) → length (stop key i s .hubs) ≡ length (s .hubs)
+unfolding stop
+many-stop key i s = many-pass key i (length (s .hubs)) (deactivate i s) ∙ hubs-deactivate i s .many
+
 hubs-grant : (b : Bool) (s s′ : State) (c : Call) → SameHubs s s′ → SameHubs s (grant b s′ s c)
 unfolding answer grant setTask
 hubs-grant true s s′ c e = hubs-trans s s′ _ e (hubs-refl s′ _ refl)
 hubs-grant false s s′ c e = hubs-refl s _ refl
 
 pub hubs-serve : (key : ℕ → ℕ) (v : Service) → Other v → (s : State) (c : Call) → SameHubs s (serve key v s c)
-unfolding addStarted addTask answer flag joinReady serve setReady setTask slept start stop yielded
+unfolding addStarted addTask answer flag joinReady serve setReady setTask slept start yielded
 hubs-serve key Start isStart s c = hubs-grant _ s _ c (hubs-refl s _ refl)
-hubs-serve key Stop isStop s c = hubs-grant _ s _ c (hubs-left (c .target) s _ refl)
 hubs-serve key Suspend isSuspend s c = hubs-grant _ s _ c (hubs-refl s _ refl)
 hubs-serve key Resume isResume s c = hubs-grant _ s _ c (hubs-refl s _ refl)
 hubs-serve key Yield isYield s c = hubs-left (c .caller) s _ refl

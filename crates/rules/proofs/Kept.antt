@@ -1,9 +1,10 @@
 -- Every accepted call keeps the state valid, and a blank table's state is valid.
 use Rattle.rules.proofs.Lengths.{hubs-room, tasks-room}
 use Rattle.rules.proofs.Order.{order-blank, order-serve}
+use Rattle.rules.proofs.Owners.{owners-blank, owners-serve}
 use Rattle.rules.proofs.Shapes.{records-blank, records-serve}
 use Rattle.rules.proofs.Valid.{Valid}
-use Rattle.rules.proofs.Waiting.{Good, good-blank, good-serve}
+use Rattle.rules.proofs.Waiting.{Good, good-blank, good-serve, valid-good}
 use Rattle.rules.specs.Calls.{Service, blank, serve, served, serviceOf}
 use Rattle.rules.specs.Refusals.{refusal, refusalFor}
 use Rattle.rules.specs.Table.{State}
@@ -14,7 +15,7 @@ use native.Mathlib.Omega.{arith}
 
 pub valid-serve : (v : Service) (s : State) (c : Call) → Valid s → refusalFor v s c ≡ 0 → Valid (serve (urgency s) v s c)
 valid-serve v s c g e =
-    let k : Good (serve (urgency s) v s c) = good-serve (urgency s) v s c (record { listed = g .listed; waits = g .waits; ranges = g .ranges }) e in
+    let k : Good (serve (urgency s) v s c) = good-serve (urgency s) v s c (valid-good s g) e in
     record {
       tasks = tasks-room (urgency s) v s c e (g .tasks);
       hubs = hubs-room (urgency s) v s c e (g .hubs);
@@ -23,6 +24,7 @@ valid-serve v s c g e =
       records = records-serve (urgency s) v s c (g .listed) (g .records) e;
       waits = k .waits;
       ranges = k .ranges;
+      owners = owners-serve (urgency s) v s c (valid-good s g) (g .owners) e;
     }
 
 pub valid-served : (s : State) (c : Call) → Valid s → refusal s c ≡ 0 → Valid (served s c)
@@ -38,4 +40,5 @@ valid-blank = record {
   records = records-blank;
   waits = good-blank .waits;
   ranges = good-blank .ranges;
+  owners = owners-blank;
 }

@@ -3,14 +3,15 @@ use Prim.Native.Nat.{_+_, _≤_, suc, zero, ℕ}
 use Rattle.rules.proofs.Accepted.{hub-tests, task-tests}
 use Rattle.rules.proofs.Cases.{condCase}
 use Rattle.rules.proofs.Changes.{length-addHub, length-addTask, length-setTask}
-use Rattle.rules.proofs.Hubs.{hubs-serve, many-settle}
-use Rattle.rules.proofs.Quiet.{Other, isAddTask, isResume, isSleep, isStart, isStop, isSuspend, isTick, isUnknown, isYield}
+use Rattle.rules.proofs.Hubs.{hubs-answer, hubs-serve, many-settle, many-stop}
+use Rattle.rules.proofs.Passing.{length-stop}
+use Rattle.rules.proofs.Quiet.{Other, isAddTask, isResume, isSleep, isStart, isSuspend, isTick, isUnknown, isYield}
 use Rattle.rules.proofs.Settled.{length-answer, length-settle, length-wake}
-use Rattle.rules.specs.Calls.{AddHub, AddTask, Blank, HubRequest, Resume, Service, Sleep, Start, Stop, Suspend, Tick, Unknown, Yield, addHub, addStarted, addTask, blank, flag, grant, newHub, serve, slept, start, stop, tickAll, tickBy, tickOne, yielded}
+use Rattle.rules.specs.Calls.{AddHub, AddTask, Blank, HubRequest, Resume, Service, Sleep, Start, Stop, Suspend, Tick, Unknown, Yield, addHub, addStarted, addTask, blank, flag, grant, mayStop, newHub, serve, slept, start, stop, tickAll, tickBy, tickOne, yielded}
 use Rattle.rules.specs.HubTable.{verdict}
 use Rattle.rules.specs.Lists.{joinReady, leave}
 use Rattle.rules.specs.Refusals.{refusalFor}
-use Rattle.rules.specs.Table.{State, setReady}
+use Rattle.rules.specs.Table.{State, setReady, task}
 use Rattle.rules.specs.declared.Call.{Call}
 use lib.Dec.{eqb}
 use lib.ListN.{length}
@@ -56,11 +57,11 @@ length-grant true s′ s c e = length-answer s′ (c .caller) 1 0 ∙ e
 length-grant false s′ s c e = length-answer s (c .caller) 2 0
 
 pub length-serve : (key : ℕ → ℕ) (v : Service) (s : State) (c : Call) → length (serve key v s c .tasks) ≡ tasksAfter v (length (s .tasks))
-unfolding flag joinReady leave serve setReady slept stop tasksAfter yielded
+unfolding flag joinReady leave serve setReady slept tasksAfter yielded
 length-serve key Blank s c = unfold blank in refl
 length-serve key HubRequest s c = length-settle key (verdict s c) s c
 length-serve key Start s c = length-grant _ _ s c (length-start key (c .target) s)
-length-serve key Stop s c = length-grant _ _ s c (length-setTask (leave (c .target) s) (c .target) _)
+length-serve key Stop s c = length-grant _ _ s c (length-stop key (c .target) s)
 length-serve key Suspend s c = length-grant _ _ s c (length-setTask s (c .target) _)
 length-serve key Resume s c = length-grant _ _ s c (length-setTask s (c .target) _)
 length-serve key Yield s c = length-answer (leave (c .caller) s) (c .caller) 1 0
@@ -77,7 +78,6 @@ length-serve key Unknown s c = refl
 pub tasks-grow : (v : Service) → Other v → (n : ℕ) → n ≤ tasksAfter v n
 unfolding tasksAfter
 tasks-grow Start isStart n = omega arith
-tasks-grow Stop isStop n = omega arith
 tasks-grow Suspend isSuspend n = omega arith
 tasks-grow Resume isResume n = omega arith
 tasks-grow Yield isYield n = omega arith
@@ -107,6 +107,11 @@ tasks-room key v s c e h = rw (length-serve key v s c) (by v e)
 
 -- ---- hubs
 
+many-grant : (b : Bool) (s′ s : State) (c : Call) → length (s′ .hubs) ≡ length (s .hubs) → length (grant b s′ s c .hubs) ≡ length (s .hubs)
+unfolding grant
+many-grant true s′ s c e = hubs-answer (c .caller) 1 0 s′ .many ∙ e
+many-grant false s′ s c e = hubs-answer (c .caller) 2 0 s .many
+
 pub hubs-room : (key : ℕ → ℕ) (v : Service) (s : State) (c : Call) → refusalFor v s c ≡ 0 → length (s .hubs) ≤ 16
     → length (serve key v s c .hubs) ≤ 16
 hubs-room key v s c e h = by v e
@@ -118,7 +123,7 @@ hubs-room key v s c e h = by v e
     by Blank e = unfold blank serve in (omega arith)
     by HubRequest e = unfold serve in rw (many-settle key s c (verdict s c)) h
     by Start e = other Start isStart
-    by Stop e = other Stop isStop
+    by Stop e = unfold serve in rw (many-grant (mayStop (task s (c .target)) c) (stop key (c .target) s) s c (many-stop key (c .target) s)) h
     by Suspend e = other Suspend isSuspend
     by Resume e = other Resume isResume
     by Yield e = other Yield isYield

@@ -4,6 +4,7 @@ pub mod Answers
 pub mod Cases
 pub mod Changes
 pub mod Cut
+pub mod Handed
 pub mod Hubs
 pub mod Kept
 pub mod Layouts
@@ -11,6 +12,8 @@ pub mod Lengths
 pub mod Listed
 pub mod Numbers
 pub mod Order
+pub mod Owners
+pub mod Passing
 pub mod Places
 pub mod Promise
 pub mod Quiet
@@ -21,6 +24,7 @@ pub mod Settled
 pub mod Shapes
 pub mod Standing
 pub mod States
+pub mod Stops
 pub mod Tests
 pub mod Valid
 pub mod Verdicts

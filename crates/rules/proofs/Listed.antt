@@ -9,11 +9,13 @@ use Rattle.rules.proofs.Cases.{condCase, sameOr}
 use Rattle.rules.proofs.Changes.{added-keeps, added-same, hub-added-other, hub-added-same, hub-leave, hub-past-end, hub-set-keeps, hub-set-other, hub-set-same, inUse, length-addTask, set-keeps, set-other, set-same}
 use Rattle.rules.proofs.Hubs.{hubs-leave}
 use Rattle.rules.proofs.Lengths.{length-tick}
+use Rattle.rules.proofs.Passing.{pass-keeps}
 use Rattle.rules.proofs.Settled.{InUse, in-use-move, length-answer, length-wake, partners, partners-in}
+use Rattle.rules.proofs.Standing.{first-waits, listed-waits}
 use Rattle.rules.proofs.Valid.{Listed}
 use Rattle.rules.proofs.Verdicts.{Each, waitersMet}
-use Rattle.rules.specs.Calls.{AddHub, AddTask, Blank, HubRequest, Resume, Service, Sleep, Start, Stop, Suspend, Tick, Unknown, Yield, addHub, addStarted, addTask, blank, flag, grant, hold, kept, meetAll, newHub, serve, settle, slept, start, stop, tickAll, tickBy, tickOne, wait, yielded}
-use Rattle.rules.specs.HubTable.{Meeting, Verdict, fail, met, notNow, verdict}
+use Rattle.rules.specs.Calls.{AddHub, AddTask, Blank, HubRequest, Resume, Service, Sleep, Start, Stop, Suspend, Tick, Unknown, Yield, addHub, addStarted, addTask, blank, carryOut, deactivate, flag, grant, heir, hold, kept, meetAll, newHub, passAll, serve, settle, slept, start, stop, tickAll, tickBy, tickOne, wait, yielded}
+use Rattle.rules.specs.HubTable.{Meeting, Verdict, fail, met, notNow, pass, verdict}
 use Rattle.rules.specs.Lists.{answer, answered, asleep, counted, flagged, holding, joinHub, joinReady, leave, queued, readied, unqueue, waits, wake}
 use Rattle.rules.specs.Refusals.{refusalFor}
 use Rattle.rules.specs.Table.{Hub, State, Task, hub, inactive, noHub, setHub, setReady, setTask, task}
@@ -25,6 +27,7 @@ use lib.ListN.{length}
 use mathlib.Core.Bool.{Bool, and-false, cond, false, true}
 use mathlib.Core.List.{List, [], _∷_}
 use mathlib.Core.Logic.{_≢_}
+use mathlib.Core.Option.{Option, none, some}
 use mathlib.Core.Path.{_∙_, _≡_, ap, refl, subst, sym}
 use native.Mathlib.Omega.{arith}
 
@@ -158,6 +161,19 @@ module _ (key : ℕ → ℕ) where
       (in-use-move s (wake key (m .waiter) 1 (m .word) s) ms (length-wake key s (m .waiter) 1 (m .word)) (u .1))
       (listed-wake (m .waiter) 1 (m .word) s l (u .0))
 
+  -- a Resource passes to its first waiter, who is in use
+  listed-pass-one : (h : ℕ) (s : State) → Listed s → Listed (carryOut key h (pass (heir s h) (hub s h)) s)
+  unfolding Each carryOut pass
+  listed-pass-one h s l = by (heir s h) refl
+    where
+      by : (f : Option ℕ) → heir s h ≡ f → Listed (carryOut key h (pass f (hub s h)) s)
+      by (some w) e =
+          listed-meetAll _ _ (unfold hold setHub in (inUse s w 1 (listed-waits s l h w (first-waits s 2 (hub s h .waiters) w e .0) .0), tt)) (listed-hold h _ _ s l)
+      by none e = unfold meetAll in listed-hold h _ _ s l
+
+  pub listed-pass : (i n : ℕ) (s : State) → Listed s → Listed (passAll key i n s)
+  listed-pass = pass-keeps key Listed listed-pass-one
+
   listed-start : (i : ℕ) (s : State) → Listed s → i < length (s .tasks) → task s i .state ≡ 1 → Listed (start key i s)
   unfolding start
   listed-start i s l h e =
@@ -222,6 +238,10 @@ listed-out i t s l h e f =
     st : task (setTask i t (leave i s)) i .state ≡ t .state
     st = ap (λ (x : Task). x .state) (set-same (leave i s) i t (unfold leave in h))
 
+pub listed-deactivate : (i : ℕ) (s : State) → Listed s → i < length (s .tasks) → Listed (deactivate i s)
+unfolding deactivate inactive
+listed-deactivate i s l h = listed-out i _ s l h (λ f. omega (arith, f)) (λ f. omega (arith, f))
+
 listed-grant : (b : Bool) (s′ s : State) (c : Call) → (b ≡ true → Listed s′) → Listed s → Listed (grant b s′ s c)
 unfolding grant
 listed-grant true s′ s c f l = listed-answer (c .caller) 1 0 s′ (f refl)
@@ -256,7 +276,7 @@ listed-serve key HubRequest s c l e =
 listed-serve key Start s c l e = listed-grant _ _ s c (λ b. listed-start key (c .target) s l (on-task s l c e .1) (eqb-true _ 1 b)) l
 listed-serve key Stop s c l e =
     listed-grant _ _ s c
-    (λ b. unfold inactive stop in listed-out (c .target) _ s l (on-task s l c e .1) (λ f. omega (arith, f)) (λ f. omega (arith, f)))
+    (λ b. unfold stop in listed-pass key (c .target) (length (s .hubs)) _ (listed-deactivate (c .target) s l (on-task s l c e .1)))
     l
 listed-serve key Suspend s c l e = listed-grant _ _ s c (λ b. listed-flag 1 (c .target) s l) l
 listed-serve key Resume s c l e = listed-grant _ _ s c (λ b. listed-flag 0 (c .target) s l) l

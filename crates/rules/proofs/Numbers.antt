@@ -1,4 +1,4 @@
--- The paper's tables of names, by number: a number that names no kind, stage or mode, the kinds that bear a word, and the
+-- The paper's tables of names, by number: a number that names no kind, stage or mode, the kinds that bear a word, the Resource, and the
 -- services that bear an answer.
 -- Not here: a single number, of which the rules compute the name. Assumes nothing.
 use Prim.Native.Nat.{_<_, _≤_, suc, zero, ℕ}
@@ -6,7 +6,7 @@ use Rattle.rules.proofs.Tests.{t-below-all}
 use Rattle.rules.specs.Calls.{serviceOf}
 use Rattle.rules.specs.Refusals.{NW, NoMode, W, WT, modeOf}
 use Rattle.rules.specs.Reply.{bearsAnswer}
-use Rattle.rules.specs.Table.{Event, Fifo, Inactive, NoKind, NoStage, Port, Ready, Resource, Semaphore, Sleeping, Waiting, kindOf, stageOf}
+use Rattle.rules.specs.Table.{Event, Fifo, Inactive, NoKind, NoStage, Port, Ready, Resource, Semaphore, Sleeping, Waiting, isResource, kindOf, stageOf}
 use Rattle.rules.specs.WellFormed.{bearsWord, forAll}
 use borrow.Author.Tests.{ne-eqb}
 use lib.Dec.{eqb}
@@ -43,6 +43,17 @@ bears-number (suc (suc (suc zero))) = refl
 bears-number (suc (suc (suc (suc zero)))) = refl
 bears-number (suc (suc (suc (suc (suc zero))))) = refl
 bears-number (suc (suc (suc (suc (suc (suc n)))))) = rw (ne-eqb (suc (suc (suc (suc (suc (suc n)))))) 3 (λ e. omega arith), ne-eqb (suc (suc (suc (suc (suc (suc n)))))) 4 (λ e. omega arith))
+
+-- the Resource by its number
+pub resource-number : (n : ℕ) → isResource (kindOf n) ≡ eqb n 5
+unfolding isResource kindOf
+resource-number zero = refl
+resource-number (suc zero) = refl
+resource-number (suc (suc zero)) = refl
+resource-number (suc (suc (suc zero))) = refl
+resource-number (suc (suc (suc (suc zero)))) = refl
+resource-number (suc (suc (suc (suc (suc zero))))) = refl
+resource-number (suc (suc (suc (suc (suc (suc n)))))) = rw (ne-eqb (suc (suc (suc (suc (suc (suc n)))))) 5 (λ e. omega arith))
 
 -- "For services 1 to 7 the answer is the caller's answer word after the call; for 0, 8, 9 and 10 it is 0."
 pub bears-answer : (n : ℕ) → 1 ≤ n → n ≤ 7 → bearsAnswer (serviceOf n) ≡ true

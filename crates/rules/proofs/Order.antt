@@ -7,9 +7,10 @@ use Rattle.lists.proofs.Laws.{boolCase}
 use Rattle.lists.specs.Lists.{insert, occ, without}
 use Rattle.rules.proofs.Cases.{condCase, sameOr}
 use Rattle.rules.proofs.Changes.{added-other, hub-added-other, hub-added-same, hub-leave, hub-set-other, hub-set-same, past-end, set-keeps}
+use Rattle.rules.proofs.Passing.{pass-keeps}
 use Rattle.rules.proofs.Standing.{listed-ready, listed-waits}
 use Rattle.rules.proofs.Valid.{Below, Listed, Ordered, Sorted}
-use Rattle.rules.specs.Calls.{AddHub, AddTask, Blank, HubRequest, Resume, Service, Sleep, Start, Stop, Suspend, Tick, Unknown, Yield, addHub, addStarted, addTask, blank, flag, grant, hold, meetAll, newHub, serve, settle, slept, start, stop, tickAll, tickBy, tickOne, wait, yielded}
+use Rattle.rules.specs.Calls.{AddHub, AddTask, Blank, HubRequest, Resume, Service, Sleep, Start, Stop, Suspend, Tick, Unknown, Yield, addHub, addStarted, addTask, blank, carryOut, deactivate, flag, grant, hold, meetAll, newHub, serve, settle, slept, start, stop, tickAll, tickBy, tickOne, wait, yielded}
 use Rattle.rules.specs.HubTable.{Meeting, Verdict, fail, met, notNow, verdict}
 use Rattle.rules.specs.Lists.{answer, answered, asleep, counted, flagged, holding, joinHub, joinReady, leave, queued, readied, unqueue, waits, wake}
 use Rattle.rules.specs.Table.{Hub, State, Task, hub, inactive, noHub, setHub, setReady, setTask, task}
@@ -155,9 +156,16 @@ module _ (key : ℕ → ℕ) (s : State) where
   unfolding readied start
   ranked-start i s′ r = ranked-ready i _ (ranked-set i _ s′ refl r)
 
-  ranked-stop : (i : ℕ) (s′ : State) → Keeps s′ → Keeps (stop i s′)
-  unfolding inactive leave stop
-  ranked-stop i s′ r = ranked-set i _ (leave i s′) refl (ranked-leave i s′ r)
+  ranked-carry : (h : ℕ) (v : Verdict) (s′ : State) → Keeps s′ → Keeps (carryOut key h v s′)
+  unfolding carryOut
+  ranked-carry h (met n ws x ms) s′ r = ranked-meetAll ms _ (ranked-hold h n ws s′ r)
+  ranked-carry h notNow s′ r = r
+  ranked-carry h fail s′ r = r
+
+  ranked-stop : (i : ℕ) (s′ : State) → Keeps s′ → Keeps (stop key i s′)
+  unfolding deactivate inactive leave stop
+  ranked-stop i s′ r =
+      pass-keeps key Keeps (λ h z. ranked-carry h _ z) i (length (s′ .hubs)) _ (ranked-set i _ (leave i s′) refl (ranked-leave i s′ r))
 
   ranked-flag : (f i : ℕ) (s′ : State) → Keeps s′ → Keeps (flag f i s′)
   unfolding flag flagged

@@ -1,9 +1,9 @@
 -- What a call may do to the record of a waiting task where it meets no request: the task goes on waiting as it did, is
--- stopped or times out, and nobody starts to wait. True of every service but Blank, Hub request and Add hub, by any key.
+-- stopped or times out, and nobody starts to wait. True of every service but Blank, Hub request, Stop and Add hub, by any key.
 use Prim.Native.Nat.{_≤_, suc, zero, ℕ}
 use Rattle.rules.proofs.Cases.{condCase, sameOr}
 use Rattle.rules.proofs.Changes.{added-other, added-same, past-end, set-case, set-other}
-use Rattle.rules.specs.Calls.{AddTask, Resume, Service, Sleep, Start, Stop, Suspend, Tick, Unknown, Yield, addStarted, addTask, flag, grant, serve, slept, start, stop, tickAll, tickBy, tickOne, yielded}
+use Rattle.rules.specs.Calls.{AddTask, Resume, Service, Sleep, Start, Suspend, Tick, Unknown, Yield, addStarted, addTask, deactivate, flag, grant, serve, slept, start, tickAll, tickBy, tickOne, yielded}
 use Rattle.rules.specs.Lists.{answer, answered, asleep, counted, flagged, joinReady, leave, readied, wake}
 use Rattle.rules.specs.Reply.{bearsAnswer}
 use Rattle.rules.specs.Table.{State, Task, inactive, setReady, setTask, task}
@@ -93,9 +93,10 @@ quiet-start : (key : ℕ → ℕ) (s s′ : State) (i : ℕ) → Quiet s s′ �
 unfolding Quiet joinReady readied setReady start
 quiet-start key s s′ i q h = quiet-set s s′ i _ q (other1 _ _ h (λ e. omega (arith, e)))
 
-quiet-stop : (s : State) (i : ℕ) → Quiet s (stop i s)
-unfolding inactive leave stop
-quiet-stop s i =
+-- a Stop, before the Resources pass
+pub quiet-deactivate : (s : State) (i : ℕ) → Quiet s (deactivate i s)
+unfolding deactivate inactive leave
+quiet-deactivate s i =
     quiet-set s (leave i s) i _ (quiet-same s _ (λ j. refl)) (record { old = λ e. stopped refl; new = λ e. absurd (omega (arith, e)) })
 
 quiet-flag : (s : State) (f i : ℕ) → Quiet s (flag f i s)
@@ -123,10 +124,9 @@ past-not3 s e = omega (arith, rw (past-end s) at e)
 
 -- ---- by service
 
--- every service but Blank, Hub request and Add hub
+-- every service but Blank, Hub request, Stop and Add hub
 pub data Other : Service → Type 0 where
   isStart : Other Start
-  isStop : Other Stop
   isSuspend : Other Suspend
   isResume : Other Resume
   isYield : Other Yield
@@ -145,7 +145,6 @@ quiet-serve key v o s c run = by v o (λ b e. omega (arith, e, run b))
         quiet-grant _ s _ c
         (λ b. quiet-start key s s (c .target) (quiet-refl s) (λ e. omega (arith, e, eqb-true (task s (c .target) .state) 1 b)))
         (r refl)
-    by Stop isStop r = quiet-grant _ s _ c (λ b. quiet-stop s (c .target)) (r refl)
     by Suspend isSuspend r = quiet-grant _ s _ c (λ b. quiet-flag s 1 (c .target)) (r refl)
     by Resume isResume r = quiet-grant _ s _ c (λ b. quiet-flag s 0 (c .target)) (r refl)
     by Yield isYield r = quiet-yield key s (c .caller) (r refl)

@@ -72,7 +72,7 @@ module _ (key : ℕ → ℕ) where
   unfolding meetAll
   meet-first m ms s h a = meet-apart ms _ (m .waiter) a ∙ wake-same key s (m .waiter) 1 (m .word) h
 
-  meet-ready : (ms : List Meeting) (s : State) (j : ℕ) → task s j .state ≡ 2 → task (meetAll key ms s) j .state ≡ 2
+  pub meet-ready : (ms : List Meeting) (s : State) (j : ℕ) → task s j .state ≡ 2 → task (meetAll key ms s) j .state ≡ 2
   unfolding meetAll
   meet-ready [] s j h = h
   meet-ready (m ∷ ms) s j h = meet-ready ms _ j (wake-ready key s (m .waiter) 1 (m .word) j h)

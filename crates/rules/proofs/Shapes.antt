@@ -5,12 +5,13 @@ use Rattle.rules.proofs.Accepted.{Asked, by-running, request-tests, sle
 use Rattle.rules.proofs.Cases.{and-l, and-r, condCase, sameOr}
 use Rattle.rules.proofs.Changes.{added-other, added-same, hub-added-other, hub-past-end, hub-set-keeps, length-addHub, length-setHub, set-case, set-keeps, set-other}
 use Rattle.rules.proofs.Hubs.{SameHubs, core, hubs-join, hubs-leave, hubs-refl}
+use Rattle.rules.proofs.Passing.{pass-keeps, pass-ready}
 use Rattle.rules.proofs.Valid.{Listed, Records, Shape, TaskOk}
-use Rattle.rules.specs.Calls.{AddHub, AddTask, Blank, HubRequest, Resume, Service, Sleep, Start, Stop, Suspend, Tick, Unknown, Yield, addHub, addStarted, addTask, blank, flag, grant, hold, isInactive, kept, meetAll, newHub, serve, settle, slept, start, stop, tickAll, tickBy, tickOne, wait, yielded}
+use Rattle.rules.specs.Calls.{AddHub, AddTask, Blank, HubRequest, Resume, Service, Sleep, Start, Stop, Suspend, Tick, Unknown, Yield, addHub, addStarted, addTask, blank, carryOut, deactivate, flag, grant, hold, kept, meetAll, newHub, serve, settle, slept, start, stop, tickAll, tickBy, tickOne, wait, yielded}
 use Rattle.rules.specs.HubTable.{Meeting, Verdict, fail, met, notNow, verdict}
 use Rattle.rules.specs.Lists.{answer, answered, asleep, counted, flagged, holding, joinHub, joinReady, leave, queued, readied, waits, wake}
 use Rattle.rules.specs.Refusals.{onTask, refusalFor}
-use Rattle.rules.specs.Table.{Hub, Inactive, NoStage, Ready, Sleeping, Stage, State, Task, Waiting, hub, inactive, kindOf, noHub, setHub, setReady, setTask, stageOf, task}
+use Rattle.rules.specs.Table.{Hub, Inactive, NoStage, Ready, Sleeping, Stage, State, Task, Waiting, hub, inactive, isInactive, kindOf, noHub, setHub, setReady, setTask, stageOf, task}
 use Rattle.rules.specs.WellFormed.{bearsWord, within}
 use Rattle.rules.specs.declared.Call.{Call}
 use borrow.Author.Tests.{eqb-false, eqb-true, not-true}
@@ -193,10 +194,6 @@ records-flag : (f i : ℕ) (s : State) → Records s → f ≤ 1 → (task s i .
 unfolding flag
 records-flag f i s r b z = records-set i (flagged f (task s i)) s r (ok-flagged s f (task s i) (r .each i) b z)
 
-records-stop : (i : ℕ) (s : State) → Records s → Records (stop i s)
-unfolding stop
-records-stop i s r = records-out i (inactive (task s i .priority)) s r (ok-inactive s _ (r .each i .priority))
-
 records-hold : (h n : ℕ) (ws : List ℕ) (s : State) → Records s → Records (hold h n ws s)
 unfolding hold
 records-hold h n ws s r =
@@ -221,6 +218,17 @@ module _ (key : ℕ → ℕ) where
   unfolding meetAll
   records-meetAll [] s r = r
   records-meetAll (m ∷ ms) s r = records-meetAll ms _ (records-wake (m .waiter) 1 (m .word) s r (omega arith) (λ q. absurd (q refl)))
+
+  records-carry : (h : ℕ) (v : Verdict) (s : State) → Records s → Records (carryOut key h v s)
+  unfolding carryOut
+  records-carry h (met n ws x ms) s r = records-meetAll ms _ (records-hold h n ws s r)
+  records-carry h notNow s r = r
+  records-carry h fail s r = r
+
+  records-stop : (i : ℕ) (s : State) → Records s → Records (stop key i s)
+  unfolding deactivate stop
+  records-stop i s r =
+      pass-keeps key Records (λ h z. records-carry h _ z) i (length (s .hubs)) _ (records-out i (inactive (task s i .priority)) s r (ok-inactive s _ (r .each i .priority)))
 
   records-start : (i : ℕ) (s : State) → Records s → Records (start key i s)
   unfolding start
@@ -278,9 +286,9 @@ start-ready : (key : ℕ → ℕ) (i j : ℕ) (s : State) → task s j .state �
 unfolding joinReady readied setReady start
 start-ready key i j s e = set-case s i (readied 0 0 (task s i)) (λ t. t .state ≡ 2) j (λ _. refl) e
 
-stop-ready : (i j : ℕ) (s : State) → j ≢ i → task s j .state ≡ 2 → task (stop i s) j .state ≡ 2
-unfolding leave stop
-stop-ready i j s n e = ap (λ (t : Task). t .state) (set-other (leave i s) i _ j n) ∙ e
+stop-ready : (key : ℕ → ℕ) (i j : ℕ) (s : State) → j ≢ i → task s j .state ≡ 2 → task (stop key i s) j .state ≡ 2
+unfolding deactivate leave stop
+stop-ready key i j s n e = pass-ready key i (length (s .hubs)) _ j (ap (λ (t : Task). t .state) (set-other (leave i s) i _ j n) ∙ e)
 
 flag-ready : (f i j : ℕ) (s : State) → task s j .state ≡ 2 → task (flag f i s) j .state ≡ 2
 unfolding flag flagged
@@ -317,7 +325,7 @@ records-serve key Start s c l r e =
     records-grant _ _ s c (λ b. (records-start key (c .target) s r, start-ready key (c .target) (c .caller) s run)) r run
 records-serve key Stop s c l r e =
     let run = by-running s l c _ e .0 in
-    records-grant _ _ s c (λ b. (records-stop (c .target) s r, stop-ready (c .target) (c .caller) s (λ q. apart b (sym q)) run)) r run
+    records-grant _ _ s c (λ b. (records-stop key (c .target) s r, stop-ready key (c .target) (c .caller) s (λ q. apart b (sym q)) run)) r run
   where
     apart : not (isInactive (task s (c .target))) && not (eqb (c .target) (c .caller)) ≡ true → c .target ≢ c .caller
     apart b = eqb-false (c .target) (c .caller) (not-true _ (and-r (not (isInactive (task s (c .target)))) _ b))

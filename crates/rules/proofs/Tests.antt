@@ -7,9 +7,9 @@ use Rattle.lists.specs.Lists.{bit, occ}
 use Rattle.rules.proofs.Cases.{and-l, and-r, sameOr}
 use Rattle.rules.proofs.Shapes.{ok-inactive, shape-at}
 use Rattle.rules.proofs.Standing.{listed-waiting, waiting-listed, waiting-used}
-use Rattle.rules.proofs.Valid.{Below, Fits, GetWaits, Listed, MayWait, Ordered, PutWaits, Range, Records, Shape, Sorted, TaskOk, Valid, Waits}
-use Rattle.rules.specs.Table.{Event, Fifo, Get, Hub, Inactive, Kind, NoKind, NoSide, NoStage, Port, Put, Ready, Resource, Semaphore, Side, Sleeping, Stage, State, Task, Waiting, hub, inactive, kindOf, noHub, sideOf, stageOf, task}
-use Rattle.rules.specs.WellFormed.{bearsWord, every, exactly, fieldsRight, forAll, hubsRight, inOrder, isReady, kindRight, listsExact, mayWait, oneSide, rising, stageRight, tasksRight, urgency, valid, waitersRight, waitsFor, within}
+use Rattle.rules.proofs.Valid.{Below, Fits, GetWaits, Listed, MayWait, Ordered, Owners, PutWaits, Range, Records, Shape, Sorted, TaskOk, Valid, Waits}
+use Rattle.rules.specs.Table.{Event, Fifo, Get, Hub, Inactive, Kind, NoKind, NoSide, NoStage, Port, Put, Ready, Resource, Semaphore, Side, Sleeping, Stage, State, Task, Waiting, hub, inactive, isResource, kindOf, noHub, owns, sideOf, stageOf, task}
+use Rattle.rules.specs.WellFormed.{bearsWord, every, exactly, fieldsRight, forAll, hubsRight, inOrder, isReady, kindRight, listsExact, mayWait, oneSide, ownerRight, ownersRight, rising, stageRight, tasksRight, urgency, valid, waitersRight, waitsFor, within}
 use borrow.Author.Tests.{eq-eqb, eqb-false, eqb-true, le-leb, leb-true, lt-ltb, ltb-false, ltb-true, ne-eqb}
 use lib.Dec.{eqb, leb, ltb}
 use lib.ListN.{List·getD-eq-default, length}
@@ -271,6 +271,32 @@ t-waits s l =
     })
     (λ m h k. (λ i o j p. m .oneSide h i j (listed-waiting s l h i o) (listed-waiting s l h j p), λ i o. m .may h i (listed-waiting s l h i o)))
 
+-- ---- owners
+
+-- not a hub that is owned by an inactive task
+pub t-owner : (s : State) (x : Hub) → Tests (ownerRight s x) ((i : ℕ) → owns i x ≡ true → task s i .state ≢ 1)
+unfolding ownerRight owns
+t-owner s x =
+    t-iff _ (t-not _ (t-and _ _ (t-is (isResource (kindOf (x .kind)))) (t-and _ _ (t-not _ (t-eq (x .count) 0)) (t-eq (task s (pred (x .count)) .state) 1))))
+    (λ q i o z. let e : x .count ≡ suc i = eqb-true _ _ (and-r (isResource (kindOf (x .kind))) _ o) in
+    q (and-l _ _ o, (λ w. omega (arith, e, w), rw e z)))
+    (λ f p. f (pred (x .count)) (rw (p .0) (eq-eqb (x .count) (suc (pred (x .count))) (let n : x .count ≢ 0 = p .1 .0 in omega arith))) (p .1 .1))
+
+no-hub-owned : (i : ℕ) → owns i noHub ≡ false
+unfolding isResource kindOf noHub owns
+no-hub-owned i = refl
+
+pub t-owners : (s : State) → Tests (ownersRight s) (Owners s)
+unfolding ownersRight
+t-owners s =
+    t-iff _ (t-all _ _ (λ h. t-owner s (hub s h)) (length (s .hubs)))
+    (λ q. record {
+      active = λ h i. boolCase (ltb h (length (s .hubs)))
+          (λ b. q h (ltb-true _ _ b) i)
+          (λ b. rw (List·getD-eq-default (s .hubs) noHub (ltb-false h (length (s .hubs)) b)) (λ o. absurd (false≢true (sym (no-hub-owned i) ∙ o))));
+    })
+    (λ a h k. a .active h)
+
 -- ---- the whole
 
 pub tested : (s : State) → Fits s → valid s ≡ true → Valid s
@@ -279,6 +305,7 @@ tested s f e =
     let e₁ = and-r (hubsRight s) _ e in
     let e₂ = and-r (listsExact s) _ e₁ in
     let e₃ = and-r (inOrder s) _ e₂ in
+    let e₄ = and-r (tasksRight s) _ e₃ in
     let r : Records s = t-records s .yes (and-l _ _ e₃) in
     let l : Listed s = t-lists s r .yes (and-l _ _ e₁) in
     record {
@@ -287,8 +314,9 @@ tested s f e =
       listed = l;
       ordered = t-order s .yes (and-l _ _ e₂);
       records = r;
-      waits = t-waits s l .yes (and-r (tasksRight s) _ e₃);
+      waits = t-waits s l .yes (and-l _ _ e₄);
       ranges = record { range = t-hubs s .yes (and-l _ _ e); held = f .held };
+      owners = t-owners s .yes (and-r (waitersRight s) _ e₄);
     }
 
 pub test-valid : (s : State) → Valid s → valid s ≡ true
@@ -300,4 +328,5 @@ test-valid s v =
       t-order s .conv (v .ordered),
       t-records s .conv (v .records),
       t-waits s (v .listed) .conv (v .waits),
+      t-owners s .conv (v .owners),
     ) refl

@@ -3,11 +3,12 @@
 -- Not here: that a test says its statement (Tests.antt), that calls keep it (Kept.antt). Assumes nothing.
 use Prim.Native.Nat.{_<_, _≤_, pred, suc, ℕ}
 use Rattle.lists.specs.Lists.{bit, occ}
-use Rattle.rules.specs.Table.{Event, Fifo, Get, Hub, Inactive, Kind, NoKind, NoSide, NoStage, Port, Put, Ready, Resource, Semaphore, Side, Sleeping, Stage, State, Task, Waiting, hub, kindOf, sideOf, stageOf, task}
+use Rattle.rules.specs.Table.{Event, Fifo, Get, Hub, Inactive, Kind, NoKind, NoSide, NoStage, Port, Put, Ready, Resource, Semaphore, Side, Sleeping, Stage, State, Task, Waiting, hub, kindOf, owns, sideOf, stageOf, task}
 use Rattle.rules.specs.WellFormed.{bearsWord, isReady, urgency, waitsFor}
 use lib.ListN.{length}
 use mathlib.Core.Bool.{true}
 use mathlib.Core.List.{List, [], _∷_}
+use mathlib.Core.Logic.{_≢_}
 use mathlib.Core.Path.{_≡_}
 
 -- ---- the ready list has exactly the tasks in state 2, a hub's list exactly those in state 3 at that hub, each once
@@ -106,6 +107,11 @@ pub record TaskOk (s : State) (t : Task) : Type 0 where
 pub record Records (s : State) : Type 0 where
   pub each : (i : ℕ) → TaskOk s (task s i)
 
+-- ---- who owns a Resource
+
+pub record Owners (s : State) : Type 0 where
+  pub active : (h i : ℕ) → owns i (hub s h) ≡ true → task s i .state ≢ 1
+
 -- ---- the whole
 
 -- what the words alone say of the state read from them: how many, and what the stores hold
@@ -131,3 +137,4 @@ pub record Valid (s : State) : Type 0 where
   pub records : Records s
   pub waits : Waits s
   pub ranges : Ranges s
+  pub owners : Owners s

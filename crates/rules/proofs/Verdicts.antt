@@ -14,7 +14,7 @@ use lib.Dec.{eqb, ltb}
 use lib.ListN.{length, length-append}
 use mathlib.Core.Bool.{false≢true}
 use mathlib.Core.List.{List, [], _++_, _∷_}
-use mathlib.Core.Logic.{_≢_}
+use mathlib.Core.Logic.{_≢_, _⊎_, inl, inr}
 use mathlib.Core.Option.{Option, none, some}
 use mathlib.Core.Path.{_∙_, _≡_, ap, refl}
 use native.Mathlib.Omega.{arith}
@@ -290,7 +290,7 @@ side-put (suc zero) e = refl
 side-put (suc (suc zero)) e = absurd (false≢true (cc))
 side-put (suc (suc (suc n))) e = absurd (false≢true (cc))
 
-side-get : (n : ℕ) → sideOf n ≡ Get → n ≡ 2
+pub side-get : (n : ℕ) → sideOf n ≡ Get → n ≡ 2
 unfolding sideOf
 side-get zero e = absurd (false≢true (cc))
 side-get (suc zero) e = absurd (false≢true (cc))
@@ -381,3 +381,48 @@ unfolding JoinLaw across onSide
 join-side NoSide T s h c r e m = tt
 join-side Put T s h c r e m = join-put (kindOf (h .kind)) T _ h (c .caller) (c .word) r
 join-side Get T s h c r e m = join-get (kindOf (h .kind)) T s _ h (c .caller) r e m
+
+-- ---- a Resource passes, where its owner is stopped: f waits first
+
+pub pass-count : (f : Option ℕ) (x : Hub) (j : ℕ) → hubAfter x (pass f x) .count ≡ suc j → f ≡ some j
+unfolding holding hubAfter pass
+pass-count (some w) x j e = let q : w ≡ j = omega (arith, e) in ap some q
+pass-count none x j e = absurd (omega (arith, e))
+
+pub pass-range : (T : ℕ) (f : Option ℕ) (x : Hub) → ((w : ℕ) → f ≡ some w → w < T) → Range Resource T x → Range Resource T (hubAfter x (pass f x))
+unfolding Range holding hubAfter pass
+pass-range T (some w) x b r = (b w refl, r .1, r .2)
+pass-range T none x b r = (omega arith, r .1, r .2)
+
+pub pass-held : (f : Option ℕ) (x : Hub) → Held Resource x → Held Resource (hubAfter x (pass f x))
+unfolding Held holding hubAfter pass
+pass-held (some w) x e = e
+pass-held none x e = e
+
+-- who is not first may go on waiting
+pub pass-wait : (d : Side) (f : Option ℕ) (x : Hub) (j : ℕ) → MayWait d Resource x j → (f ≡ none → d ≡ Get → ⊥) → (f ≡ some j → ⊥)
+    → MayWait d Resource (hubAfter x (pass f x)) j
+unfolding GetWaits MayWait PutWaits holding hubAfter pass
+pass-wait NoSide f x j m a n = absurd m
+pass-wait Put f x j m a n = absurd m
+pass-wait Get (some w) x j m a n = (λ e. omega (arith, e), λ e. n (let q : w ≡ j = omega (arith, e) in ap some q))
+pass-wait Get none x j m a n = absurd (a refl refl)
+
+-- who owns a Resource after a put or a get: its owner, the caller, or the getter that waited first
+pub owner-side : (d : Side) (s : State) (x : Hub) (c : Call) (j : ℕ) → kindOf (x .kind) ≡ Resource → hubAfter x (onSide d s x c) .count ≡ suc j
+    → (x .count ≡ suc j) ⊎ ((j ≡ c .caller) ⊎ (firstWaiting s 2 (x .waiters) ≡ some j))
+unfolding getResource holding hubAfter onGet onPut onSide putResource
+owner-side NoSide s x c j k e = inl e
+owner-side Put s x c j k e =
+    condCase (λ (v : Verdict). hubAfter x v .count ≡ suc j → (x .count ≡ suc j) ⊎ ((j ≡ c .caller) ⊎ (firstWaiting s 2 (x .waiters) ≡ some j)))
+    (eqb (x .count) (suc (c .caller))) (pass (firstWaiting s 2 (x .waiters)) x) fail
+    (λ _ q. inr (inr (pass-count (firstWaiting s 2 (x .waiters)) x j q)))
+    (λ _ q. inl q)
+    (rw k at e)
+owner-side Get s x c j k e =
+    condCase (λ (v : Verdict). hubAfter x v .count ≡ suc j → (x .count ≡ suc j) ⊎ ((j ≡ c .caller) ⊎ (firstWaiting s 2 (x .waiters) ≡ some j)))
+    (eqb (x .count) 0) _ _
+    (λ _ q. inr (inl (omega (arith, q))))
+    (λ _. condCase (λ (v : Verdict). hubAfter x v .count ≡ suc j → (x .count ≡ suc j) ⊎ ((j ≡ c .caller) ⊎ (firstWaiting s 2 (x .waiters) ≡ some j)))
+    (eqb (x .count) (suc (c .caller))) fail notNow (λ _ q. inl q) (λ _ q. inl q))
+    (rw k at e)

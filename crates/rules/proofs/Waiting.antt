@@ -1,28 +1,31 @@
 -- Calls keep who may wait where, and the hubs in their ranges. In order: what is said of a hub does not read its waiting
 -- list; calls that meet no request; the hub request, for any waiters met; a hub added; each service. By any key.
 use Prim.Native.Nat.{_<_, _≤_, suc, zero, ℕ}
-use Rattle.rules.proofs.Accepted.{Asked, caller-ready, hub-tests, request-tests, within-true}
+use Rattle.lists.proofs.Laws.{boolCase}
+use Rattle.rules.proofs.Accepted.{Asked, caller-ready, hub-tests, on-task, request-tests, within-true}
 use Rattle.rules.proofs.Cases.{and-l, and-r, condCase, sameOr}
-use Rattle.rules.proofs.Changes.{hub-added-other, hub-added-same, inUse, length-addHub}
-use Rattle.rules.proofs.Hubs.{SameHubs, core, hub-else, hub-target, hubs-serve, many-settle}
+use Rattle.rules.proofs.Changes.{hub-added-other, hub-added-same, inUse, length-addHub, length-setTask}
+use Rattle.rules.proofs.Handed.{Part, Passed, handed, handed-not, handed-owned, owned-kind, parts, passed-all, still-task, still-waits, takes-heir}
+use Rattle.rules.proofs.Hubs.{SameHubs, core, hub-else, hub-target, hubs-answer, hubs-deactivate, hubs-serve, many-pass, many-settle}
 use Rattle.rules.proofs.Lengths.{length-serve, tasks-grow}
-use Rattle.rules.proofs.Listed.{listed-blank, listed-serve}
-use Rattle.rules.proofs.Quiet.{Moved, Other, Quiet, isAddTask, isResume, isSleep, isStart, isStop, isSuspend, isTick, isUnknown, isYield, quiet-same, quiet-serve, stays, stopped, timed}
-use Rattle.rules.proofs.Settled.{Partners, caller-in, length-settle, met-other, met-waiting, partners, quiet-told, wait-caller, wait-other}
+use Rattle.rules.proofs.Listed.{listed-answer, listed-blank, listed-deactivate, listed-pass, listed-serve}
+use Rattle.rules.proofs.Passing.{length-pass}
+use Rattle.rules.proofs.Quiet.{Moved, Other, Quiet, isAddTask, isResume, isSleep, isStart, isSuspend, isTick, isUnknown, isYield, quiet-answer, quiet-deactivate, quiet-refl, quiet-same, quiet-serve, stays, stopped, timed}
+use Rattle.rules.proofs.Settled.{Partners, caller-in, length-answer, length-settle, met-other, met-waiting, partners, quiet-told, wait-caller, wait-other}
 use Rattle.rules.proofs.Standing.{first-waits, listed-waiting, listed-waits, none-waits, waiting-listed, waiting-used}
-use Rattle.rules.proofs.Valid.{GetWaits, Held, Listed, MayWait, PutWaits, Range, Ranges, Waits}
-use Rattle.rules.proofs.Verdicts.{Apart, Each, JoinLaw, across, after-kind, held-side, hubAfter, join-side, range-side, wait-side, waitersMet}
-use Rattle.rules.specs.Calls.{AddHub, AddTask, Blank, HubRequest, Resume, Service, Sleep, Start, Stop, Suspend, Tick, Unknown, Yield, addHub, blank, newHub, serve, settle, wait}
-use Rattle.rules.specs.HubTable.{Verdict, fail, met, notNow, verdict}
-use Rattle.rules.specs.Lists.{answer, firstWaiting, queued, waits}
+use Rattle.rules.proofs.Valid.{GetWaits, Held, Listed, MayWait, PutWaits, Range, Ranges, Valid, Waits}
+use Rattle.rules.proofs.Verdicts.{Apart, Each, JoinLaw, across, after-kind, held-side, hubAfter, join-side, pass-held, pass-range, pass-wait, range-side, side-get, wait-side, waitersMet}
+use Rattle.rules.specs.Calls.{AddHub, AddTask, Blank, HubRequest, Resume, Service, Sleep, Start, Stop, Suspend, Tick, Unknown, Yield, addHub, blank, deactivate, grant, heir, mayStop, newHub, passAll, serve, settle, stop, wait}
+use Rattle.rules.specs.HubTable.{Verdict, fail, met, notNow, pass, verdict}
+use Rattle.rules.specs.Lists.{answer, firstWaiting, leave, queued, waits}
 use Rattle.rules.specs.Refusals.{goodHub, refusalFor}
-use Rattle.rules.specs.Table.{Event, Fifo, Get, Hub, Kind, NoKind, NoSide, Port, Put, Resource, Semaphore, Side, State, Task, hub, inactive, kindOf, sideOf, task}
+use Rattle.rules.specs.Table.{Event, Fifo, Get, Hub, Kind, NoKind, NoSide, Port, Put, Resource, Semaphore, Side, State, Task, hub, inactive, kindOf, owns, sideOf, task}
 use Rattle.rules.specs.WellFormed.{waitsFor, within}
 use Rattle.rules.specs.declared.Call.{Call}
-use borrow.Author.Tests.{eq-eqb, eqb-true, leb-true}
-use lib.Dec.{eqb}
+use borrow.Author.Tests.{eq-eqb, eqb-true, leb-true, lt-ltb, ltb-false, ltb-true}
+use lib.Dec.{eqb, ltb}
 use lib.ListN.{length}
-use mathlib.Core.Bool.{_&&_, false≢true, true}
+use mathlib.Core.Bool.{Bool, _&&_, false, false≢true, true}
 use mathlib.Core.List.{List}
 use mathlib.Core.Logic.{_≢_, _⊎_, inl, inr}
 use mathlib.Core.Option.{Option, none, some}
@@ -319,22 +322,125 @@ pub record Good (s : State) : Type 0 where
   pub waits : Waits s
   pub ranges : Ranges s
 
-good-other : (key : ℕ → ℕ) (v : Service) → Other v → (s : State) (c : Call) → Good s → refusalFor v s c ≡ 0 → Good (serve key v s c)
-good-other key v o s c g e = record {
-  listed = listed-serve key v s c (g .listed) e;
-  waits = waits-quiet s s′ (g .waits) (quiet-serve key v o s c (caller-ready s (g .listed) c v e)) (λ h i w. same .each h);
+pub valid-good : (s : State) → Valid s → Good s
+valid-good s v = record { listed = v .listed; waits = v .waits; ranges = v .ranges }
+
+good-quiet : (s s′ : State) → Good s → Listed s′ → Quiet s s′ → SameHubs s s′ → length (s .tasks) ≤ length (s′ .tasks) → Good s′
+good-quiet s s′ g l q same more = record {
+  listed = l;
+  waits = waits-quiet s s′ (g .waits) q (λ h i w. same .each h);
   ranges = record {
-    range = λ h n. rw (length-serve key v s c) (range-move _ (hub s h) (hub s′ h) (same .each h)
-        (range-more _ _ _ (hub s h) (tasks-grow v o (length (s .tasks))) (g .ranges .range h (rw (same .many) at n))));
+    range = λ h n. range-move _ (hub s h) (hub s′ h) (same .each h) (range-more _ _ _ (hub s h) more (g .ranges .range h (rw (same .many) at n)));
     held = λ h n. held-move (hub s h) (hub s′ h) (same .each h) (g .ranges .held h (rw (same .many) at n));
   };
 }
-  where
-    s′ : State
-    s′ = serve key v s c
 
-    same : SameHubs s s′
-    same = hubs-serve key v o s c
+good-other : (key : ℕ → ℕ) (v : Service) → Other v → (s : State) (c : Call) → Good s → refusalFor v s c ≡ 0 → Good (serve key v s c)
+good-other key v o s c g e =
+    good-quiet s (serve key v s c) g (listed-serve key v s c (g .listed) e) (quiet-serve key v o s c (caller-ready s (g .listed) c v e)) (hubs-serve key v o s c)
+    (rw (length-serve key v s c) (tasks-grow v o (length (s .tasks))))
+
+-- ---- Stop: the task is taken out, its Resources pass, the caller is answered
+
+module _ (i n : ℕ) (s s′ : State) (p : Part i n s s′) (g : Good s) where
+  -- what is said of a hub by its kind holds of it after the passing
+  handed-case : (P : Kind → Hub → Type 0) (f : Option ℕ) (x : Hub) → P (kindOf (x .kind)) x
+      → (owns i x ≡ true → P Resource x → P Resource (hubAfter x (pass f x))) → P (kindOf (handed i f x .kind)) (handed i f x)
+  handed-case P f x a b =
+      boolCase (owns i x)
+      (λ o. let k = owned-kind i x o in
+      subst (λ (y : Hub). P (kindOf (y .kind)) y) (sym (handed-owned i f x o))
+      (subst (λ (z : Kind). P z (hubAfter x (pass f x))) (sym (ap kindOf (after-kind x (pass f x)) ∙ k)) (b o (subst (λ (z : Kind). P z x) k a))))
+      (λ o. rw (handed-not i f x o) a)
+
+  -- and of every hub, passed or not
+  part-case : (P : Kind → Hub → Type 0) → ((x x′ : Hub) → core x′ ≡ core x → P (kindOf (x .kind)) x → P (kindOf (x′ .kind)) x′)
+      → (h : ℕ) → P (kindOf (hub s h .kind)) (hub s h)
+      → (h < n → owns i (hub s h) ≡ true → P Resource (hub s h) → P Resource (hubAfter (hub s h) (pass (heir s h) (hub s h)))) → P (kindOf (hub s′ h .kind)) (hub s′ h)
+  part-case P move h a b =
+      boolCase (ltb h n)
+      (λ t. move _ _ (p .done h (ltb-true h n t)) (handed-case P (heir s h) (hub s h) a (b (ltb-true h n t))))
+      (λ t. rw (p .later h (ltb-false h n t)) a)
+
+  part-may : (h j : ℕ) → waitsFor s′ h j ≡ true → MayWait (sideOf (task s′ j .side)) (kindOf (hub s′ h .kind)) (hub s′ h) j
+  part-may h j w =
+      rw (ap (λ (t : Task). t .side) (still-task i n s s′ p j (eqb-true _ 3 (and-l _ _ w))))
+      (part-case (λ k x. MayWait (sideOf (task s j .side)) k x j) (λ x x′ e m. may-move (task s j .side) (task s j .side) x x′ j refl e m) h (g .waits .may h j before) (λ t o m.
+      pass-wait (sideOf (task s j .side)) (heir s h) (hub s h) j m
+      (λ f d. none-waits s 2 (hub s h .waiters) f j (waiting-listed s (g .listed) h j before) (side-get (task s j .side) d))
+      (λ f. false≢true (sym (still-waits i n s s′ p h j w .1) ∙ rw (lt-ltb h n t) (takes-heir i s h j o f)))))
+    where
+      before : waitsFor s h j ≡ true
+      before = still-waits i n s s′ p h j w .0
+
+  good-part : Listed s′ → length (s′ .tasks) ≡ length (s .tasks) → length (s′ .hubs) ≡ length (s .hubs) → Good s′
+  good-part l many hubs = record {
+    listed = l;
+    waits = record {
+      may = part-may;
+      oneSide = λ h j k w u.
+          ap (λ (t : Task). t .side) (still-task i n s s′ p j (eqb-true _ 3 (and-l _ _ w)))
+          ∙ (g .waits .oneSide h j k (still-waits i n s s′ p h j w .0) (still-waits i n s s′ p h k u .0)
+          ∙ sym (ap (λ (t : Task). t .side) (still-task i n s s′ p k (eqb-true _ 3 (and-l _ _ u)))));
+    };
+    ranges = record {
+      range = λ h m. rw many (part-case (λ k x. Range k (length (s .tasks)) x) (range-move (length (s .tasks))) h (g .ranges .range h (rw hubs at m))
+          (λ t o. pass-range (length (s .tasks)) (heir s h) (hub s h) (heir-in h)));
+      held = λ h m. part-case Held held-move h (g .ranges .held h (rw hubs at m)) (λ t o. pass-held (heir s h) (hub s h));
+    };
+  }
+    where
+      heir-in : (h w : ℕ) → heir s h ≡ some w → w < length (s .tasks)
+      heir-in h w e = inUse s w 1 (listed-waits s (g .listed) h w (first-waits s 2 (hub s h .waiters) w e .0) .0)
+
+-- the Resources below n have passed
+pub good-pass : (key : ℕ → ℕ) (i n : ℕ) (s : State) → Good s → Good (passAll key i n s)
+good-pass key i n s g =
+    good-part i n s (passAll key i n s) (parts key i s (g .listed) n) g (listed-pass key i n s (g .listed)) (length-pass key i n s) (many-pass key i n s)
+
+pub good-deactivate : (i : ℕ) (s : State) → Good s → i < length (s .tasks) → Good (deactivate i s)
+good-deactivate i s g u =
+    good-quiet s (deactivate i s) g (listed-deactivate i s (g .listed) u) (quiet-deactivate s i) (hubs-deactivate i s)
+    (unfold deactivate leave in omega (arith, length-setTask (leave i s) i (inactive (task s i .priority))))
+
+module _ (key : ℕ → ℕ) (i : ℕ) (s : State) (g : Good s) (u : i < length (s .tasks)) where
+  out : Good (deactivate i s)
+  out = good-deactivate i s g u
+
+  pub good-stop : Good (stop key i s)
+  good-stop = unfold stop in good-pass key i (length (s .hubs)) (deactivate i s) out
+
+  -- the Resources of the task have passed
+  stop-part : Part i (length (s .hubs)) (deactivate i s) (stop key i s)
+  stop-part = unfold stop in parts key i (deactivate i s) (out .listed) (length (s .hubs))
+
+  pub stop-passed : Passed i (deactivate i s) (stop key i s)
+  stop-passed = unfold stop in rw (← hubs-deactivate i s .many) (passed-all key i (deactivate i s) (out .listed))
+
+  -- who waits afterwards waited before
+  pub stop-waiting : (j : ℕ) → task (stop key i s) j .state ≡ 3 → task s j .state ≡ 3
+  stop-waiting j e =
+      unfold Quiet in
+      quiet-deactivate s i j .new (sym (ap (λ (t : Task). t .state) (still-task i (length (s .hubs)) (deactivate i s) (stop key i s) stop-part j e)) ∙ e)
+
+good-serve-stop : (key : ℕ → ℕ) (s : State) (c : Call) → Good s → refusalFor Stop s c ≡ 0 → Good (serve key Stop s c)
+unfolding grant refusalFor serve
+good-serve-stop key s c g e = by (mayStop (task s (c .target)) c)
+  where
+    run : task s (c .caller) .state ≡ 2
+    run = on-task s (g .listed) c e .0
+
+    used : c .target < length (s .tasks)
+    used = on-task s (g .listed) c e .1
+
+    told : (a : ℕ) (z : State) → Good z → (task z (c .caller) .state ≢ 3) → Good (answer (c .caller) a 0 z)
+    told a z k n =
+        good-quiet z (answer (c .caller) a 0 z) k (listed-answer (c .caller) a 0 z (k .listed)) (quiet-answer z z (c .caller) a 0 (quiet-refl z) n)
+        (hubs-answer (c .caller) a 0 z) (omega (arith, length-answer z (c .caller) a 0))
+
+    by : (b : Bool) → Good (grant b (stop key (c .target) s) s c)
+    by true = told 1 _ (good-stop key (c .target) s g used) (λ q. omega (arith, run, stop-waiting key (c .target) s g used (c .caller) q))
+    by false = told 2 s g (λ q. omega (arith, run, q))
 
 pub good-blank : Good blank
 unfolding blank inactive
@@ -379,7 +485,7 @@ good-serve key HubRequest s c g e =
       ranges = unfold serve in ranges-request key s (g .listed) (g .waits) (g .ranges) c a;
     }
 good-serve key Start s c g e = good-other key Start isStart s c g e
-good-serve key Stop s c g e = good-other key Stop isStop s c g e
+good-serve key Stop s c g e = good-serve-stop key s c g e
 good-serve key Suspend s c g e = good-other key Suspend isSuspend s c g e
 good-serve key Resume s c g e = good-other key Resume isResume s c g e
 good-serve key Yield s c g e = good-other key Yield isYield s c g e

@@ -1,15 +1,16 @@
 -- "The calls": services 0 to 10, each as the paper has it, on the state that stands in the table.
 -- A call fixes a key for each task before it does anything: lists are joined by it. Not here: when a call is refused.
 use Prim.Native.Nat.{suc, zero, ℕ}
-use Rattle.rules.specs.HubTable.{Meeting, Verdict, fail, met, notNow, verdict}
-use Rattle.rules.specs.Lists.{answer, asleep, counted, flagged, holding, joinHub, joinReady, leave, readied, waits, wake}
-use Rattle.rules.specs.Table.{Hub, State, Task, hub, inactive, isSuspended, kindOf, setHub, setTask, task}
+use Rattle.rules.specs.HubTable.{Meeting, Verdict, fail, met, notNow, pass, verdict}
+use Rattle.rules.specs.Lists.{answer, asleep, counted, firstWaiting, flagged, holding, joinHub, joinReady, leave, readied, waits, wake}
+use Rattle.rules.specs.Table.{Hub, State, Task, hub, inactive, isInactive, isSuspended, kindOf, owns, setHub, setTask, task}
 use Rattle.rules.specs.WellFormed.{bearsWord, urgency, within}
 use Rattle.rules.specs.declared.Call.{Call}
 use lib.Dec.{eqb}
 use lib.ListN.{getD, length}
 use mathlib.Core.Bool.{Bool, _&&_, cond, false, not, true}
 use mathlib.Core.List.{List, [], _++_, _∷_}
+use mathlib.Core.Option.{Option}
 
 pub data Service : Type 0 where
   Blank HubRequest Start Stop Suspend Resume Yield Sleep Tick AddTask AddHub Unknown : Service
@@ -58,9 +59,6 @@ unfoldable pub grant : Bool → State → State → Call → State
 grant true s′ s c = answer (c .caller) 1 0 s′
 grant false s′ s c = answer (c .caller) 2 0 s
 
-abbrev pub isInactive : Task → Bool
-isInactive t = eqb (t .state) 1
-
 -- 2 Start "an inactive task: ready, behind its equals"
 unfoldable pub start : (ℕ → ℕ) → ℕ → State → State
 start key i s = joinReady key i (setTask i (readied 0 0 (task s i)) s)
@@ -69,8 +67,33 @@ start key i s = joinReady key i (setTask i (readied 0 0 (task s i)) s)
 abbrev pub mayStop : Task → Call → Bool
 mayStop t c = not (isInactive t) && not (eqb (c .target) (c .caller))
 
-unfoldable pub stop : ℕ → State → State
-stop i s = setTask i (inactive (task s i .priority)) (leave i s)
+unfoldable pub deactivate : ℕ → State → State
+deactivate i s = setTask i (inactive (task s i .priority)) (leave i s)
+
+-- M-101 "each Resource it owns passes, in hub number order, to that hub's first waiter, who is met, or becomes free"
+
+-- what the hub table's row says of hub h is carried out: its count, its words held, the waiters met
+unfoldable pub carryOut : (ℕ → ℕ) → ℕ → Verdict → State → State
+carryOut key h (met n ws x ms) s = meetAll key ms (hold h n ws s)
+carryOut key h notNow s = s
+carryOut key h fail s = s
+
+-- "that hub's first waiter": only getters wait at a Resource
+abbrev pub heir : State → ℕ → Option ℕ
+heir s h = firstWaiting s 2 (hub s h .waiters)
+
+-- hub h, where task i owns it
+unfoldable pub passOne : (ℕ → ℕ) → ℕ → ℕ → State → State
+passOne key i h s = cond (owns i (hub s h)) (carryOut key h (pass (heir s h) (hub s h)) s) s
+
+-- hubs 0 to n - 1
+unfoldable pub passAll : (ℕ → ℕ) → ℕ → ℕ → State → State
+passAll key i zero s = s
+passAll key i (suc n) s = passOne key i n (passAll key i n s)
+
+-- "after the task leaves its list"
+unfoldable pub stop : (ℕ → ℕ) → ℕ → State → State
+stop key i s = passAll key i (length (s .hubs)) (deactivate i s)
 
 -- 4 Suspend "a task that is neither inactive, suspended nor the caller: flag set, state and lists kept"
 abbrev pub maySuspend : Task → Call → Bool
@@ -130,7 +153,7 @@ unfoldable pub serve : (ℕ → ℕ) → Service → State → Call → State
 serve key Blank s c = blank
 serve key HubRequest s c = settle key (verdict s c) s c
 serve key Start s c = grant (isInactive (task s (c .target))) (start key (c .target) s) s c
-serve key Stop s c = grant (mayStop (task s (c .target)) c) (stop (c .target) s) s c
+serve key Stop s c = grant (mayStop (task s (c .target)) c) (stop key (c .target) s) s c
 serve key Suspend s c = grant (maySuspend (task s (c .target)) c) (flag 1 (c .target) s) s c
 serve key Resume s c = grant (isSuspended (task s (c .target))) (flag 0 (c .target) s) s c
 serve key Yield s c = yielded key (c .caller) s

@@ -5,7 +5,7 @@ use Prim.Native.Nat.{_*_, _+_, suc, zero, ℕ}
 use Rattle.lists.specs.Lists.{entries, numbers}
 use lib.Dec.{eqb}
 use lib.ListN.{drop, getD, length, replicate, set, take}
-use mathlib.Core.Bool.{Bool, not}
+use mathlib.Core.Bool.{Bool, _&&_, false, not, true}
 use mathlib.Core.List.{List, [], _++_, _∷_}
 
 -- ---- "Task record"
@@ -30,6 +30,10 @@ pub data Stage : Type 0 where
 -- 1 inactive, 2 ready, 3 waiting at a hub, 4 sleeping
 unfoldable pub stageOf : ℕ → Stage
 stageOf n = getD (NoStage ∷ Inactive ∷ Ready ∷ Waiting ∷ Sleeping ∷ []) n NoStage
+
+-- whether the record's state says inactive
+abbrev pub isInactive : Task → Bool
+isInactive t = eqb (t .state) 1
 
 -- whether the record's flag says suspended
 abbrev pub isSuspended : Task → Bool
@@ -59,6 +63,18 @@ pub data Kind : Type 0 where
 -- 1 Event, 2 Semaphore, 3 Port, 4 FIFO, 5 Resource
 unfoldable pub kindOf : ℕ → Kind
 kindOf n = getD (NoKind ∷ Event ∷ Semaphore ∷ Port ∷ Fifo ∷ Resource ∷ []) n NoKind
+
+unfoldable pub isResource : Kind → Bool
+isResource NoKind = false
+isResource Event = false
+isResource Semaphore = false
+isResource Port = false
+isResource Fifo = false
+isResource Resource = true
+
+-- whether task i owns hub h: a Resource's count is "0 free, else owner plus 1"
+unfoldable pub owns : ℕ → Hub → Bool
+owns i h = isResource (kindOf (h .kind)) && eqb (h .count) (suc i)
 
 -- ---- what stands in a table: the records in use, 0 to T-1 and 0 to H-1, and the ready list
 

@@ -4,7 +4,7 @@
 -- Not here: what each test says as a statement, and that calls keep it (proofs/).
 use Prim.Native.Nat.{_*_, _+_, _-_, pred, suc, zero, ℕ}
 use Rattle.lists.specs.Lists.{allZero, bit, occ, packed}
-use Rattle.rules.specs.Table.{Event, Fifo, Get, Hub, Inactive, Kind, Layout, NoKind, NoSide, NoStage, Port, Put, Ready, Resource, Semaphore, Side, Sleeping, Stage, State, Task, Waiting, hub, hubWordAt, hubsAt, kindOf, one, part, read, readyAt, sideOf, size, stageOf, storePart, storeSize, storesAt, task, taskSize, tasksAt, waitPart, waitsAt}
+use Rattle.rules.specs.Table.{Event, Fifo, Get, Hub, Inactive, Kind, Layout, NoKind, NoSide, NoStage, Port, Put, Ready, Resource, Semaphore, Side, Sleeping, Stage, State, Task, Waiting, hub, hubWordAt, hubsAt, isInactive, isResource, kindOf, one, part, read, readyAt, sideOf, size, stageOf, storePart, storeSize, storesAt, task, taskSize, tasksAt, waitPart, waitsAt}
 use lib.Dec.{eqb, leb, ltb}
 use lib.ListN.{drop, getD, length}
 use mathlib.Core.Bool.{Bool, _&&_, _||_, false, not, true}
@@ -182,11 +182,20 @@ waitersRight s =
     forAll (length (s .hubs)) (λ h. oneSide s (hub s h .waiters)
     && every (λ i. mayWait (sideOf (task s i .side)) (kindOf (hub s h .kind)) (hub s h) i) (hub s h .waiters))
 
+-- ---- M-101: "A table whose Resource owner is inactive is now not well formed"
+
+-- not a Resource that is owned, and its owner inactive
+unfoldable pub ownerRight : State → Hub → Bool
+ownerRight s h = not (isResource (kindOf (h .kind)) && (not (eqb (h .count) 0) && isInactive (task s (pred (h .count)))))
+
+unfoldable pub ownersRight : State → Bool
+ownersRight s = forAll (length (s .hubs)) (λ h. ownerRight s (hub s h))
+
 -- ---- the whole
 
 unfoldable pub valid : State → Bool
 valid s =
-    hubsRight s && (listsExact s && (inOrder s && (tasksRight s && waitersRight s)))
+    hubsRight s && (listsExact s && (inOrder s && (tasksRight s && (waitersRight s && ownersRight s))))
 
 unfoldable pub wellFormedIn : Layout → List ℕ → Bool
 wellFormedIn L t = written L t && valid (read L t)

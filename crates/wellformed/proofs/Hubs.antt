@@ -1,20 +1,22 @@
--- A hub by its words: its record, its store and its list, one after the other; and the hubs below h, with the marks so far.
+-- A hub by its words: its record, its store, its owner and its list, one after the other; and the hubs below h, with the marks so far.
 -- Not here: the walk of a list (Turns.antt). Assumes nothing.
-use Prim.Native.Nat.{_*_, _+_, _-_, _<_, _≤_, suc, zero, zero-le, ℕ}
-use Rattle.lists.proofs.Laws.{length-numbers}
+use Prim.Native.Nat.{_*_, _+_, _-_, _<_, _≤_, pred, suc, zero, zero-le, ℕ}
+use Rattle.lists.proofs.Laws.{boolCase, length-numbers}
 use Rattle.lists.specs.Lists.{allZero, numbers, occ}
 use Rattle.rules.proofs.Layouts.{Laid}
+use Rattle.rules.proofs.Numbers.{resource-number}
 use Rattle.rules.proofs.Reading.{read-hub, read-tasks}
 use Rattle.rules.proofs.Tests.{t-kind}
 use Rattle.rules.proofs.Valid.{Range}
-use Rattle.rules.specs.Table.{Fifo, Hub, Layout, hub, hubAt, hubsAt, kindOf, read, storeSize, storesAt, waitPart, waitsAt}
-use Rattle.rules.specs.WellFormed.{forAll, kindRight, storeRight}
+use Rattle.rules.specs.Table.{Fifo, Hub, Layout, hub, hubAt, hubsAt, inactive, kindOf, read, storeSize, storesAt, task, waitPart, waitsAt}
+use Rattle.rules.specs.WellFormed.{forAll, kindRight, ownerRight, storeRight}
 use Rattle.wellformed.proofs.Parts.{so-many}
-use Rattle.wellformed.proofs.Turns.{entry-side, forAll-fail, forAll-none, forAll-step, numbers-end, occ-le}
-use Rattle.wellformed.specs.Walks.{Marked, Marks, Used, hubRight, kindTest, may, metAt, ownerOf, queueRight, queueTest, storeTest, waitsOf, walks}
+use Rattle.wellformed.proofs.Turns.{entry-side, entry-state, forAll-fail, forAll-none, forAll-step, numbers-end, occ-le}
+use Rattle.wellformed.specs.Walks.{Marked, Marks, Used, hubRight, kindTest, may, metAt, ownerOf, ownerTest, queueRight, queueTest, storeTest, waitsOf, walks}
 use borrow.Author.Tests.{eq-eqb, le-leb, lt-leb, ne-eqb}
-use lib.ListN.{drop, getD, length, length-take, take}
-use mathlib.Core.Bool.{Bool, _&&_, false, false≢true, true}
+use lib.Dec.{eqb}
+use lib.ListN.{List·getD-eq-default, drop, getD, length, length-take, take}
+use mathlib.Core.Bool.{Bool, _&&_, false, false≢true, not, true}
 use mathlib.Core.List.{List}
 use mathlib.Core.Path.{_∙_, _≡_, ap, refl, sym}
 use native.Mathlib.Nat.{add-zero}
@@ -91,6 +93,36 @@ module _ (L : Layout) (t : List ℕ) (h : ℕ) (u : h < getD t 2 0) where
     unfolding storeTest
     store-as a n place long = rw (so-many a n t, place, long, hub-here)
 
+    -- ---- its owner, plus 1, or 0: a Resource's count
+
+    abbrev owner : ℕ
+    owner = ownerOf (getD t b 0) (getD t (b + 1) 0)
+
+    pub owner-none : owner ≡ 0 → ownerTest L t h ≡ true
+    unfolding ownerRight ownerTest
+    owner-none z =
+        rw (hub-here, resource-number (getD t b 0))
+        (boolCase (eqb (getD t b 0) 5) (λ e. let q : getD t (b + 1) 0 ≡ 0 = rw e at z in rw (e, q)) (λ e. rw e))
+
+    module _ (some : owner ≡ 0 → ⊥) where
+      owner-is : (eqb (getD t b 0) 5 ≡ true) × (owner ≡ getD t (b + 1) 0)
+      owner-is = boolCase (eqb (getD t b 0) 5) (λ e. (e, rw e)) (λ e. absurd (some (rw e)))
+
+      owner-as : ownerTest L t h ≡ not (eqb (task (read L t) (pred owner) .state) 1)
+      unfolding ownerRight ownerTest
+      owner-as =
+          let q = owner-is in
+          rw (hub-here, resource-number (getD t b 0), q .0, ne-eqb (getD t (b + 1) 0) 0 (λ z. some (q .1 ∙ z))) refl
+
+      pub owner-far : getD t 1 0 < owner → ownerTest L t h ≡ false
+      unfolding inactive
+      owner-far f =
+          let far : length (read L t .tasks) ≤ pred owner = rw (read-tasks L t) (omega arith) in
+          owner-as ∙ rw (List·getD-eq-default (read L t .tasks) (inactive 0) far)
+
+      pub owner-reads : {ts : ℕ} → Laid ts L → (p : ℕ) → p ≡ 8 + (owner - 1) * ts → owner ≤ getD t 1 0 → ownerTest L t h ≡ not (eqb (getD t (p + 0) 0) 1)
+      owner-reads y p stands near = owner-as ∙ rw (entry-state L y t owner p some near stands, add-zero)
+
   -- ---- its list, by the first word
 
   abbrev queue : List ℕ → Bool
@@ -136,7 +168,7 @@ module _ (L : Layout) (t : List ℕ) (h : ℕ) (u : h < getD t 2 0) where
   unfolding queueTest
   queue-as a at w = marked-as (rw (so-many a 16 t, at)) (λ j. rw (so-many a 16 t, at, wait-words)) w
 
--- ---- the three together
+-- ---- the four together
 
 module _ (L : Layout) (t : List ℕ) (h : ℕ) (m : List ℕ) where
   pub hub-kind-no : kindTest L t h ≡ false → Marked false (hubRight L t h) (waitsOf L t h) m m
@@ -147,9 +179,13 @@ module _ (L : Layout) (t : List ℕ) (h : ℕ) (m : List ℕ) where
   unfolding hubRight
   hub-store-no a e = marked-no (rw (a, e))
 
-  pub hub-queue : kindTest L t h ≡ true → storeTest L t h ≡ true → {r : Bool} {n : List ℕ} → Marked r (queueTest L t h) (waitsOf L t h) m n → Marked r (hubRight L t h) (waitsOf L t h) m n
+  pub hub-owner-no : kindTest L t h ≡ true → storeTest L t h ≡ true → ownerTest L t h ≡ false → Marked false (hubRight L t h) (waitsOf L t h) m m
   unfolding hubRight
-  hub-queue a b w = marked-as (rw (a, b)) (λ j. refl) w
+  hub-owner-no a b e = marked-no (rw (a, b, e))
+
+  pub hub-queue : kindTest L t h ≡ true → storeTest L t h ≡ true → ownerTest L t h ≡ true → {r : Bool} {n : List ℕ} → Marked r (queueTest L t h) (waitsOf L t h) m n → Marked r (hubRight L t h) (waitsOf L t h) m n
+  unfolding hubRight
+  hub-queue a b o w = marked-as (rw (a, b, o)) (λ j. refl) w
 
 -- ---- the hubs below h, with the marks so far
 

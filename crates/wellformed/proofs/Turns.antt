@@ -66,6 +66,10 @@ module _ {ts : ℕ} (L : Layout) (y : Laid ts L) (t : List ℕ) (e b : ℕ) (n :
   unfolding taskAt
   entry-hub = ap (λ (x : Task). x .hub) known ∙ ap (λ (k : ℕ). getD t (k + 3) 0) start
 
+  pub entry-state : task (read L t) (pred e) .state ≡ getD t b 0
+  unfolding taskAt
+  entry-state = ap (λ (x : Task). x .state) known ∙ ap (λ (k : ℕ). getD t k 0) (omega (arith, start))
+
   pub entry-side : task (read L t) (pred e) .side ≡ getD t (b + 5) 0
   unfolding taskAt
   entry-side = ap (λ (x : Task). x .side) known ∙ ap (λ (k : ℕ). getD t (k + 5) 0) start

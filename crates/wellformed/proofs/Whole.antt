@@ -7,16 +7,16 @@ use Rattle.records.specs.Records.{tableSize}
 use Rattle.rules.proofs.Cases.{and-l, and-r}
 use Rattle.rules.proofs.Reading.{read-hub, read-hubs, read-tasks}
 use Rattle.rules.proofs.Standing.{listed-ready, listed-waiting, listed-waits}
-use Rattle.rules.proofs.Tests.{t-all, t-each, t-is, t-kind, t-may, t-oneSide, t-records, t-sorted, t-task, tested}
+use Rattle.rules.proofs.Tests.{t-all, t-each, t-is, t-kind, t-may, t-oneSide, t-owner, t-records, t-sorted, t-task, tested}
 use Rattle.rules.proofs.Valid.{Valid}
 use Rattle.rules.proofs.Written.{Written, read-fits, written-says}
 use Rattle.rules.specs.Table.{Hub, Layout, State, Task, hub, hubAt, hubWordAt, inactive, kindOf, part, read, readyAt, sideOf, size, stageOf, storePart, task, waitPart}
-use Rattle.rules.specs.WellFormed.{contentsRight, fieldsRight, forAll, hubsRight, inOrder, kindRight, listsExact, listsPacked, mayWait, stageRight, storeRight, storesRight, tasksRight, unusedZero, urgency, valid, waitersRight, wellFormedIn, written}
+use Rattle.rules.specs.WellFormed.{contentsRight, fieldsRight, forAll, hubsRight, inOrder, kindRight, listsExact, listsPacked, mayWait, ownerRight, ownersRight, stageRight, storeRight, storesRight, tasksRight, unusedZero, urgency, valid, waitersRight, wellFormedIn, written}
 use Rattle.wellformed.proofs.Hubs.{wait-words}
 use Rattle.wellformed.proofs.Marks.{Placed, exact-marks, marks-exact, ready-shape}
 use Rattle.wellformed.proofs.Queues.{Entry, Line, Queue, first-in, first-none, low-zero, may-wait, queue-holds, queue-says, walks-holds, walks-says}
 use Rattle.wellformed.proofs.Turns.{occ-le}
-use Rattle.wellformed.specs.Walks.{Marked, Marks, Used, hubRight, kindTest, listed, may, metAt, ownerOf, queueTest, recordRight, storeTest, taskRight, walks}
+use Rattle.wellformed.specs.Walks.{Marked, Marks, Used, hubRight, kindTest, listed, may, metAt, ownerOf, ownerTest, queueTest, recordRight, storeTest, taskRight, walks}
 use borrow.Author.Tests.{eq-eqb, eqb-false, eqb-true, leb-true, ltb-false, ltb-true, ne-eqb, not-true}
 use lib.Dec.{eqb, leb, ltb}
 use lib.ListN.{List·getD-eq-default, getD, length, replicate}
@@ -80,7 +80,11 @@ module _ (L : Layout) (t : List ℕ) (p : Passed L t) where
 
     line : Line s h (hub s h) (waitPart L t h)
     unfolding hubRight queueTest
-    line = queue-says s h (hub s h) (waitPart L t h) (and-r (storeTest L t h) _ (and-r (kindTest L t h) _ right))
+    line = queue-says s h (hub s h) (waitPart L t h) (and-r (ownerTest L t h) _ (and-r (storeTest L t h) _ (and-r (kindTest L t h) _ right)))
+
+    owner-passed : ownerRight s (hub s h) ≡ true
+    unfolding hubRight ownerTest
+    owner-passed = and-l (ownerTest L t h) _ (and-r (storeTest L t h) _ (and-r (kindTest L t h) _ right))
 
     waits : (i : ℕ) → 1 ≤ occ i (hub s h .waiters) → 1 ≤ occ i (numbers (waitPart L t h))
     waits i o = rw (wait-words L t h u) at o
@@ -134,9 +138,13 @@ module _ (L : Layout) (t : List ℕ) (p : Passed L t) where
   unfolding hubsRight
   hubs-passed = each-so (length (s .hubs)) _ (λ h k. kind-passed h (rw (read-hubs L t) at k))
 
+  owners-passed : ownersRight s ≡ true
+  unfolding ownersRight
+  owners-passed = each-so (length (s .hubs)) _ (λ h k. owner-passed h (rw (read-hubs L t) at k))
+
   valid-passed : valid s ≡ true
   unfolding valid
-  valid-passed = rw (hubs-passed, lists-passed, order-passed, tasks-passed, waiters-passed)
+  valid-passed = rw (hubs-passed, lists-passed, order-passed, tasks-passed, waiters-passed, owners-passed)
 
   written-passed : written L t ≡ true
   unfolding listsPacked storesRight written
@@ -237,10 +245,13 @@ module _ (L : Layout) (t : List ℕ) (e : wellFormedIn L t ≡ true) where
       allowed = λ i o. rw (same-side i o) at (and-l (may (task (read L t) i .side) (x .kind) (x .count) (x .limit)) _ (may-pass i o));
     }
 
+    owner-pass : ownerRight (read L t) x ≡ true
+    owner-pass = t-owner (read L t) x .conv (state .owners .active h)
+
     hub-pass : hubRight L t h ≡ true
-    unfolding hubRight kindTest queueTest storeTest
+    unfolding hubRight kindTest ownerTest queueTest storeTest
     hub-pass =
-        rw (rw (read-tasks L t) at kind-pass, store-pass) (queue-holds (read L t) h x (waitPart L t h) line-pass)
+        rw (rw (read-tasks L t) at kind-pass, store-pass, owner-pass) (queue-holds (read L t) h x (waitPart L t h) line-pass)
 
   task-pass : (i : ℕ) → taskRight (read L t) i (markOf L t i) ≡ true
   unfolding recordRight taskRight

@@ -4,7 +4,7 @@ use Prim.Native.Nat.{_+_, _≤_, pred, suc, zero, ℕ}
 use Rattle.lists.specs.Lists.{allZero, bit, occ}
 use Rattle.records.specs.Records.{tableSize}
 use Rattle.rules.specs.Table.{Hub, Layout, State, Task, hub, kindOf, read, stageOf, storePart, task, taskFrom, waitPart}
-use Rattle.rules.specs.WellFormed.{fieldsRight, kindRight, stageRight, storeRight}
+use Rattle.rules.specs.WellFormed.{fieldsRight, kindRight, ownerRight, stageRight, storeRight}
 use lib.Dec.{eqb, leb}
 use lib.ListN.{getD, length}
 use mathlib.Core.Bool.{Bool, _&&_, _||_, cond, not, true}
@@ -65,18 +65,21 @@ queueRight s h x l =
     && (may (task s (pred (getD l 0 0)) .side) (x .kind) (x .count) (x .limit)
     && walks s (suc h) (task s (pred (getD l 0 0)) .side) (ownerOf (x .kind) (x .count)) 0 l))
 
--- a hub of the table: its record, its store, its list, and all three
+-- a hub of the table: its record, its store, its owner, its list, and all four
 unfoldable pub kindTest : Layout → List ℕ → ℕ → Bool
 kindTest L t h = kindRight (kindOf (hub (read L t) h .kind)) (getD t 1 0) (hub (read L t) h)
 
 unfoldable pub storeTest : Layout → List ℕ → ℕ → Bool
 storeTest L t h = storeRight L (kindOf (hub (read L t) h .kind)) (hub (read L t) h .count) (storePart L t h)
 
+unfoldable pub ownerTest : Layout → List ℕ → ℕ → Bool
+ownerTest L t h = ownerRight (read L t) (hub (read L t) h)
+
 unfoldable pub queueTest : Layout → List ℕ → ℕ → Bool
 queueTest L t h = queueRight (read L t) h (hub (read L t) h) (waitPart L t h)
 
 unfoldable pub hubRight : Layout → List ℕ → ℕ → Bool
-hubRight L t h = kindTest L t h && (storeTest L t h && queueTest L t h)
+hubRight L t h = kindTest L t h && (storeTest L t h && (ownerTest L t h && queueTest L t h))
 
 -- how often task j stands in the list of hub h
 abbrev pub waitsOf : Layout → List ℕ → ℕ → ℕ → ℕ

@@ -26,7 +26,7 @@ ghost use Rattle.records.specs.Records.{Table};
 ghost use Rattle.rules.proofs.Layouts.{Laid};
 ghost use Rattle.rules.specs.Table.{Layout, Task, Waiting, read};
 ghost use Rattle.rules.specs.WellFormed.{contentsRight, forAll, stageRight, unusedZero, wellFormedIn, zeroFrom};
-ghost use Rattle.wellformed.specs.Walks.{Marked, Marks, Used, hubRight, kindTest, may, meets, metAt, ownerOf, queueTest, recordOf, recordRight, storeTest, taskRight, waitsOf, walks};
+ghost use Rattle.wellformed.specs.Walks.{Marked, Marks, Used, hubRight, kindTest, may, meets, metAt, ownerOf, ownerTest, queueTest, recordOf, recordRight, storeTest, taskRight, waitsOf, walks};
 ghost use lib.Dec.{eqb, leb};
 ghost use lib.ListN.{getD, length};
 ghost use mathlib.Core.Bool.{_&&_, _||_, true};
@@ -181,6 +181,23 @@ fn owner_of(kind: u32, count: u32) -> u32
     if kind == rules::RESOURCE { count } else { 0 }
 }
 
+// M-101: hub h is no Resource whose owner is inactive.
+fn owner_right(t: &[u32], ts: usize, h: usize) -> bool
+    requires { ⌜ Used ts (now t) ⌝ }
+    requires { ⌜ h < getD (now t) 2 0 ⌝ }
+    ensures { λ r. ⌜ ((L : Layout) → Laid ts L → r ≡ ownerTest L (now (t .entry)) h) ⌝ }
+{
+    let b = records::hubs_at(ts) + h * HUB_SIZE;
+    let owner = owner_of(t[b], t[b + COUNT]);
+    if owner == 0 {
+        return true;
+    }
+    if owner > t[TASKS] {
+        return false;
+    }
+    t[records::task_at(ts, TaskNo((owner - 1) as usize)) + STATE] != rules::INACTIVE
+}
+
 // Hub h's list: the first entry's side may wait, and no entry is on the other.
 fn queue_right(t: &[u32], ts: usize, h: usize, marks: &mut [u32; 16]) -> bool
     requires { ⌜ Used ts (now t) ⌝ }
@@ -217,7 +234,7 @@ fn queue_right(t: &[u32], ts: usize, h: usize, marks: &mut [u32; 16]) -> bool
     )
 }
 
-// Hub h: its record, its store and its list.
+// Hub h: its record, its store, its owner and its list.
 fn hub_right(t: &[u32], ts: usize, h: usize, marks: &mut [u32; 16]) -> bool
     requires { ⌜ Used ts (now t) ⌝ }
     requires { ⌜ h < getD (now t) 2 0 ⌝ }
@@ -230,6 +247,9 @@ fn hub_right(t: &[u32], ts: usize, h: usize, marks: &mut [u32; 16]) -> bool
         return false;
     }
     if !store_right(t, ts, h) {
+        return false;
+    }
+    if !owner_right(t, ts, h) {
         return false;
     }
     queue_right(t, ts, h, marks)

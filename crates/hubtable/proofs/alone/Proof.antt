@@ -1,7 +1,8 @@
 -- `hubtable::alone` meets its contract: what it makes says just that. Assumes nothing.
 use Rattle.hubtable.proofs.alone.Statement.{statement}
 use Rattle.hubtable.proofs.alone.Tie as tie
-use Rattle.hubtable.specs.Says.{Below, StoreBelow, first, metWith, says}
+use Rattle.hubtable.specs.Says.{Below, StoreBelow, metWith, says}
+use Rattle.records.specs.Records.{first}
 use mathlib.Core.Path.{refl}
 use native.Mathlib.Omega.{arith}
 

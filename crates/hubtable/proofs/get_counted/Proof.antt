@@ -1,6 +1,7 @@
 -- `hubtable::get_counted` meets its contract, each return by a row's tests. Assumes nothing.
 use Prim.Native.Nat.{_<_}
-use Rattle.hubtable.proofs.Rows.{counted-empty, first-none, first-some}
+use Rattle.hubtable.proofs.Rows.{counted-empty}
+use Rattle.records.proofs.Laws.{first-none, first-some}
 use Rattle.hubtable.proofs.get_counted.Statement.{statement}
 use Rattle.hubtable.proofs.get_counted.Tie as tie
 use Rattle.hubtable.specs.Says.{Below, StoreBelow, metWith, says, storeAfter}

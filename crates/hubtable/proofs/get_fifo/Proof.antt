@@ -1,5 +1,6 @@
 -- `hubtable::get_fifo` meets its contract: not now where nothing is held, else as the words held and the waiter say. Assumes nothing.
-use Rattle.hubtable.proofs.Rows.{fifo-alone, fifo-empty, fifo-pair, first-none, first-some}
+use Rattle.hubtable.proofs.Rows.{fifo-alone, fifo-empty, fifo-pair}
+use Rattle.records.proofs.Laws.{first-none, first-some}
 use Rattle.hubtable.proofs.get_fifo.Statement.{statement}
 use Rattle.hubtable.proofs.get_fifo.Tie as tie
 use Rattle.hubtable.specs.Says.{Below, StoreBelow, says, storeAfter}

@@ -1,5 +1,6 @@
 -- `hubtable::put_resource` meets its contract, each return by a row's tests. Assumes nothing.
-use Rattle.hubtable.proofs.Rows.{first-none, pass-first}
+use Rattle.hubtable.proofs.Rows.{pass-first}
+use Rattle.records.proofs.Laws.{first-none}
 use Rattle.hubtable.proofs.put_resource.Statement.{statement}
 use Rattle.hubtable.proofs.put_resource.Tie as tie
 use Rattle.hubtable.specs.Says.{Below, StoreBelow, says, storeAfter}

@@ -1,7 +1,8 @@
 -- `kernel::serve_call` meets its contract. Assumes nothing.
-use Rattle.kernel.proofs.Laws.{caller-in, fits-table, key-is, known, service-is, service-low, target-low, task-named, to-service, valid-sound}
+use Rattle.kernel.proofs.Laws.{caller-in, fits-table, key-is, known, service-is, service-low, target-low, task-named, to-service}
 use Rattle.kernel.proofs.serve_call.Statement.{statement}
 use Rattle.kernel.proofs.serve_call.Tie as tie
+use Rattle.moves.proofs.Laws.{valid-sound}
 use Rattle.rules.proofs.Accepted.{hub-tests, task-tests}
 use Rattle.rules.proofs.Places.{hubs-word, tasks-word}
 use Rattle.rules.specs.Calls.{AddHub, AddTask, newHub, serve, served, serviceOf}
@@ -39,7 +40,7 @@ serve-target-requires c κs =
     let s = read (e .edition .layout) (b .args .t .now) in
     let q = known (e .edition .laid) (b .pre .0) (b .pre .1 .0) (b .args .t .now) k (e .none) (c .before .before .before .before .before .before .slice-known .given) (c .before .before .before .before .before .if1 .left) in
     let hi = c .before .before .if2 .taken in
-    (q .fits, (omega (arith, caller-in s (q .valid) k (q .accepted) (omega arith) (omega arith), q .valid .tasks), target-low s (q .valid) k (q .accepted) (omega arith) (omega arith)))
+    (q .fits, (omega (arith, caller-in s (q .valid) k (q .accepted) (omega arith) (omega arith), q .valid .tasks), (target-low s (q .valid) k (q .accepted) (omega arith) (omega arith), rw (q .table) (rw (hubs-word (e .edition .layout) s) (q .valid .hubs)))))
 
 same-length-2 : tie.Need-same-length-2
 same-length-2 c = search needs

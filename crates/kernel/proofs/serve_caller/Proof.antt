@@ -1,7 +1,8 @@
 -- `kernel::serve_caller` meets its contract. Assumes nothing.
-use Rattle.kernel.proofs.Laws.{caller-in, service-is, to-service, valid-sound}
+use Rattle.kernel.proofs.Laws.{caller-in, service-is, to-service}
 use Rattle.kernel.proofs.serve_caller.Statement.{statement}
 use Rattle.kernel.proofs.serve_caller.Tie as tie
+use Rattle.moves.proofs.Laws.{valid-sound}
 use Rattle.moves.specs.Moves.{keyOf}
 use Rattle.rules.specs.Calls.{Sleep, Yield, serviceOf}
 use borrow.Author.Needs.{needs}

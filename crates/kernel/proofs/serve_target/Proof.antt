@@ -1,7 +1,8 @@
 -- `kernel::serve_target` meets its contract. Assumes nothing.
-use Rattle.kernel.proofs.Laws.{caller-in, service-is, task-named, to-service, valid-sound}
+use Rattle.kernel.proofs.Laws.{caller-in, service-is, task-named, to-service}
 use Rattle.kernel.proofs.serve_target.Statement.{statement}
 use Rattle.kernel.proofs.serve_target.Tie as tie
+use Rattle.moves.proofs.Laws.{valid-sound}
 use Rattle.moves.specs.Moves.{keyOf}
 use Rattle.rules.proofs.Accepted.{on-task}
 use Rattle.rules.specs.Calls.{HubRequest, Resume, Start, Stop, Suspend, serviceOf}
@@ -60,7 +61,7 @@ returns-3 c = λ L s y g a p q e.
     let key = keyOf (c .before .before .before .before .before .before .before .args .keys .now) in
     let v = service-is k 3 (c .before .before .before .before .match .keys3) in
     let ok = on-task s (g .listed) k (task-named s g k a Stop v) in
-    c .before .before .stop-task .ensures L key s y (valid-sound s g) (caller-in s g k a p (omega arith)) (ok .1) e
+    c .before .before .stop-task .ensures L s y g (caller-in s g k a p (omega arith)) (ok .1) e
     ∙ to-service s k Stop v L key
 
 same-length-4 : tie.Need-same-length-4

@@ -1,4 +1,5 @@
 -- `requests::judge` meets its contract. Assumes nothing.
+use Rattle.moves.proofs.Laws.{valid-sound}
 use Rattle.requests.proofs.Laws.{asked, putter-used}
 use Rattle.requests.proofs.judge.Statement.{statement}
 use Rattle.requests.proofs.judge.Tie as tie
@@ -34,7 +35,7 @@ returns c = (
       let q = asked s g k a in
       let x = hub s (k .target) in
       let r = c .before .before .before .before .before .hub-at .ensures L s y (g .hubs) (q .named) e in
-      let w = c .before .before .first-waiter .ensures L s y g (q .named) e in
+      let w = c .before .before .first-waiter .ensures L s y (valid-sound s g) (g .waits) (q .named) e in
       c .on-put .ensures .0 x (length (s .tasks)) r (g .ranges .range (k .target) (q .named))
       ∙ rw (w, c .before .before .before .if1 .taken) refl,
 )
@@ -60,7 +61,7 @@ returns-2 c = (
       let q = asked s g k a in
       let x = hub s (k .target) in
       let r = c .before .before .before .before .before .before .hub-at .ensures L s y (g .hubs) (q .named) e in
-      let w = c .before .before .before .first-waiter2 .ensures L s y g (q .named) e in
+      let w = c .before .before .before .first-waiter2 .ensures L s y (valid-sound s g) (g .waits) (q .named) e in
       let get : k .side ≡ 2 = ⊎-elim (λ p. absurd (c .before .before .before .before .if1 .left p)) (λ p. p) (q .side) in
       c .on-get .ensures .0 x s (length (s .tasks)) r (g .ranges .range (k .target) (q .named)) (g .ranges .held (k .target) (q .named))
       (λ i p. c .before .before .word-of .ensures .1 L s i y (g .tasks) e p (putter-used s g k a i (sym w ∙ p))) (c .before .oldest-of .ensures .1 L s y (q .named) e)

@@ -1,6 +1,6 @@
 -- `requests::meet` meets its contract. Assumes nothing.
 use Prim.Native.Nat.{_-_, pred}
-use Rattle.hubtable.proofs.Rows.{first-none, first-some}
+use Rattle.records.proofs.Laws.{first-none, first-some}
 use Rattle.hubtable.specs.Says.{Below, metWith, storeAfter}
 use Rattle.moves.specs.Moves.{keyOf}
 use Rattle.requests.proofs.Laws.{asked, caller-used, meeting-fits, met-sound, met-state, told-in, waiter-used}

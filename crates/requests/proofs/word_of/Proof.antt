@@ -1,7 +1,7 @@
 -- `requests::word_of` meets its contract. Assumes nothing.
 use Prim.Native.Nat.{_-_, ℕ}
-use Rattle.hubtable.specs.Says.{first}
-use Rattle.requests.proofs.Laws.{first-is}
+use Rattle.records.proofs.Laws.{first-is}
+use Rattle.records.specs.Records.{first}
 use Rattle.requests.proofs.word_of.Statement.{statement}
 use Rattle.requests.proofs.word_of.Tie as tie
 use Rattle.rules.specs.Table.{Task, task}

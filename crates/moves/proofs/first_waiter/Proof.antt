@@ -1,9 +1,9 @@
--- `requests::first_waiter` meets its contract: one list holds one side only, so its first entry tells. Assumes nothing.
-use Rattle.hubtable.specs.Says.{first}
+-- `moves::first_waiter` meets its contract: one list holds one side only, so its first entry tells. Assumes nothing.
 use Rattle.lists.specs.Lists.{entries}
-use Rattle.requests.proofs.Laws.{entry-first, entry-read, entry-stands, no-entry, nobody, waiter-in}
-use Rattle.requests.proofs.first_waiter.Statement.{statement}
-use Rattle.requests.proofs.first_waiter.Tie as tie
+use Rattle.moves.proofs.Laws.{entry-first, entry-read, entry-stands, no-entry, nobody, waiter-in}
+use Rattle.moves.proofs.first_waiter.Statement.{statement}
+use Rattle.moves.proofs.first_waiter.Tie as tie
+use Rattle.records.specs.Records.{first}
 use Rattle.rules.proofs.Standing.{listed-waiting}
 use Rattle.rules.specs.Table.{Task, hub}
 use borrow.Author.Needs.{needs}
@@ -18,7 +18,7 @@ word-requires c κs = search needs
 
 returns : tie.Need-returns
 unfolding first
-returns c = λ L s y g used e.
+returns c = λ L s y g w used e.
     let read = rw (e, c .before .before .waits-at .ensures) at (c .before .word .ensures) ∙ entry-read L s y (g .hubs) _ used in
     let q : getD (entries 16 (hub s _ .waiters)) 0 0 ≡ 0 = sym read ∙ c .if1 .taken in
     sym (no-entry s _ (hub s _ .waiters) q)
@@ -33,7 +33,7 @@ task-at-requires : tie.Need-task-at-requires
 task-at-requires c κs = search needs
 
 returns-2 : tie.Need-returns-2
-returns-2 c = λ L s y g used e.
+returns-2 c = λ L s y g w used e.
     let read = rw (e, c .before .before .before .before .before .waits-at .ensures) at (c .before .before .before .before .word .ensures) ∙ entry-read L s y (g .hubs) _ used in
     let some-e = c .before .before .before .if1 .left in
     let d = c .before .before .before .before .before .before .before .args .side in
@@ -43,14 +43,14 @@ returns-2 c = λ L s y g used e.
 
 returns-3 : tie.Need-returns-3
 unfolding first
-returns-3 c = λ L s y g used e.
+returns-3 c = λ L s y g w used e.
     let read = rw (e, c .before .before .before .before .before .waits-at .ensures) at (c .before .before .before .before .word .ensures) ∙ entry-read L s y (g .hubs) _ used in
     let some-e = c .before .before .before .if1 .left in
     let d = c .before .before .before .before .before .before .before .args .side in
     let h = c .before .before .before .before .before .before .before .args .h .0 in
     let stands = entry-stands s d (hub s h .waiters) _ read some-e in
     let x = c .before .before .task-at .ensures .value L s y (g .tasks) (waiter-in s (g .listed) _ _ stands) e in
-    sym (nobody s d (hub s h .waiters) (λ i o w. c .if2 .left (ap (λ (r : Task). r .side) x ∙ g .waits .oneSide h _ i (listed-waiting s (g .listed) h _ stands) (listed-waiting s (g .listed) h i o) ∙ w)))
+    sym (nobody s d (hub s h .waiters) (λ i o d. c .if2 .left (ap (λ (r : Task). r .side) x ∙ w .oneSide h _ i (listed-waiting s (g .listed) h _ stands) (listed-waiting s (g .listed) h i o) ∙ d)))
 
 pub first-waiter-spec : {M : Type 1} → statement M
 first-waiter-spec =
