@@ -29,6 +29,7 @@ typedef struct {
     uint32_t count;
     uint32_t requests; /* how many of the calls are service 1 */
     uint32_t entries;  /* in the longest waiting list, summed over the calls */
+    uint32_t hubs;     /* of which the summaries are asked in turn */
 } load;
 
 /* What a round measures: one side, over all calls of a load. Gives a number so
@@ -104,6 +105,7 @@ static load draw_load(const char *name, uint32_t tasks, uint32_t hubs, uint32_t 
         if (record(&it, seed, tasks, hubs) && it.requests >= CALLS / 2 &&
             it.entries >= entries * CALLS) {
             it.name = name;
+            it.hubs = 8;
             return it;
         }
     fprintf(stderr, "bench: no run for %s\n", name);
@@ -124,6 +126,26 @@ static load draw_damaged(const char *name, const load *like)
         fprintf(stderr, "bench: %s isn't refused\n", name);
         exit(1);
     }
+    return it;
+}
+
+/* 16 tasks, and of these so many that wait at one Port. */
+static load draw_queue(const char *name, uint32_t waiters)
+{
+    load it = {.name = name, .count = CALLS, .hubs = 1};
+    uint32_t next = 0;
+
+    second_call(it.words, WORDS, (uint32_t[CALL_NUMBERS]){BLANK});
+    second_call(it.words, WORDS, (uint32_t[CALL_NUMBERS]){ADD_HUB, 0, PORT});
+    for (uint32_t task = 0; task < TASKS; task++)
+        next = second_call(it.words, WORDS, (uint32_t[CALL_NUMBERS]){ADD_TASK, 0, task, 1}).next;
+    for (uint32_t i = 0; i < waiters; i++)
+        next = second_call(it.words, WORDS, (uint32_t[CALL_NUMBERS]){HUB_REQUEST, next - 1, 0, GET, W}).next;
+    if (second_summary(it.words, WORDS, 0).count != waiters) {
+        fprintf(stderr, "bench: %s: other waiters\n", name);
+        exit(1);
+    }
+    to_bytes(it.bytes, it.words);
     return it;
 }
 
@@ -168,7 +190,7 @@ static uint32_t kernel_summaries(const load *it, uint8_t *bytes, uint32_t *words
 
     (void)words;
     for (uint32_t i = 0; i < it->count; i++)
-        sum += hub_kernel_summary(bytes, BYTES, i % 8).mask;
+        sum += hub_kernel_summary(bytes, BYTES, i % it->hubs).mask;
     return sum;
 }
 
@@ -178,7 +200,7 @@ static uint32_t second_byte_summaries(const load *it, uint8_t *bytes, uint32_t *
 
     (void)words;
     for (uint32_t i = 0; i < it->count; i++)
-        sum += second_summary_bytes(bytes, BYTES, i % 8).mask;
+        sum += second_summary_bytes(bytes, BYTES, i % it->hubs).mask;
     return sum;
 }
 
@@ -188,7 +210,7 @@ static uint32_t second_word_summaries(const load *it, uint8_t *bytes, uint32_t *
 
     (void)bytes;
     for (uint32_t i = 0; i < it->count; i++)
-        sum += second_summary(words, WORDS, i % 8).mask;
+        sum += second_summary(words, WORDS, i % it->hubs).mask;
     return sum;
 }
 
@@ -276,17 +298,20 @@ int main(int count, char **words)
     long rounds = count == 2 || count == 3 ? atol(words[1]) : 0;
     long row = count == 3 ? atol(words[2]) : 0;
 
-    if (rounds < 1 || rounds > ROUNDS_MAX || row < 0 || row > 5 || (count == 3 && row == 0)) {
-        fprintf(stderr, "usage: bench ROUNDS (1 to %d) [ROW (1 to 5): the kernel alone, no times]\n",
+    if (rounds < 1 || rounds > ROUNDS_MAX || row < 0 || row > 8 || (count == 3 && row == 0)) {
+        fprintf(stderr, "usage: bench ROUNDS (1 to %d) [ROW (1 to 8): the kernel alone, no times]\n",
                 ROUNDS_MAX);
         return 2;
     }
     load few = draw_load("calls, 8 tasks, 8 hubs", 8, 8, 2);
     load full = draw_load("calls, 16 tasks, 16 hubs, long lists", 16, 16, 10);
     load damaged = draw_damaged("refused, last word damaged, 16/16", &full);
+    load none = draw_queue("summary of a list without waiters", 0);
+    load one = draw_queue("summary of a list of one", 1);
+    load fifteen = draw_queue("summary of a list of fifteen", 15);
 
     if (row != 0) {
-        const load *rows[] = {&few, &full, &damaged, &few, &full};
+        const load *rows[] = {&few, &full, &damaged, &few, &full, &none, &one, &fifteen};
         printf("%" PRIu32 "\n", repeat(rows[row - 1], (row <= 3 ? calls : summaries)[KERNEL], (uint32_t)rounds));
         return 0;
     }
@@ -302,5 +327,8 @@ int main(int count, char **words)
     measure(&few, summaries, (uint32_t)rounds);
     full.name = "summary, 16/16, long lists";
     measure(&full, summaries, (uint32_t)rounds);
+    measure(&none, summaries, (uint32_t)rounds);
+    measure(&one, summaries, (uint32_t)rounds);
+    measure(&fifteen, summaries, (uint32_t)rounds);
     return 0;
 }

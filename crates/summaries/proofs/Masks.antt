@@ -72,6 +72,11 @@ next-turn l k m small h p e =
       mask = omega arith;
     }
 
+-- from an empty entry on nothing stands in the list
+pub mask-ended : (l : List ℕ) (k : ℕ) → k < length l → getD l k 0 ≡ 0 → maskOf (numbers (drop k l)) ≡ 0
+unfolding maskOf numbers
+mask-ended l k h e = rw (drop-cons l k 0 h, e)
+
 -- ---- the mask of a list, and of a test
 
 -- all of a number's occurrences taken out

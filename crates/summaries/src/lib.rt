@@ -30,7 +30,7 @@ fn bit_of(entry: u32) -> u32
     (1 << entry) >> 1
 }
 
-// The bits of the tasks of a list: entries, then zeros.
+// The bits of the tasks of a list: entries, then zeros. It ends at the first empty entry (M-102).
 fn mask_of(list: &[u32]) -> u32
     requires { ⌜ packed (now list) ≡ true ⌝ }
     requires { ⌜ maskOf (numbers (now list)) < 65536 ⌝ }
@@ -38,7 +38,7 @@ fn mask_of(list: &[u32]) -> u32
 {
     let mut mask = 0;
     let mut k = 0;
-    while k < list.len() {
+    while k < list.len() && list[k] != 0 {
         mask += bit_of(list[k]);
         k += 1;
     }
