@@ -35,6 +35,7 @@
  *   no. service        caller  target    side           mode  ticks       word
  *   0   Blank
  *   1   Hub request    task    hub       1 put, 2 get   1..3  under WT    for a put
+ *                                        3 wipe: Board
  *   2   Start          task    task
  *   3   Stop           task    task
  *   4   Suspend        task    task
@@ -52,6 +53,14 @@
  * owned passes, in hub number order, to that hub's first waiter, who is met and owns it
  * (answer 1 in its record, as after an unlock), or becomes free. So one Stop may wake up
  * to 14 tasks; its own answer tells of the Stop alone.
+ *
+ * A Board holds one word for all to read. Side 1 updates it and meets every reader that
+ * waits, in list order, each with that word; side 2 reads the word and leaves it there,
+ * and is "not now" while the Board is unwritten; side 3 wipes it, and whoever waits goes
+ * on waiting. Update and wipe never wait and always answer 1, in every mode. A Board that
+ * was written has count 1, also where the word is 0, and the word first in its store; one
+ * that wasn't, or was wiped, has count and store 0. Side 3 at a hub of any other kind is
+ * refusal 6. One update may wake up to 15 tasks.
  *
  *   answer 0  nothing yet: the caller waits or sleeps (and always 0 for 0, 8, 9 and 10)
  *   answer 1  OK: the request was met, the service done
@@ -89,10 +98,10 @@
  *   3  service above 10
  *   4  services 1 to 7: caller isn't the running task
  *   5  service 1 and the summary: hub not in use; 2 to 5: task not in use
- *   6  service 1: side not 1 or 2, mode not 1 to 3, ticks not 0 under W or NW, ticks
- *      outside 1 to 1,000,000 under WT. Service 7: ticks outside that range. Service 9:
- *      priority above 255 or side above 1. Service 10: kind not 1 to 5, limit or start
- *      outside the table below
+ *   6  service 1: side not 1 or 2 (nor 3 where the hub is a Board), mode not 1 to 3,
+ *      ticks not 0 under W or NW, ticks outside 1 to 1,000,000 under WT. Service 7: ticks
+ *      outside that range. Service 9: priority above 255 or side above 1. Service 10: kind
+ *      not 1 to 6, limit or start outside the table below
  *   7  service 9 or 10 with 16 already
  *   8  the listing: the buffer is shorter than it
  *
@@ -104,6 +113,7 @@
  *   3 Port       0                           0              0
  *   4 FIFO       words held, 0 to limit      1 to 8         0
  *   5 Resource   0 free, else owner plus 1   1              0
+ *   6 Board      0 unwritten, 1 written      1              0
  *
  * PROVED, for every length and every content of the table, every seven numbers and every
  * buffer: the call returns, reads nothing but the table, writes nothing but the table (the
@@ -191,8 +201,9 @@ enum {
     HUB_KERNEL_SLEEPING = 4
 };
 
-/* Sides of a hub request; a task that isn't waiting at a hub has side 0. */
-enum { HUB_KERNEL_PUT = 1, HUB_KERNEL_GET = 2 };
+/* Sides of a hub request; at a Board they update, read and wipe, and no other kind takes
+ * WIPE. A task that waits at a hub has side 1 or 2 in its record, any other task 0. */
+enum { HUB_KERNEL_PUT = 1, HUB_KERNEL_GET = 2, HUB_KERNEL_WIPE = 3 };
 
 /* Modes of a hub request: wait, don't wait, wait for some ticks. */
 enum { HUB_KERNEL_W = 1, HUB_KERNEL_NW = 2, HUB_KERNEL_WT = 3 };
@@ -203,7 +214,8 @@ enum {
     HUB_KERNEL_SEMAPHORE = 2,
     HUB_KERNEL_PORT = 3,
     HUB_KERNEL_FIFO = 4,
-    HUB_KERNEL_RESOURCE = 5
+    HUB_KERNEL_RESOURCE = 5,
+    HUB_KERNEL_BOARD = 6
 };
 
 /* Answers. TO stands in a task's record only: no call returns it. */

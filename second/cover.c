@@ -14,8 +14,9 @@ typedef enum {
     OUTCOMES
 } hub_outcome;
 
-/* Rows that stand alone. Those above them are products: services, kind by side
- * by outcome, kind by side; those below are the families of damaged tables. */
+/* Rows that stand alone, wipes among them. Those above them are products: services,
+ * kind by side by outcome, kind by side; those below are the families of damaged
+ * tables. */
 #define SINGLE_ROWS(ROW)                                                        \
     ROW(MEETS_SUSPENDED, "request: meets a suspended waiter")                   \
     ROW(MEETS_URGENT, "request: meets a more urgent waiter, who runs next")     \
@@ -28,6 +29,35 @@ typedef enum {
     ROW(WORD_0_PASSED, "request: word 0 received")                              \
     ROW(WAITS_MAX, "request: waits with 1000000 ticks")                         \
     ROW(WAITS_1, "request: waits with 1 tick")                                  \
+    ROW(UPDATE_W, "update: under W")                                            \
+    ROW(UPDATE_NW, "update: under NW")                                          \
+    ROW(UPDATE_WT, "update: under WT")                                          \
+    ROW(UPDATE_MEETS_0, "update: meets no reader")                              \
+    ROW(UPDATE_MEETS_1, "update: meets 1 reader")                               \
+    ROW(UPDATE_MEETS_2, "update: meets 2 readers")                              \
+    ROW(UPDATE_MEETS_3, "update: meets 3 to 14 readers")                        \
+    ROW(UPDATE_MEETS_15, "update: meets 15 readers")                            \
+    ROW(UPDATE_OVERWRITES, "update: of a written Board")                        \
+    ROW(UPDATE_0, "update: with word 0")                                        \
+    ROW(UPDATE_MEETS_0_WORD, "update: a waiting reader is met with word 0")     \
+    ROW(UPDATE_MEETS_SUSPENDED, "update: meets a suspended reader")             \
+    ROW(UPDATE_MEETS_TICKS, "update: meets a reader with ticks left")           \
+    ROW(UPDATE_MEETS_NO_LIMIT, "update: meets a reader without limit")          \
+    ROW(UPDATE_MEETS_EQUALS, "update: meets equals, list against task order")   \
+    ROW(UPDATE_MEETS_URGENT, "update: a reader met runs next")                  \
+    ROW(UPDATE_BEHIND_EQUAL, "update: a reader met is behind a ready equal")    \
+    ROW(READ_W, "read: met under W")                                            \
+    ROW(READ_NW, "read: met under NW")                                          \
+    ROW(READ_WT, "read: met under WT")                                          \
+    ROW(READ_0, "read: a written 0")                                            \
+    ROW(READ_SUSPENDED_TIMED_OUT, "read: of a suspended task timed out")        \
+    ROW(WIPE_W, "wipe: under W")                                                \
+    ROW(WIPE_NW, "wipe: under NW")                                              \
+    ROW(WIPE_WT, "wipe: under WT")                                              \
+    ROW(WIPE_WRITTEN, "wipe: of a written Board")                               \
+    ROW(WIPE_0, "wipe: of a written 0")                                         \
+    ROW(WIPE_UNWRITTEN, "wipe: without a word, nobody waits")                   \
+    ROW(WIPE_AWAITED, "wipe: without a word, readers go on waiting")            \
     ROW(START_OK, "Start: inactive")                                            \
     ROW(START_READY, "Start FAIL: ready")                                       \
     ROW(START_WAITING, "Start FAIL: waiting")                                   \
@@ -102,6 +132,7 @@ typedef enum {
     ROW(ADD_PORT, "Add hub: Port")                                              \
     ROW(ADD_FIFO, "Add hub: FIFO")                                              \
     ROW(ADD_RESOURCE, "Add hub: Resource")                                      \
+    ROW(ADD_BOARD, "Add hub: Board")                                            \
     ROW(ADD_SEMAPHORE_MAX, "Add hub: Semaphore, limit 65535")                   \
     ROW(ADD_HUB_16TH, "Add hub: the 16th")                                      \
     ROW(BLANK_DAMAGED, "Blank: on a damaged table")                             \
@@ -131,8 +162,14 @@ typedef enum {
     ROW(TARGET_SUSPEND, "refusal 5: Suspend")                                   \
     ROW(TARGET_RESUME, "refusal 5: Resume")                                     \
     ROW(TARGET_AND_6, "refusal 5: an argument wrong as well")                   \
+    ROW(TARGET_WIPE, "refusal 5: Hub request, side 3")                          \
     ROW(SIDE_0, "refusal 6: Hub request, side 0")                               \
-    ROW(SIDE_ABOVE, "refusal 6: Hub request, side above 2")                     \
+    ROW(SIDE_ABOVE, "refusal 6: Hub request, side above 3")                     \
+    ROW(SIDE_3_EVENT, "refusal 6: Hub request, side 3 at an Event")             \
+    ROW(SIDE_3_SEMAPHORE, "refusal 6: Hub request, side 3 at a Semaphore")      \
+    ROW(SIDE_3_PORT, "refusal 6: Hub request, side 3 at a Port")                \
+    ROW(SIDE_3_FIFO, "refusal 6: Hub request, side 3 at a FIFO")                \
+    ROW(SIDE_3_RESOURCE, "refusal 6: Hub request, side 3 at a Resource")        \
     ROW(MODE_0, "refusal 6: Hub request, mode 0")                               \
     ROW(MODE_ABOVE, "refusal 6: Hub request, mode above 3")                     \
     ROW(W_TICKS, "refusal 6: Hub request, ticks under W")                       \
@@ -140,6 +177,7 @@ typedef enum {
     ROW(WT_0, "refusal 6: Hub request, WT, 0 ticks")                            \
     ROW(WT_MAX_1, "refusal 6: Hub request, WT, 1000001 ticks")                  \
     ROW(WT_ABOVE, "refusal 6: Hub request, WT, more ticks")                     \
+    ROW(WIPE_ARGUMENT, "refusal 6: a wipe, mode or ticks wrong")                \
     ROW(SLEEP_0, "refusal 6: Sleep, 0 ticks")                                   \
     ROW(SLEEP_MAX_1, "refusal 6: Sleep, 1000001 ticks")                         \
     ROW(SLEEP_ABOVE, "refusal 6: Sleep, more ticks")                            \
@@ -147,7 +185,7 @@ typedef enum {
     ROW(PRIORITY_ABOVE, "refusal 6: Add task, priority above 256")              \
     ROW(TASK_SIDE, "refusal 6: Add task, side above 1")                         \
     ROW(KIND_0, "refusal 6: Add hub, kind 0")                                   \
-    ROW(KIND_ABOVE, "refusal 6: Add hub, kind above 5")                         \
+    ROW(KIND_ABOVE, "refusal 6: Add hub, kind above 6")                         \
     ROW(EVENT_LIMIT_0, "refusal 6: Add hub, Event, limit 0")                    \
     ROW(EVENT_LIMIT, "refusal 6: Add hub, Event, limit above 1")                \
     ROW(EVENT_START, "refusal 6: Add hub, Event, start")                        \
@@ -162,6 +200,9 @@ typedef enum {
     ROW(RESOURCE_LIMIT_0, "refusal 6: Add hub, Resource, limit 0")              \
     ROW(RESOURCE_LIMIT, "refusal 6: Add hub, Resource, limit above 1")          \
     ROW(RESOURCE_START, "refusal 6: Add hub, Resource, start")                  \
+    ROW(BOARD_LIMIT_0, "refusal 6: Add hub, Board, limit 0")                    \
+    ROW(BOARD_LIMIT, "refusal 6: Add hub, Board, limit above 1")                \
+    ROW(BOARD_START, "refusal 6: Add hub, Board, start")                        \
     ROW(TASK_ARGUMENT_AND_7, "refusal 6: Add task, 16 already as well")         \
     ROW(HUB_ARGUMENT_AND_7, "refusal 6: Add hub, 16 already as well")           \
     ROW(FULL_TASKS, "refusal 7: Add task")                                      \
@@ -200,6 +241,7 @@ typedef enum {
     ROW(LISTING_PORT, "listing: Port")                                          \
     ROW(LISTING_FIFO, "listing: FIFO")                                          \
     ROW(LISTING_RESOURCE, "listing: Resource")                                  \
+    ROW(LISTING_BOARD, "listing: Board")                                        \
     ROW(LISTING_PRIORITY_1, "listing: priority of 1 digit")                     \
     ROW(LISTING_PRIORITY_2, "listing: priority of 2 digits")                    \
     ROW(LISTING_PRIORITY_3, "listing: priority of 3 digits")                    \
@@ -225,9 +267,9 @@ typedef enum {
 enum {
     SERVICE_ROWS = 0,
     REQUEST_ROWS = SERVICE_ROWS + ADD_HUB + 1,
-    TIMEOUT_ROWS = REQUEST_ROWS + RESOURCE * GET * OUTCOMES,
-    WITHDRAWN_ROWS = TIMEOUT_ROWS + RESOURCE * GET,
-    BEFORE_SINGLE_ROWS = WITHDRAWN_ROWS + RESOURCE * GET - 1,
+    TIMEOUT_ROWS = REQUEST_ROWS + BOARD * GET * OUTCOMES,
+    WITHDRAWN_ROWS = TIMEOUT_ROWS + BOARD * GET,
+    BEFORE_SINGLE_ROWS = WITHDRAWN_ROWS + BOARD * GET - 1,
 #define ROW(symbol, name) symbol,
     SINGLE_ROWS(ROW)
 #undef ROW
@@ -240,8 +282,8 @@ static const char *const single_names[] = {
 #undef ROW
 };
 
-static const char *const kinds[] = {"Event", "Semaphore", "Port", "FIFO", "Resource"};
-static const char *const sides[] = {"put", "get"};
+static const char *const kinds[] = {"Event", "Semaphore", "Port", "FIFO", "Resource", "Board"};
+static const char *const sides[] = {"put", "get"}; /* at a Board: update, read */
 
 static size_t row_count(void) { return DAMAGE_ROWS + gen_damages(); }
 static void hit(cover *seen, size_t row) { seen->hits[row]++; }
@@ -257,27 +299,35 @@ static size_t request_row(uint32_t kind, uint32_t side, hub_outcome outcome)
     return REQUEST_ROWS + kind_side(kind, side) * OUTCOMES + outcome;
 }
 
-/* The hub table has no such entry: nobody waits to put to a Resource, a get
+/* The hub table has no such entry: nobody waits to put to a Resource or a Board, a get
  * meets no waiter there, a Port holds nothing, and only a Resource FAILs. */
 static int request_reachable(uint32_t kind, uint32_t side, hub_outcome outcome)
 {
     int not_now = outcome == NOT_NOW_NW || outcome == NOT_NOW_W || outcome == NOT_NOW_WT;
 
-    if (kind != RESOURCE)
-        return outcome < FAIL_W && !(kind == PORT && outcome == MET_ALONE);
-    return side == PUT ? !not_now : outcome != MET_WITH_WAITER;
+    if (kind != RESOURCE && outcome >= FAIL_W)
+        return 0;
+    if (kind == RESOURCE || kind == BOARD)
+        return side == PUT ? !not_now : outcome != MET_WITH_WAITER;
+    return !(kind == PORT && outcome == MET_ALONE);
+}
+
+/* In a product of kind by side: putters wait there. */
+static int putters_wait(size_t pair)
+{
+    return pair != kind_side(RESOURCE, PUT) && pair != kind_side(BOARD, PUT);
 }
 
 static int row_reachable(size_t row)
 {
-    size_t resource_put = kind_side(RESOURCE, PUT);
-
     if (row >= REQUEST_ROWS && row < TIMEOUT_ROWS) {
         size_t at = row - REQUEST_ROWS, pair = at / OUTCOMES;
         return request_reachable((uint32_t)(pair / GET + EVENT), (uint32_t)(pair % GET + PUT),
                                  (hub_outcome)(at % OUTCOMES));
     }
-    return row != TIMEOUT_ROWS + resource_put && row != WITHDRAWN_ROWS + resource_put;
+    if (row >= TIMEOUT_ROWS && row <= BEFORE_SINGLE_ROWS)
+        return putters_wait((row - TIMEOUT_ROWS) % (BOARD * GET));
+    return 1;
 }
 
 static void row_name(size_t row, char *name, size_t size)
@@ -365,6 +415,68 @@ static void cover_met_waiter(cover *seen, uint32_t waiter, uint32_t kind, second
     hit_if(seen, reply.next == waiter + 1, MEETS_URGENT);
 }
 
+/* The readers that an update met, in the order in which they stood. */
+static void cover_readers(cover *seen, const uint32_t *before, const uint32_t *list,
+                          const uint32_t *call, const uint32_t *after)
+{
+    for (uint32_t i = 0; i < length_of(list); i++) {
+        uint32_t reader = list[i] - 1, own = task_word(before, reader, T_PRIORITY);
+        const uint32_t *ready = after + READY_AT;
+        int equals = i > 0 && task_word(before, list[i - 1] - 1, T_PRIORITY) == own;
+
+        while (*ready != reader + 1)
+            ready++;
+        hit_if(seen, call[C_WORD] == 0, UPDATE_MEETS_0_WORD);
+        hit_if(seen, task_word(before, reader, T_SUSPENDED) == 1, UPDATE_MEETS_SUSPENDED);
+        hit(seen, task_word(before, reader, T_TICKS) > 0 ? UPDATE_MEETS_TICKS
+                                                         : UPDATE_MEETS_NO_LIMIT);
+        hit_if(seen, equals && list[i - 1] > list[i], UPDATE_MEETS_EQUALS);
+        hit_if(seen, ready > after + READY_AT &&
+                         task_word(before, ready[-1] - 1, T_STATE) == READY &&
+                         task_word(before, ready[-1] - 1, T_PRIORITY) == own,
+               UPDATE_BEHIND_EQUAL);
+    }
+}
+
+static void cover_update(cover *seen, const uint32_t *before, const uint32_t *call,
+                         second_reply reply, const uint32_t *after)
+{
+    const uint32_t *list = before + list_place(call[C_TARGET]);
+    uint32_t readers = length_of(list);
+
+    hit(seen, UPDATE_W + call[C_MODE] - W);
+    hit(seen, UPDATE_MEETS_0 + (readers < 3 ? readers : readers < 15 ? 3 : 4));
+    hit_if(seen, before[hub_place(call[C_TARGET]) + H_COUNT] == 1, UPDATE_OVERWRITES);
+    hit_if(seen, call[C_WORD] == 0, UPDATE_0);
+    hit_if(seen, reply.next != 0 && task_word(before, reply.next - 1, T_STATE) == WAITING,
+           UPDATE_MEETS_URGENT);
+    cover_readers(seen, before, list, call, after);
+}
+
+static void cover_wipe(cover *seen, const uint32_t *before, const uint32_t *call)
+{
+    int written = before[hub_place(call[C_TARGET]) + H_COUNT] == 1;
+    int awaited = before[list_place(call[C_TARGET])] != 0;
+
+    hit(seen, WIPE_W + call[C_MODE] - W);
+    hit(seen, written ? WIPE_WRITTEN : awaited ? WIPE_AWAITED : WIPE_UNWRITTEN);
+    hit_if(seen, written && before[store_place(call[C_TARGET])] == 0, WIPE_0);
+}
+
+/* What the products of kind, side and outcome don't say of a request to a Board. */
+static void cover_board(cover *seen, const uint32_t *before, const uint32_t *call,
+                        second_reply reply, const uint32_t *after)
+{
+    if (call[C_SIDE] == PUT)
+        cover_update(seen, before, call, reply, after);
+    if (call[C_SIDE] == WIPE)
+        cover_wipe(seen, before, call);
+    if (call[C_SIDE] == GET && reply.answer == OK) {
+        hit(seen, READ_W + call[C_MODE] - W);
+        hit_if(seen, before[store_place(call[C_TARGET])] == 0, READ_0);
+    }
+}
+
 static void cover_request(cover *seen, const uint32_t *before, const uint32_t *call,
                           second_reply reply, const uint32_t *after)
 {
@@ -373,6 +485,11 @@ static void cover_request(cover *seen, const uint32_t *before, const uint32_t *c
     uint32_t first = before[list_place(call[C_TARGET])];
     hub_outcome outcome;
 
+    hit_if(seen, reply.next == 0, NONE_LEFT);
+    if (kind == BOARD)
+        cover_board(seen, before, call, reply, after);
+    if (side == WIPE)
+        return;
     if (reply.answer == OK && first != 0 && task_word(after, first - 1, T_STATE) == READY)
         outcome = MET_WITH_WAITER;
     else if (reply.answer == OK)
@@ -392,7 +509,6 @@ static void cover_request(cover *seen, const uint32_t *before, const uint32_t *c
     hit_if(seen, reply.answer == OK && (kind == FIFO || kind == PORT) && side == GET &&
                      task_word(after, call[C_CALLER], T_WORD) == 0,
            WORD_0_PASSED);
-    hit_if(seen, reply.next == 0, NONE_LEFT);
 }
 
 static void cover_start(cover *seen, const uint32_t *before, const uint32_t *call)
@@ -558,6 +674,8 @@ static void cover_tick(cover *seen, const uint32_t *before)
             hit(seen, TIMEOUT_ROWS + kind_side(before[hub_place(hub) + H_KIND],
                                                task_word(before, task, T_SIDE)));
             hit_if(seen, suspended, TICK_SUSPENDED_WAITING);
+            hit_if(seen, suspended && before[hub_place(hub) + H_KIND] == BOARD,
+                   READ_SUSPENDED_TIMED_OUT);
         }
     }
     hit(seen, out == 0 ? TICK_NOTHING : out == 1 ? TICK_ONE : TICK_MORE);
@@ -631,10 +749,17 @@ static size_t ticks_cause(uint32_t ticks, size_t zero)
                                     : NO_CAUSE;
 }
 
-static size_t request_cause(const uint32_t *call)
+/* Where there is no hub, side 3 is no cause of its own. */
+static size_t request_cause(const uint32_t *table, const uint32_t *call)
 {
-    if (call[C_SIDE] != PUT && call[C_SIDE] != GET)
+    uint32_t kind = call[C_TARGET] < table[HUBS_IN_USE_AT]
+                        ? table[hub_place(call[C_TARGET]) + H_KIND]
+                        : (uint32_t)BOARD;
+
+    if (call[C_SIDE] < PUT || call[C_SIDE] > WIPE)
         return call[C_SIDE] == 0 ? SIDE_0 : SIDE_ABOVE;
+    if (call[C_SIDE] == WIPE && kind != BOARD)
+        return SIDE_3_EVENT + kind - EVENT;
     if (call[C_MODE] < W || call[C_MODE] > WT)
         return call[C_MODE] == 0 ? MODE_0 : MODE_ABOVE;
     if (call[C_MODE] == WT)
@@ -669,17 +794,22 @@ static size_t add_hub_cause(const uint32_t *call)
                : limit > 1 ? RESOURCE_LIMIT
                : start     ? RESOURCE_START
                            : NO_CAUSE;
+    case BOARD:
+        return limit == 0  ? BOARD_LIMIT_0
+               : limit > 1 ? BOARD_LIMIT
+               : start     ? BOARD_START
+                           : NO_CAUSE;
     default:
         return call[C_TARGET] == 0 ? KIND_0 : KIND_ABOVE;
     }
 }
 
 /* The first wrong argument, or NO_CAUSE. */
-static size_t argument_cause(const uint32_t *call)
+static size_t argument_cause(const uint32_t *table, const uint32_t *call)
 {
     switch (call[C_SERVICE]) {
     case HUB_REQUEST:
-        return request_cause(call);
+        return request_cause(table, call);
     case SLEEP:
         return ticks_cause(call[C_TICKS], SLEEP_0);
     case ADD_TASK:
@@ -712,7 +842,7 @@ static void cover_not_running(cover *seen, const uint32_t *table, const uint32_t
         hit(seen, CALLER_REQUEST + call[C_SERVICE] - HUB_REQUEST);
     }
     hit_if(seen, target_missing(table, call), CALLER_AND_5);
-    hit_if(seen, argument_cause(call) != NO_CAUSE, CALLER_AND_6);
+    hit_if(seen, argument_cause(table, call) != NO_CAUSE, CALLER_AND_6);
 }
 
 static void cover_refused(cover *seen, const uint32_t *table, const uint32_t *call,
@@ -730,10 +860,14 @@ static void cover_refused(cover *seen, const uint32_t *table, const uint32_t *ca
         break;
     case NOT_IN_USE:
         hit(seen, TARGET_REQUEST + call[C_SERVICE] - HUB_REQUEST);
-        hit_if(seen, argument_cause(call) != NO_CAUSE, TARGET_AND_6);
+        hit_if(seen, argument_cause(table, call) != NO_CAUSE, TARGET_AND_6);
+        hit_if(seen, call[C_SERVICE] == HUB_REQUEST && call[C_SIDE] == WIPE, TARGET_WIPE);
         break;
     case BAD_ARGUMENT:
-        hit(seen, argument_cause(call));
+        hit(seen, argument_cause(table, call));
+        hit_if(seen, call[C_SERVICE] == HUB_REQUEST && call[C_SIDE] == WIPE &&
+                         table[hub_place(call[C_TARGET]) + H_KIND] == BOARD,
+               WIPE_ARGUMENT);
         hit_if(seen, call[C_SERVICE] == ADD_TASK && table[TASKS_IN_USE_AT] == TASKS,
                TASK_ARGUMENT_AND_7);
         hit_if(seen, call[C_SERVICE] == ADD_HUB && table[HUBS_IN_USE_AT] == HUBS,

@@ -1,5 +1,5 @@
-/* The tests' own working-out of document 01 and requests M-100 and M-101; expect.h
- * says how it differs. */
+/* The tests' own working-out of document 01 and requests M-100, M-101 and M-103;
+ * expect.h says how it differs. */
 #include "expect.h"
 
 #include <stdio.h>
@@ -93,7 +93,7 @@ static int waiter_holds(const uint32_t *table, uint32_t hub, uint32_t task)
     if (kind == 3)
         return 1;
     if (field(table, task, 5) == 1)
-        return kind != 5 && count == limit;
+        return kind < 5 && count == limit;
     if (kind == 5)
         return count != 0 && field(table, count - 1, 3) != hub + 1;
     return count == 0;
@@ -108,6 +108,19 @@ static int owner_holds(const uint32_t *table, uint32_t hub)
     return 1;
 }
 
+/* "A FIFO's store holds its words ... Other stores are 0", and of a Board: "count 1
+ * when written, the word in its store's first place, else count and store 0". */
+static int store_holds(const uint32_t *table, uint32_t hub)
+{
+    uint32_t kind = table[136 + hub * 4], count = table[137 + hub * 4];
+    uint32_t most = kind == 4 ? count : kind == 6 && count == 1 ? 1 : 0;
+
+    for (uint32_t i = 0; i < 8; i++)
+        if (table[472 + hub * 8 + i] != 0 && i >= most)
+            return 0;
+    return 1;
+}
+
 static int hub_holds(const uint32_t *table, uint32_t hub)
 {
     uint32_t kind = table[136 + hub * 4], count = table[137 + hub * 4];
@@ -117,13 +130,11 @@ static int hub_holds(const uint32_t *table, uint32_t hub)
                 (kind == 3 && count == 0 && limit == 0 && start == 0) ||
                 (kind == 4 && count <= limit && limit >= 1 && limit <= 8 && start == 0) ||
                 (kind == 5 && count <= table[1] && limit == 1 && start == 0 &&
-                 owner_holds(table, hub));
+                 owner_holds(table, hub)) ||
+                (kind == 6 && count <= 1 && limit == 1 && start == 0);
 
-    if (!right)
+    if (!right || !store_holds(table, hub))
         return 0;
-    for (uint32_t i = 0; i < 8; i++)
-        if (table[472 + hub * 8 + i] != 0 && !(kind == 4 && i < count))
-            return 0;
     for (uint32_t task = 0; task < table[1]; task++)
         if (field(table, task, 3) == hub + 1 && !waiter_holds(table, hub, task))
             return 0;
@@ -243,17 +254,20 @@ static int hub_may_be_added(uint32_t kind, uint32_t limit, uint32_t start)
     return (kind == 1 && limit == 1 && start == 0) ||
            (kind == 2 && limit - 1 < 65535 && start <= limit) ||
            (kind == 3 && limit == 0 && start == 0) ||
-           (kind == 4 && limit - 1 < 8 && start == 0) || (kind == 5 && limit == 1 && start == 0);
+           (kind == 4 && limit - 1 < 8 && start == 0) ||
+           ((kind == 5 || kind == 6) && limit == 1 && start == 0);
 }
 
-static int argument_wrong(const uint32_t *call)
+/* Of a hub request the hub is in use. */
+static int argument_wrong(const uint32_t *table, const uint32_t *call)
 {
     uint32_t target = call[2], side = call[3], mode = call[4], ticks = call[5];
     int ticks_wrong = ticks - 1 >= 1000000;
 
     switch (call[0]) {
     case 1:
-        return side - 1 > 1 || mode - 1 > 2 || (mode == 3 ? ticks_wrong : ticks != 0);
+        return side - 1 >= (table[136 + target * 4] == 6 ? 3 : 2) || mode - 1 > 2 ||
+               (mode == 3 ? ticks_wrong : ticks != 0);
     case 7:
         return ticks_wrong;
     case 9:
@@ -281,7 +295,7 @@ uint32_t expect_refusal(const uint32_t *table, const uint32_t call[7])
         return 5;
     if (service >= 2 && service <= 5 && call[2] >= table[1])
         return 5;
-    if (argument_wrong(call))
+    if (argument_wrong(table, call))
         return 6;
     if ((service == 9 && table[1] == 16) || (service == 10 && table[2] == 16))
         return 7;
@@ -316,6 +330,9 @@ static int is_met(world *w, const thing_hub *h, uint32_t caller, uint32_t side, 
         return side == PUT ? h->count == caller + 1 : h->count == 0;
     case PORT:
         return *other != NULL;
+    case BOARD:
+        *other = NULL; /* nobody alone: show_board tells all who wait */
+        return side != GET || h->count > 0;
     default:
         return *other != NULL || (side == PUT ? h->count < h->limit : h->count > 0);
     }
@@ -340,10 +357,27 @@ static uint32_t meet(world *w, thing_hub *h, const uint32_t *call, const thing_t
         if (puts)
             h->held[h->count++] = word;
         return gets ? fifo_take(h) : 0;
+    case BOARD:
+        if (call[3] != GET)
+            h->count = h->held[0] = 0; /* a new word wipes the old one, too */
+        if (call[3] == PUT)
+            h->held[h->count++] = word;
+        return h->held[0];
     default:
         h->count = call[3] == GET ? call[1] + 1 : other ? (uint32_t)(other - w->task) + 1 : 0;
         return 0;
     }
+}
+
+/* Nobody waits at a Board that has a word: whoever stands first reads it, until
+ * nobody is left. */
+static void show_board(world *w, const thing_hub *h)
+{
+    thing_task *reader;
+
+    while (h->kind == BOARD && h->count > 0 &&
+           (reader = following(w, WAITING, (uint32_t)(h - w->hub) + 1, NULL)) != NULL)
+        to_ready(w, reader, OK, h->held[0]);
 }
 
 /* FAIL in every mode: unlocked by another than the owner, or locked by it. */
@@ -363,6 +397,7 @@ static void hub_request(world *w, const uint32_t *call)
         c->word = call[3] == GET ? got : 0;
         if (other)
             to_ready(w, other, OK, other->side == GET ? got : 0);
+        show_board(w, h);
     } else if (call[4] == NW || fails(h, call)) {
         c->answer = FAIL;
         c->word = 0;

@@ -154,14 +154,20 @@ void gen_turn(gen_random *random, gen_mood *mood)
     mood->waits = ONE_OF(random, 30, 75, 95);
 }
 
-void gen_draw_mood(gen_random *random, gen_mood *mood)
+void gen_draw_mood_of(gen_random *random, gen_mood *mood, uint32_t kinds)
 {
+    mood->kinds = kinds;
     mood->tasks = gen_chance(random, 30) ? TASKS : from_to(random, 1, TASKS);
     mood->hubs = gen_chance(random, 20) ? HUBS : from_to(random, 1, 6);
     mood->priorities = ONE_OF(random, 1, 2, 4, PRIORITY_MAX + 1);
-    mood->kind = gen_below(random, RESOURCE + 1);
+    mood->kind = gen_below(random, kinds + 1);
     mood->refused = ONE_OF(random, 0, 5, 25);
     gen_turn(random, mood);
+}
+
+void gen_draw_mood(gen_random *random, gen_mood *mood)
+{
+    gen_draw_mood_of(random, mood, BOARD);
 }
 
 static uint32_t draw_ticks(gen_random *random, const gen_mood *mood)
@@ -185,9 +191,10 @@ static uint32_t draw_limit(gen_random *random, uint32_t kind)
     }
 }
 
-static uint32_t draw_kind(gen_random *random, uint32_t favourite)
+static uint32_t draw_kind(gen_random *random, const gen_mood *mood)
 {
-    return favourite != 0 && gen_chance(random, 60) ? favourite : from_to(random, EVENT, RESOURCE);
+    return mood->kind != 0 && gen_chance(random, 60) ? mood->kind
+                                                     : from_to(random, EVENT, mood->kinds);
 }
 
 static void draw_add_task(gen_random *random, const gen_mood *mood, uint32_t *call)
@@ -199,7 +206,7 @@ static void draw_add_task(gen_random *random, const gen_mood *mood, uint32_t *ca
 
 static void draw_add_hub(gen_random *random, const gen_mood *mood, uint32_t *call)
 {
-    uint32_t kind = draw_kind(random, mood->kind), limit = draw_limit(random, kind);
+    uint32_t kind = draw_kind(random, mood), limit = draw_limit(random, kind);
 
     call[C_SERVICE] = ADD_HUB;
     call[C_TARGET] = kind;
@@ -223,17 +230,27 @@ static void draw_mode(gen_random *random, const gen_mood *mood, const uint32_t *
         call[C_TICKS] = draw_ticks(random, mood);
 }
 
+/* A written Board is wiped often: only at one without a word readers wait. */
+static uint32_t draw_side(gen_random *random, const gen_mood *mood, const uint32_t *hub,
+                          uint32_t caller)
+{
+    int puts = gen_chance(random, mood->puts);
+
+    if (hub[H_KIND] == RESOURCE && gen_chance(random, 80))
+        puts = hub[H_COUNT] == caller + 1;
+    if (hub[H_KIND] == BOARD && gen_chance(random, hub[H_COUNT] != 0 ? 40 : 10))
+        return WIPE;
+    return puts ? PUT : GET;
+}
+
 static void draw_request(gen_random *random, const gen_mood *mood, const uint32_t *table,
                          uint32_t *call)
 {
     uint32_t hub = gen_chance(random, mood->favourite) ? 0 : gen_below(random, hubs_in_use(table));
-    int puts = gen_chance(random, mood->puts);
 
-    if (hub_field(table, hub, H_KIND) == RESOURCE && gen_chance(random, 80))
-        puts = hub_field(table, hub, H_COUNT) == call[C_CALLER] + 1;
     call[C_SERVICE] = HUB_REQUEST;
     call[C_TARGET] = hub;
-    call[C_SIDE] = puts ? PUT : GET;
+    call[C_SIDE] = draw_side(random, mood, table + hub_place(hub), call[C_CALLER]);
     call[C_WORD] = any_word(random);
     draw_mode(random, mood, table, call);
 }
@@ -338,11 +355,14 @@ static void draw_with_arguments(gen_random *random, const gen_mood *mood, const 
     }
 }
 
-static void spoil_request(gen_random *random, uint32_t *call)
+/* Side 3 is wrong too, but at a Board. */
+static void spoil_request(gen_random *random, const uint32_t *table, uint32_t *call)
 {
+    uint32_t above = hub_field(table, call[C_TARGET], H_KIND) == BOARD ? WIPE + 1 : GET + 1;
+
     switch (gen_below(random, 4)) {
     case 0:
-        call[C_SIDE] = gen_chance(random, 50) ? NO_SIDE : at_least(random, GET + 1);
+        call[C_SIDE] = gen_chance(random, 50) ? NO_SIDE : at_least(random, above);
         break;
     case 1:
         call[C_MODE] = gen_chance(random, 50) ? 0 : at_least(random, WT + 1);
@@ -365,7 +385,7 @@ static void spoil_add_hub(gen_random *random, uint32_t *call)
 
     switch (gen_below(random, 3)) {
     case 0:
-        call[C_TARGET] = gen_chance(random, 50) ? 0 : at_least(random, RESOURCE + 1);
+        call[C_TARGET] = gen_chance(random, 50) ? 0 : at_least(random, BOARD + 1);
         break;
     case 1:
         call[C_WORD] = 0;
@@ -383,11 +403,11 @@ static void spoil_add_hub(gen_random *random, uint32_t *call)
     }
 }
 
-static void spoil_arguments(gen_random *random, uint32_t *call)
+static void spoil_arguments(gen_random *random, const uint32_t *table, uint32_t *call)
 {
     switch (call[C_SERVICE]) {
     case HUB_REQUEST:
-        spoil_request(random, call);
+        spoil_request(random, table, call);
         break;
     case SLEEP:
         call[C_TICKS] = gen_chance(random, 50) ? 0 : at_least(random, TICKS_MAX + 1);
@@ -428,13 +448,13 @@ static void draw_refused(gen_random *random, const gen_mood *mood, const uint32_
     case 2:
         draw_mode(random, mood, table, call);
         call[C_SERVICE] = from_to(random, HUB_REQUEST, RESUME);
-        call[C_SIDE] = from_to(random, NO_SIDE, GET);
+        call[C_SIDE] = from_to(random, NO_SIDE, mood->kinds >= BOARD ? WIPE : GET);
         call[C_TARGET] = at_least(random, call[C_SERVICE] == HUB_REQUEST ? hubs_in_use(table)
                                                                          : tasks_in_use(table));
         break;
     default:
         draw_with_arguments(random, mood, table, call);
-        spoil_arguments(random, call);
+        spoil_arguments(random, table, call);
         break;
     }
 }
@@ -472,7 +492,7 @@ static void build_hub(gen_random *random, uint32_t *table, uint32_t number, uint
     else /* at an end mostly: there the waiters are */
         hub[H_COUNT] = gen_chance(random, 80) ? ONE_OF(random, 0, hub[H_LIMIT])
                                               : gen_below(random, hub[H_LIMIT] + 1);
-    for (uint32_t i = 0; kind == FIFO && i < hub[H_COUNT]; i++)
+    for (uint32_t i = 0; (kind == FIFO || kind == BOARD) && i < hub[H_COUNT]; i++)
         store[i] = any_word(random);
 }
 
@@ -488,7 +508,7 @@ static uint32_t side_at(const uint32_t *table, uint32_t number, uint32_t task)
         return hub[H_COUNT] != 0 && hub[H_COUNT] != task + 1 ? GET : NO_SIDE;
     if (hub[H_COUNT] == 0)
         return GET;
-    return hub[H_COUNT] == hub[H_LIMIT] ? PUT : NO_SIDE;
+    return hub[H_COUNT] == hub[H_LIMIT] && hub[H_KIND] != BOARD ? PUT : NO_SIDE;
 }
 
 /* Waiting at the hub if its rules let the task, else the record is left. */
@@ -593,7 +613,7 @@ void gen_table(gen_random *random, uint32_t table[600])
 
     build_priorities(random, table, mood.priorities);
     for (uint32_t hub = 0; hub < hubs_in_use(table); hub++)
-        build_hub(random, table, hub, draw_kind(random, mood.kind));
+        build_hub(random, table, hub, draw_kind(random, &mood));
     build_tasks(random, table, &mood);
 }
 
@@ -656,6 +676,53 @@ void gen_stop(gen_random *random, uint32_t table[600], uint32_t call[7])
     call[C_TARGET] = keeper;
 }
 
+/* ---- Requests to Boards ------------------------------------------------ */
+
+/* Any mode, and ticks that go with it. */
+static void draw_any_mode(gen_random *random, uint32_t *call)
+{
+    call[C_MODE] = from_to(random, W, WT);
+    call[C_TICKS] = call[C_MODE] == WT ? ONE_OF(random, 1, 2, 3, TICKS_MAX) : 0;
+}
+
+/* Hubs of every kind, a Board with or without a word among them. */
+static void build_board(gen_random *random, uint32_t *table, uint32_t board, int written)
+{
+    for (uint32_t hub = 0; hub < hubs_in_use(table); hub++) {
+        uint32_t kind = hub == board ? (uint32_t)BOARD : from_to(random, EVENT, BOARD);
+        build_hub(random, table, hub, kind);
+    }
+    table[hub_place(board) + H_COUNT] = written ? 1 : 0;
+    table[store_place(board)] = written ? any_word(random) : 0;
+}
+
+void gen_board(gen_random *random, uint32_t table[600], uint32_t call[7])
+{
+    int all = gen_chance(random, 10); /* all but the caller wait to read */
+    uint32_t tasks = all || gen_chance(random, 30) ? TASKS : from_to(random, 1, TASKS);
+    uint32_t hubs = gen_chance(random, 30) ? HUBS : from_to(random, 1, 6);
+    uint32_t board = gen_below(random, hubs), waits = ONE_OF(random, 0, 10, 30, 60, 90);
+
+    build_contents(table, tasks, hubs);
+    build_priorities(random, table, ONE_OF(random, 1, 2, 4, PRIORITY_MAX + 1));
+    build_board(random, table, board, !all && gen_chance(random, 25));
+    for (uint32_t task = 0; task < tasks; task++)
+        build_task(random, table, task, all ? 100 : waits, board);
+    build_caller(table, gen_below(random, tasks));
+    build_lists(random, table);
+    draw_ignored(random, call);
+    call[C_SERVICE] = HUB_REQUEST;
+    call[C_CALLER] = running_task(table);
+    call[C_TARGET] = board;
+    call[C_SIDE] = ONE_OF(random, PUT, PUT, PUT, GET, WIPE);
+    call[C_WORD] = any_word(random);
+    draw_any_mode(random, call);
+    if (gen_chance(random, 10)) { /* side 3 at any hub: refused but at a Board */
+        call[C_TARGET] = gen_below(random, hubs);
+        call[C_SIDE] = WIPE;
+    }
+}
+
 /* ---- Set-ups ----------------------------------------------------------- */
 
 /* Every count of digits alike; least and most of them often. */
@@ -704,7 +771,7 @@ void gen_set_up(gen_random *random, uint32_t table[600])
     for (uint32_t task = 0; task < mood.tasks; task++)
         table[task_place(task) + T_PRIORITY] = any_digits(random, longest ? 100 : 0, PRIORITY_MAX);
     for (uint32_t hub = 0; hub < mood.hubs; hub++) {
-        uint32_t kind = longest ? (uint32_t)SEMAPHORE : draw_kind(random, mood.kind);
+        uint32_t kind = longest ? (uint32_t)SEMAPHORE : draw_kind(random, &mood);
         build_hub(random, table, hub, kind);
         if (kind == SEMAPHORE)
             widen_semaphore(random, table + hub_place(hub), longest ? 10000 : 0);
@@ -729,7 +796,7 @@ int gen_change(gen_random *random, gen_place place, uint32_t table[600])
         *at = any_digits(random, 0, PRIORITY_MAX);
         break;
     case GEN_KIND:
-        *at = from_to(random, EVENT, RESOURCE);
+        *at = from_to(random, EVENT, BOARD);
         break;
     case GEN_LIMIT:
         *at = any_digits(random, 1, hub[H_KIND] == FIFO ? FIFO_MAX : SEMAPHORE_MAX);
@@ -939,6 +1006,19 @@ static int waits_with_word(gen_random *random, uint32_t *table, const damage *fa
     return 1;
 }
 
+/* Nobody waits to wipe. */
+static int wiper_waits(gen_random *random, uint32_t *table, const damage *family)
+{
+    uint32_t hub = pick_hub(random, table, BOARD, 1);
+
+    (void)family;
+    if (hub == NOBODY)
+        return 0;
+    const uint32_t *list = table + list_place(hub);
+    table[task_place(list[gen_below(random, list_length(list))] - 1) + T_SIDE] = WIPE;
+    return 1;
+}
+
 /* Hub records. */
 
 static int spoil_hub(gen_random *random, uint32_t *table, const damage *family)
@@ -981,6 +1061,20 @@ static int overfull_fifo(gen_random *random, uint32_t *table, const damage *fami
         return 0;
     table[hub_place(hub) + H_COUNT] = hub_field(table, hub, H_LIMIT) + 1;
     for (uint32_t i = 0; i < hub_field(table, hub, H_COUNT); i++)
+        table[store_place(hub) + i] = any_word(random);
+    return 1;
+}
+
+/* As a FIFO would hold them. */
+static int two_words_on_board(gen_random *random, uint32_t *table, const damage *family)
+{
+    uint32_t hub = pick_quiet_hub(random, table, BOARD);
+
+    (void)family;
+    if (hub == NOBODY)
+        return 0;
+    table[hub_place(hub) + H_COUNT] = 2;
+    for (uint32_t i = 0; i < 2; i++)
         table[store_place(hub) + i] = any_word(random);
     return 1;
 }
@@ -1172,7 +1266,8 @@ static int two_sides(gen_random *random, uint32_t *table, const damage *family)
     return 1;
 }
 
-/* Getters at an Event or Semaphore above 0 or at a FIFO that holds a word. */
+/* Getters at an Event or Semaphore above 0, at a FIFO that holds a word or at a
+ * written Board. */
 static int getters_at_something(gen_random *random, uint32_t *table, const damage *family)
 {
     uint32_t hub = pick_sided_hub(random, table, family->which, GET, 1);
@@ -1180,7 +1275,8 @@ static int getters_at_something(gen_random *random, uint32_t *table, const damag
     if (hub == NOBODY)
         return 0;
     table[hub_place(hub) + H_COUNT] = from_to(random, 1, hub_field(table, hub, H_LIMIT));
-    for (uint32_t i = 0; family->which == FIFO && i < hub_field(table, hub, H_COUNT); i++)
+    for (uint32_t i = 0; (family->which == FIFO || family->which == BOARD) &&
+                         i < hub_field(table, hub, H_COUNT); i++)
         table[store_place(hub) + i] = any_word(random);
     return 1;
 }
@@ -1222,16 +1318,21 @@ static int putters_below_limit(gen_random *random, uint32_t *table, const damage
     return 1;
 }
 
-static int putters_at_resource(gen_random *random, uint32_t *table, const damage *family)
+/* The getters of kind which turn to the other side, where only getters wait; with
+ * field 1 the Board is written, so that it stands as an Event with putters does. */
+static int putters_for_getters(gen_random *random, uint32_t *table, const damage *family)
 {
-    uint32_t hub = pick_hub(random, table, RESOURCE, 1);
+    uint32_t hub = pick_hub(random, table, family->which, 1);
 
-    (void)family;
     if (hub == NOBODY)
         return 0;
     const uint32_t *list = table + list_place(hub);
     for (uint32_t i = 0; i < list_length(list); i++)
         table[task_place(list[i] - 1) + T_SIDE] = PUT;
+    if (family->field == 1) {
+        table[hub_place(hub) + H_COUNT] = 1;
+        table[store_place(hub)] = any_word(random);
+    }
     return 1;
 }
 
@@ -1247,6 +1348,20 @@ static int word_in_store(gen_random *random, uint32_t *table, const damage *fami
     if (held == STORE_WORDS)
         return 0;
     uint32_t at = from_to(random, held, STORE_WORDS - 1);
+    table[store_place(hub) + at] = at_least(random, 1);
+    return 1;
+}
+
+/* A word behind the Board's own, or in any place of one that has none: `field` is
+ * how many it has. */
+static int word_on_board(gen_random *random, uint32_t *table, const damage *family)
+{
+    uint32_t hub = pick_hub(random, table, BOARD, 0);
+
+    if (hub == NOBODY || hub_field(table, hub, H_COUNT) != family->field)
+        return 0;
+    uint32_t at = gen_chance(random, 50) ? family->field
+                                         : from_to(random, family->field, STORE_WORDS - 1);
     table[store_place(hub) + at] = at_least(random, 1);
     return 1;
 }
@@ -1310,6 +1425,8 @@ static const damage damages[] = {
     {"waiting: word, Port get", SECOND_WAITING, waits_with_word, PORT, GET, 0},
     {"waiting: word, FIFO get", SECOND_WAITING, waits_with_word, FIFO, GET, 0},
     {"waiting: word, Resource get", SECOND_WAITING, waits_with_word, RESOURCE, GET, 0},
+    {"waiting: word, Board read", SECOND_WAITING, waits_with_word, BOARD, GET, 0},
+    {"waiting: side 3 at a Board", SECOND_WAITING, wiper_waits, 0, 0, 0},
 
     {"sleeping: hub", SECOND_SLEEPING, spoil_task, SLEEPING, T_HUB, 1},
     {"sleeping: ticks 0", SECOND_SLEEPING, clear_task_field, SLEEPING, T_TICKS, 0},
@@ -1320,7 +1437,7 @@ static const damage damages[] = {
 
     {"hub: one more than there are", SECOND_KIND, one_more, HUBS_IN_USE_AT, 0, 0},
     {"hub: kind 0", SECOND_KIND, clear_hub_field, PORT, H_KIND, 0},
-    {"hub: kind above 5", SECOND_KIND, spoil_hub, PORT, H_KIND, RESOURCE + 1},
+    {"hub: kind above 6", SECOND_KIND, spoil_hub, PORT, H_KIND, BOARD + 1},
     {"Event: limit 0", SECOND_KIND, clear_hub_field, EVENT, H_LIMIT, 0},
     {"Event: limit above 1", SECOND_KIND, spoil_hub, EVENT, H_LIMIT, 2},
     {"Event: start", SECOND_KIND, spoil_hub, EVENT, H_START, 1},
@@ -1345,6 +1462,11 @@ static const damage damages[] = {
     {"Resource: owner inactive, nobody waits", SECOND_OWNER, owner_inactive, 0, 0, 0},
     {"Resource: owner inactive, somebody waits", SECOND_OWNER, owner_inactive, 1, 0, 0},
     {"Resource: owner stopped, locks kept", SECOND_OWNER, owner_stopped, 0, 0, 0},
+    {"Board: limit 0", SECOND_KIND, clear_hub_field, BOARD, H_LIMIT, 0},
+    {"Board: limit above 1", SECOND_KIND, spoil_hub, BOARD, H_LIMIT, 2},
+    {"Board: start", SECOND_KIND, spoil_hub, BOARD, H_START, 1},
+    {"Board: count", SECOND_COUNT, above_limit, BOARD, H_COUNT, 0},
+    {"Board: count 2, two words", SECOND_COUNT, two_words_on_board, 0, 0, 0},
 
     {"ready list: gap", SECOND_READY_LIST, gap_in_list, READY, 0, 0},
     {"ready list: task twice", SECOND_READY_LIST, twice_in_list, READY, 0, 0},
@@ -1373,21 +1495,27 @@ static const damage damages[] = {
     {"two sides: Port", SECOND_ONE_SIDE, two_sides, PORT, 0, 0},
     {"two sides: FIFO", SECOND_ONE_SIDE, two_sides, FIFO, 0, 0},
     {"two sides: Resource", SECOND_ONE_SIDE, two_sides, RESOURCE, 0, 0},
+    {"two sides: Board", SECOND_ONE_SIDE, two_sides, BOARD, 0, 0},
     {"getters: Event at 1", SECOND_GETTERS, getters_at_something, EVENT, 0, 0},
     {"getters: Semaphore above 0", SECOND_GETTERS, getters_at_something, SEMAPHORE, 0, 0},
     {"getters: FIFO with words", SECOND_GETTERS, getters_at_something, FIFO, 0, 0},
     {"getters: free Resource", SECOND_GETTERS, getters_at_free, 0, 0, 0},
     {"getters: Resource's owner", SECOND_GETTERS, owner_waits, 0, 0, 0},
+    {"getters: written Board", SECOND_GETTERS, getters_at_something, BOARD, 0, 0},
     {"putters: Event at 0", SECOND_PUTTERS, putters_below_limit, EVENT, 0, 0},
     {"putters: Semaphore below limit", SECOND_PUTTERS, putters_below_limit, SEMAPHORE, 0, 0},
     {"putters: FIFO below limit", SECOND_PUTTERS, putters_below_limit, FIFO, 0, 0},
-    {"putters: Resource", SECOND_PUTTERS, putters_at_resource, 0, 0, 0},
+    {"putters: Resource", SECOND_PUTTERS, putters_for_getters, RESOURCE, 0, 0},
+    {"putters: Board without a word", SECOND_PUTTERS, putters_for_getters, BOARD, 0, 0},
+    {"putters: written Board", SECOND_PUTTERS, putters_for_getters, BOARD, 1, 0},
 
     {"store: Event", SECOND_STORE, word_in_store, EVENT, 0, 0},
     {"store: Semaphore", SECOND_STORE, word_in_store, SEMAPHORE, 0, 0},
     {"store: Port", SECOND_STORE, word_in_store, PORT, 0, 0},
     {"store: FIFO behind its words", SECOND_STORE, word_in_store, FIFO, 0, 0},
     {"store: Resource", SECOND_STORE, word_in_store, RESOURCE, 0, 0},
+    {"store: Board without a word", SECOND_STORE, word_on_board, 0, 0, 0},
+    {"store: Board, a second word", SECOND_STORE, word_on_board, 0, 1, 0},
 };
 
 size_t gen_damages(void) { return sizeof damages / sizeof *damages; }

@@ -11,6 +11,7 @@
  *   e  set-ups, for the listing: gen_set_up, and gen_change for one that differs
  *      in one number
  *   f  Stops of owners (M-101): gen_stop
+ *   g  requests to Boards that readers wait at (M-103): gen_board
  */
 #ifndef GEN_H
 #define GEN_H
@@ -32,6 +33,7 @@ int gen_chance(gen_random *random, uint32_t percent);
 typedef struct {
     uint32_t tasks, hubs;    /* how many the run adds first */
     uint32_t priorities;     /* how many different ones; 1 makes all equals */
+    uint32_t kinds;          /* hubs are of kinds 1 to this */
     uint32_t kind;           /* favourite kind of hub, 0 none */
     uint32_t favourite;      /* percent of requests that go to hub 0 */
     uint32_t puts;           /* percent of requests that put */
@@ -41,6 +43,10 @@ typedef struct {
 } gen_mood;
 
 void gen_draw_mood(gen_random *random, gen_mood *mood);
+
+/* The same without the kinds above `kinds`: RESOURCE gives the runs from before there
+ * were Boards. */
+void gen_draw_mood_of(gen_random *random, gen_mood *mood, uint32_t kinds);
 void gen_turn(gen_random *random, gen_mood *mood);
 
 /* The next call on this table: Blank unless the table's edition is 1. */
@@ -52,6 +58,11 @@ void gen_table(gen_random *random, uint32_t table[600]);
  * for most of them, and a call in which the running task stops it: what gen_call
  * comes upon seldom, up to 14 waiters met in one call. */
 void gen_stop(gen_random *random, uint32_t table[600], uint32_t call[7]);
+
+/* A well-formed table with a Board at which none to 15 readers wait, or one that is
+ * written, and a request of the running task to it, mostly an update: what gen_call
+ * comes upon seldom, up to 15 readers met in one call. One of ten is a wipe of any hub. */
+void gen_board(gen_random *random, uint32_t table[600], uint32_t call[7]);
 
 /* Well formed as well, with a set-up of every size, none and 16 often, whose
  * numbers have every count of digits. */

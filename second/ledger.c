@@ -1,5 +1,5 @@
-/* Demand 3's bookkeeping, with M-101's balance of each Resource; ledger.h says what
- * it reads and what it doesn't. */
+/* Demand 3's bookkeeping, with M-101's balance of each Resource and M-103's word of
+ * each Board; ledger.h says what it reads and what it doesn't. */
 #include "ledger.h"
 
 #include <string.h>
@@ -20,8 +20,16 @@ void ledger_begin(ledger *book)
 {
     book->requests = 0;
     memset(book->open, 0, sizeof book->open);
-    for (int hub = 0; hub < HUBS; hub++)
-        book->hub[hub].puts = book->hub[hub].gets = book->hub[hub].owners_removed = 0;
+    for (int hub = 0; hub < HUBS; hub++) {
+        ledger_hub *of = &book->hub[hub];
+        of->puts = of->gets = of->wipes = of->owners_removed = 0;
+        of->written = 0;
+    }
+}
+
+static uint32_t kind_of(const uint32_t *table, uint32_t hub)
+{
+    return table[hub_place(hub) + H_KIND];
 }
 
 /* An accepted Stop with answer 1 whose target owned the hub in the table before. */
@@ -40,7 +48,7 @@ static int stop_removes_owner(const uint32_t *before, const uint32_t *call, seco
 static int still_shown(const ledger_request *request, const uint32_t *after)
 {
     uint32_t left = request->ticks == 0 ? 0 : request->ticks - request->age;
-    uint32_t kind = after[hub_place(request->hub) + H_KIND];
+    uint32_t kind = kind_of(after, request->hub);
     uint32_t kept = request->side == PUT && (kind == PORT || kind == FIFO) ? request->word : 0;
 
     return task_word(after, request->task, T_HUB) == request->hub + 1 &&
@@ -88,16 +96,20 @@ static int class_after(const uint32_t *after, uint32_t task, ledger_class *class
     return 1;
 }
 
-/* Met means met: the first waiter, of the other side, at the caller's hub; or the
- * first waiter for a Resource that the stopped task owned. */
+/* Met means met: the first waiter, of the other side, at the caller's hub; any reader
+ * of the Board that the caller updates; or the first waiter for a Resource that the
+ * stopped task owned. */
 static int may_be_met(const ledger_request *request, const uint32_t *before, const uint32_t *call,
                       second_reply reply)
 {
-    int by_caller = call[C_SERVICE] == HUB_REQUEST && call[C_TARGET] == request->hub &&
-                    call[C_SIDE] != request->side;
+    int is_first = before[list_place(request->hub)] == request->task + 1;
+    int at_board = kind_of(before, request->hub) == BOARD;
 
-    return before[list_place(request->hub)] == request->task + 1 &&
-           (by_caller || stop_removes_owner(before, call, reply, request->hub));
+    if (call[C_SERVICE] != HUB_REQUEST)
+        return is_first && stop_removes_owner(before, call, reply, request->hub);
+    return call[C_TARGET] == request->hub && (is_first || at_board) &&
+           ((call[C_SIDE] == PUT && request->side == GET) ||
+            (call[C_SIDE] == GET && request->side == PUT && !at_board));
 }
 
 static const char *follow_waiter(ledger *book, uint32_t task, const uint32_t *before,
@@ -133,8 +145,10 @@ static void enter_meeting(ledger *book, const ledger_request *request, const uin
 
     if (request->side == PUT)
         hub->put[hub->puts++] = request->word;
-    else
+    else if (request->side == GET)
         hub->got[hub->gets++] = task_word(after, request->task, T_WORD);
+    else
+        hub->wipes++;
 }
 
 /* What one call met: the caller's request, and those that waited. */
@@ -151,7 +165,7 @@ static const char *enter_meetings(ledger *book, const meetings *met, const uint3
 {
     if (met->waiters > 0 && met->of_caller == NULL && call[C_SERVICE] != STOP)
         return "a waiter was met but not the caller";
-    for (uint32_t side = PUT; side <= GET; side++) {
+    for (uint32_t side = PUT; side <= WIPE; side++) {
         if (met->of_caller != NULL && met->of_caller->side == side)
             enter_meeting(book, met->of_caller, after);
         for (size_t i = 0; i < met->waiters; i++)
@@ -159,6 +173,45 @@ static const char *enter_meetings(ledger *book, const meetings *met, const uint3
                 enter_meeting(book, met->of_waiter[i], after);
     }
     return NULL;
+}
+
+/* What a Board shows after the call, whatever its record and store say. A hub is added
+ * once between two Blanks, and ledger_begin left it without a word. */
+static void enter_board(ledger *book, const uint32_t *before, const uint32_t *call)
+{
+    if (call[C_SERVICE] != HUB_REQUEST || kind_of(before, call[C_TARGET]) != BOARD)
+        return;
+    if (call[C_SIDE] == PUT) {
+        book->hub[call[C_TARGET]].written = 1;
+        book->hub[call[C_TARGET]].shown = call[C_WORD];
+    } else if (call[C_SIDE] == WIPE) {
+        book->hub[call[C_TARGET]].written = 0;
+    }
+}
+
+/* "Every met read bears the word of the last update up to its meeting, with no wipe
+ * between": what the Board shows after the call that met it, and then it shows one. */
+static const char *read_right(const ledger *book, const ledger_request *request,
+                              const uint32_t *after)
+{
+    const ledger_hub *hub = &book->hub[request->hub];
+
+    if (kind_of(after, request->hub) != BOARD || request->side != GET)
+        return NULL;
+    if (!hub->written)
+        return "Board: a read was met though no word was there";
+    return task_word(after, request->task, T_WORD) == hub->shown
+               ? NULL
+               : "Board: a met read doesn't bear the last update's word";
+}
+
+static const char *reads_right(const ledger *book, const meetings *met, const uint32_t *after)
+{
+    const char *wrong = met->of_caller != NULL ? read_right(book, met->of_caller, after) : NULL;
+
+    for (size_t i = 0; i < met->waiters && wrong == NULL; i++)
+        wrong = read_right(book, met->of_waiter[i], after);
+    return wrong;
 }
 
 static void enter_removed(ledger *book, const uint32_t *before, const uint32_t *call,
@@ -198,6 +251,8 @@ static const char *hub_adds_up(const ledger_hub *hub, const uint32_t *table, uin
                        words_equal(hub->put + hub->gets, table + store_place(number), count)
                    ? NULL
                    : "FIFO: words of met puts aren't those of met gets and those held";
+    case BOARD: /* a read takes nothing, so nothing adds up: reads_right has the words */
+        return NULL;
     default:
         return hub->gets - hub->puts - hub->owners_removed == (count != 0)
                    ? NULL
@@ -248,6 +303,9 @@ const char *ledger_enter(ledger *book, const uint32_t *before, const uint32_t ca
             return wrong;
     if ((wrong = enter_meetings(book, &met, call, after)) != NULL)
         return wrong;
+    enter_board(book, before, call);
+    if ((wrong = reads_right(book, &met, after)) != NULL)
+        return wrong;
     enter_removed(book, before, call, reply);
     for (uint32_t hub = 0; hub < after[HUBS_IN_USE_AT]; hub++)
         if ((wrong = hub_adds_up(&book->hub[hub], after, hub,
@@ -258,7 +316,7 @@ const char *ledger_enter(ledger *book, const uint32_t *before, const uint32_t ca
 
 const char *ledger_end(const ledger *book, const uint32_t *table)
 {
-    uint32_t met[HUBS][GET + 1] = {{0}}, waiting = 0;
+    uint32_t met[HUBS][WIPE + 1] = {{0}}, waiting = 0;
     const char *wrong;
 
     for (size_t i = 0; i < book->requests; i++) {
@@ -273,7 +331,8 @@ const char *ledger_end(const ledger *book, const uint32_t *table)
     if (waiting != 0)
         return "waiting requests aren't the tasks in state 3";
     for (uint32_t hub = 0; hub < table[HUBS_IN_USE_AT]; hub++) {
-        if (met[hub][PUT] != book->hub[hub].puts || met[hub][GET] != book->hub[hub].gets)
+        if (met[hub][PUT] != book->hub[hub].puts || met[hub][GET] != book->hub[hub].gets ||
+            met[hub][WIPE] != book->hub[hub].wipes)
             return "met requests don't add up again";
         if ((wrong = hub_adds_up(&book->hub[hub], table, hub, 0)) != NULL)
             return wrong;

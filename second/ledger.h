@@ -22,9 +22,13 @@ typedef struct {
 } ledger_request;
 
 /* The words of one hub's met requests, in order of meeting. At a Resource a put
- * unlocks, a get locks, and Stop may take the owner away (M-101). */
+ * unlocks, a get locks, and Stop may take the owner away (M-101). At a Board a put
+ * updates and a get reads; what it shows comes from the calls alone: the word of the
+ * last accepted update, unless a wipe came after it (M-103). */
 typedef struct {
-    uint32_t puts, gets, owners_removed;
+    uint32_t puts, gets, wipes, owners_removed;
+    int written;
+    uint32_t shown; /* while written */
     uint32_t put[LEDGER_REQUESTS], got[LEDGER_REQUESTS];
 } ledger_hub;
 

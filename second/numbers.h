@@ -1,5 +1,5 @@
-/* The numbers of document 01 and M-100, each once and with its name. Nothing here
- * computes anything but a place in the table. Shared by the second program,
+/* The numbers of document 01, M-100 and M-103, each once and with its name. Nothing
+ * here computes anything but a place in the table. Shared by the second program,
  * its generator and its tests; the drills and the constructed cases of the
  * tests write the same numbers out, so a slip here shows there. */
 #ifndef NUMBERS_H
@@ -18,13 +18,13 @@ enum { TASK_WORDS = 8, HUB_WORDS = 4, LIST_WORDS = 16, STORE_WORDS = 8 };
 /* Task record. */
 enum { T_STATE, T_SUSPENDED, T_PRIORITY, T_HUB, T_TICKS, T_SIDE, T_WORD, T_ANSWER };
 enum { INACTIVE = 1, READY = 2, WAITING = 3, SLEEPING = 4 };
-enum { NO_SIDE = 0, PUT = 1, GET = 2 };
+enum { NO_SIDE = 0, PUT = 1, GET = 2, WIPE = 3 }; /* at a Board: update, read, wipe */
 enum { NO_ANSWER = 0, OK = 1, FAIL = 2, TO = 3 };
 enum { PRIORITY_MAX = 255, TICKS_MAX = 1000000 };
 
 /* Hub record. */
 enum { H_KIND, H_COUNT, H_LIMIT, H_START };
-enum { EVENT = 1, SEMAPHORE = 2, PORT = 3, FIFO = 4, RESOURCE = 5 };
+enum { EVENT = 1, SEMAPHORE = 2, PORT = 3, FIFO = 4, RESOURCE = 5, BOARD = 6 };
 enum { SEMAPHORE_MAX = 65535, FIFO_MAX = 8 };
 
 /* A call. */

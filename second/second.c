@@ -1,4 +1,4 @@
-/* The hub kernel of document 01 with M-100 and M-101, from the papers alone: well
+/* The hub kernel of document 01 with M-100, M-101 and M-103, from the papers alone: well
  * formed, lists, hubs, services, refusals, the listing, edges, in that order. The
  * contract is second.h.
  *
@@ -56,7 +56,9 @@ static int unused_clause(const uint32_t *table)
     return zero ? SECOND_RIGHT : SECOND_UNUSED;
 }
 
+/* Where a waiting put keeps its word; and where a store holds as many as the count. */
 static int carries_words(uint32_t kind) { return kind == PORT || kind == FIFO; }
+static int holds_words(uint32_t kind) { return kind == FIFO || kind == BOARD; }
 
 static int waiting_right(const uint32_t *table, const uint32_t *task)
 {
@@ -137,6 +139,7 @@ static int kind_allows(uint32_t kind, uint32_t limit, uint32_t start)
     switch (kind) {
     case EVENT:
     case RESOURCE:
+    case BOARD:
         return limit == 1 && start == 0;
     case SEMAPHORE:
         return limit >= 1 && limit <= SEMAPHORE_MAX && start <= limit;
@@ -166,7 +169,7 @@ static int getters_may_wait(const uint32_t *hub, uint32_t waiters)
 
 static int putters_may_wait(const uint32_t *hub)
 {
-    return hub[H_KIND] != RESOURCE && hub[H_COUNT] == hub[H_LIMIT];
+    return hub[H_KIND] != RESOURCE && hub[H_KIND] != BOARD && hub[H_COUNT] == hub[H_LIMIT];
 }
 
 static int hub_clause(const uint32_t *table, uint32_t number, const census *seen)
@@ -194,7 +197,7 @@ static int hub_clause(const uint32_t *table, uint32_t number, const census *seen
             return SECOND_PUTTERS;
     }
 
-    size_t held = hub[H_KIND] == FIFO ? hub[H_COUNT] : 0;
+    size_t held = holds_words(hub[H_KIND]) ? hub[H_COUNT] : 0;
     return all_zero(store + held, STORE_WORDS - held) ? SECOND_RIGHT : SECOND_STORE;
 }
 
@@ -410,6 +413,32 @@ static outcome resource_get(uint32_t *table, uint32_t number, uint32_t caller)
     return MET;
 }
 
+/* The readers leave the list from its front, so equals are ready in its order. */
+static outcome board_update(uint32_t *table, uint32_t number, uint32_t word)
+{
+    table[hub_place(number) + H_COUNT] = 1;
+    table[store_place(number)] = word;
+    while (waiting_side(table, number) == GET)
+        meet_first(table, number, word);
+    return MET;
+}
+
+static outcome board_read(const uint32_t *table, uint32_t number, uint32_t *received)
+{
+    if (table[hub_place(number) + H_COUNT] == 0)
+        return NOT_NOW;
+    *received = table[store_place(number)];
+    return MET;
+}
+
+/* Readers who wait for a word go on waiting. */
+static outcome board_wipe(uint32_t *table, uint32_t number)
+{
+    table[hub_place(number) + H_COUNT] = 0;
+    table[store_place(number)] = 0;
+    return MET;
+}
+
 static outcome put(uint32_t *table, uint32_t hub, uint32_t caller, uint32_t word)
 {
     switch (table[hub_place(hub) + H_KIND]) {
@@ -419,6 +448,8 @@ static outcome put(uint32_t *table, uint32_t hub, uint32_t caller, uint32_t word
         return fifo_put(table, hub, word);
     case RESOURCE:
         return resource_put(table, hub, caller);
+    case BOARD:
+        return board_update(table, hub, word);
     default:
         return counter_put(table, hub);
     }
@@ -433,6 +464,8 @@ static outcome get(uint32_t *table, uint32_t hub, uint32_t caller, uint32_t *rec
         return fifo_get(table, hub, received);
     case RESOURCE:
         return resource_get(table, hub, caller);
+    case BOARD:
+        return board_read(table, hub, received);
     default:
         return counter_get(table, hub);
     }
@@ -466,7 +499,9 @@ static void hub_request(uint32_t *table, const uint32_t *call)
     uint32_t *caller = table + task_place(call[C_CALLER]), received = 0;
     outcome out = call[C_SIDE] == PUT
                       ? put(table, call[C_TARGET], call[C_CALLER], call[C_WORD])
-                      : get(table, call[C_TARGET], call[C_CALLER], &received);
+                  : call[C_SIDE] == GET
+                      ? get(table, call[C_TARGET], call[C_CALLER], &received)
+                      : board_wipe(table, call[C_TARGET]); /* no other kind knows side 3 */
 
     if (out == NOT_NOW && call[C_MODE] != NW) {
         wait_at_hub(table, call);
@@ -636,7 +671,7 @@ static int ticks_in_range(uint32_t ticks) { return ticks >= 1 && ticks <= TICKS_
 
 static int request_right(const uint32_t *call)
 {
-    if (call[C_SIDE] != PUT && call[C_SIDE] != GET)
+    if (call[C_SIDE] < PUT || call[C_SIDE] > WIPE)
         return 0;
     if (call[C_MODE] == WT)
         return ticks_in_range(call[C_TICKS]);
@@ -657,6 +692,13 @@ static int arguments_right(const uint32_t *call)
     default:
         return 1;
     }
+}
+
+/* Side 3 is for a Board; the target is in use when this is asked. */
+static int side_known(const uint32_t *table, const uint32_t *call)
+{
+    return call[C_SERVICE] != HUB_REQUEST || call[C_SIDE] != WIPE ||
+           table[hub_place(call[C_TARGET]) + H_KIND] == BOARD;
 }
 
 static int room_left(const uint32_t *table, uint32_t service)
@@ -683,6 +725,8 @@ static uint32_t refusal_of(const uint32_t *table, size_t words, const uint32_t *
     if (!target_in_use(table, call))
         return NOT_IN_USE;
     if (!arguments_right(call))
+        return BAD_ARGUMENT;
+    if (!side_known(table, call))
         return BAD_ARGUMENT;
     if (!room_left(table, call[C_SERVICE]))
         return TABLE_FULL;

@@ -1,5 +1,5 @@
-/* The second program: the hub kernel of document 01 again, with requests M-100
- * and M-101, in C11, written from the papers alone. It is what the proved kernel
+/* The second program: the hub kernel of document 01 again, with requests M-100,
+ * M-101 and M-103, in C11, written from the papers alone. It is what the proved kernel
  * is compared with.
  *
  * Ownership: the caller owns the table and lends it for one call. No globals,
@@ -17,7 +17,7 @@
  *   3  service above 10
  *   4  services 1 to 7: caller isn't the running task
  *   5  service 1 and the summary: hub not in use; 2 to 5: task not in use
- *   6  an argument outside its range
+ *   6  an argument outside its range; side 3 at a hub that isn't a Board
  *   7  service 9 or 10 with 16 already
  *   8  the listing: the buffer is shorter than it
  */
@@ -64,7 +64,7 @@ typedef enum {
     SECOND_ONE_SIDE,     /* putters and getters in one list */
     SECOND_GETTERS,      /* getters wait where none may */
     SECOND_PUTTERS,      /* putters wait where none may */
-    SECOND_STORE         /* a store holds more than its FIFO's words */
+    SECOND_STORE         /* a store holds more than its FIFO's words, or its Board's word */
 } second_clause;
 
 second_reply second_call(uint32_t *table, size_t words, const uint32_t call[7]);

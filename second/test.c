@@ -1,5 +1,6 @@
 /* The second program's tests: constructed cases, runs from Blank with demand 3
- * checked, built tables, Stops of owners, damaged tables, listings, coverage.
+ * checked, built tables, Stops of owners, requests to Boards, damaged tables,
+ * listings, coverage.
  * `test SIZE` runs them all, one line each; the first failure ends the program.
  *
  * Each call is checked against expect.c word for word, and besides for what
@@ -29,7 +30,7 @@ typedef struct {
     const char *name;
     uint32_t runs, calls;         /* family a: runs, calls in each */
     uint32_t tables, table_calls; /* family b */
-    uint32_t stops;               /* family f */
+    uint32_t stops, boards;       /* families f and g */
     uint32_t damages, flips;      /* family c: tables per family; tables with flips */
     uint32_t set_ups, rooms;      /* family e: tables listed; tables listed into every room */
     unsigned seconds;             /* a program that loops is ended after these */
@@ -37,9 +38,9 @@ typedef struct {
 } scale;
 
 static const scale scales[] = {
-    {"quick", 60, 400, 1000, 8, 400, 3, 3000, 200, 3, 60, 0},
-    {"gate", 1500, 500, 60000, 8, 20000, 110, 200000, 20000, 80, 600, 1},
-    {"long", 20000, 1000, 1000000, 8, 400000, 1000, 5000000, 400000, 2000, 7200, 1},
+    {"quick", 60, 400, 1000, 8, 400, 400, 3, 3000, 200, 3, 60, 0},
+    {"gate", 1500, 500, 60000, 8, 20000, 20000, 110, 200000, 20000, 80, 600, 1},
+    {"long", 20000, 1000, 1000000, 8, 400000, 400000, 1000, 5000000, 400000, 2000, 7200, 1},
 };
 
 /* Where the tests are, for the report of a failure, and what they counted. */
@@ -530,6 +531,104 @@ static void case_inactive_owner(bench *at)
         fail(at, NULL, "Blank takes any table");
 }
 
+/* M-103, nobody waiting: a written 0, an update of a written Board, reads that take
+ * nothing, wipes; every mode; side 3 elsewhere. */
+static void case_board(bench *at)
+{
+    static const step steps[] = {
+        {{0, 0, 0, 0, 0, 0, 0}, {0, 0, 0}, {{0, 0}}},
+        {{10, 0, 6, 0, 0, 0, 0}, {6, 0, 0}, {{0, 0}}},
+        {{10, 0, 6, 0, 0, 2, 0}, {6, 0, 0}, {{0, 0}}},
+        {{10, 0, 6, 0, 0, 1, 1}, {6, 0, 0}, {{0, 0}}},
+        {{10, 0, 6, 0, 0, 1, 0}, {0, 0, 0}, {{136, 6}, {137, 0}, {138, 1}, {139, 0}}},
+        {{10, 0, 4, 0, 0, 1, 0}, {0, 0, 0}, {{0, 0}}},
+        {{9, 0, 5, 1, 0, 0, 0}, {0, 0, 1}, {{0, 0}}},
+        {{1, 0, 0, 2, 2, 0, 9}, {0, 2, 1}, {{8, 2}, {14, 0}, {137, 0}, {472, 0}}},
+        {{1, 0, 0, 1, 2, 0, 0}, {0, 1, 1}, {{14, 0}, {137, 1}, {472, 0}}}, /* a written 0 */
+        {{1, 0, 0, 2, 1, 0, 9}, {0, 1, 1}, {{8, 2}, {14, 0}, {137, 1}, {472, 0}}},
+        {{1, 0, 0, 1, 1, 0, 7}, {0, 1, 1}, {{14, 0}, {137, 1}, {472, 7}, {473, 0}}},
+        {{1, 0, 0, 2, 3, 4, 9}, {0, 1, 1}, {{14, 7}, {12, 0}, {137, 1}, {472, 7}}},
+        {{1, 0, 0, 2, 2, 0, 9}, {0, 1, 1}, {{14, 7}, {137, 1}, {472, 7}}}, /* it took nothing */
+        {{1, 0, 0, 1, 3, 1, 8}, {0, 1, 1}, {{14, 0}, {137, 1}, {472, 8}, {473, 0}}},
+        {{1, 0, 0, 3, 3, 9, 5}, {0, 1, 1}, {{14, 0}, {12, 0}, {137, 0}, {472, 0}}},
+        {{1, 0, 0, 2, 2, 0, 0}, {0, 2, 1}, {{14, 0}, {137, 0}, {472, 0}}},
+        {{1, 0, 0, 3, 1, 0, 5}, {0, 1, 1}, {{8, 2}, {14, 0}, {137, 0}, {472, 0}}},
+        {{1, 0, 0, 3, 2, 0, 5}, {0, 1, 1}, {{15, 1}, {14, 0}, {137, 0}, {472, 0}}},
+        {{1, 1, 0, 3, 2, 0, 0}, {4, 0, 0}, {{0, 0}}},
+        {{1, 0, 2, 3, 2, 0, 0}, {5, 0, 0}, {{0, 0}}}, /* 5 before 6 for side 3, too */
+        {{1, 0, 1, 3, 2, 0, 0}, {6, 0, 0}, {{0, 0}}}, /* a FIFO */
+        {{1, 0, 0, 4, 2, 0, 0}, {6, 0, 0}, {{0, 0}}},
+        {{1, 0, 0, 3, 0, 0, 0}, {6, 0, 0}, {{0, 0}}},
+        {{1, 0, 0, 3, 4, 0, 0}, {6, 0, 0}, {{0, 0}}},
+        {{1, 0, 0, 3, 1, 1, 0}, {6, 0, 0}, {{0, 0}}},
+        {{1, 0, 0, 3, 3, 0, 0}, {6, 0, 0}, {{0, 0}}},
+        {{1, 0, 0, 1, 2, 1, 0}, {6, 0, 0}, {{0, 0}}},
+    };
+    TAKE_STEPS(at, "Board", steps);
+}
+
+/* M-103, three readers: task 2 before its elders, 0 with ticks and 1 suspended, both
+ * equals of task 4, which updates. Task 3 wipes while they wait. */
+static void case_readers(bench *at)
+{
+    static const step steps[] = {
+        {{0, 0, 0, 0, 0, 0, 0}, {0, 0, 0}, {{0, 0}}},
+        {{10, 0, 3, 0, 0, 0, 0}, {0, 0, 0}, {{0, 0}}},
+        {{10, 0, 6, 0, 0, 1, 0}, {0, 0, 0}, {{140, 6}}},
+        {{9, 0, 4, 1, 0, 0, 0}, {0, 0, 1}, {{0, 0}}},
+        {{1, 0, 1, 2, 3, 3, 55}, {0, 0, 0}, {{8, 3}, {12, 3}, {13, 2}, {14, 0}}},
+        {{9, 0, 4, 1, 0, 0, 0}, {0, 0, 2}, {{0, 0}}},
+        {{1, 1, 1, 2, 1, 0, 0}, {0, 0, 0}, {{232, 1}, {233, 2}}},
+        {{9, 0, 3, 1, 0, 0, 0}, {0, 0, 3}, {{0, 0}}},
+        {{1, 2, 1, 2, 3, 9, 0}, {0, 0, 0}, {{232, 3}, {233, 1}, {234, 2}}},
+        {{9, 0, 6, 1, 0, 0, 0}, {0, 0, 4}, {{0, 0}}},
+        {{4, 3, 1, 0, 0, 0, 0}, {0, 1, 4}, {{17, 1}}},
+        {{1, 3, 1, 3, 1, 0, 5}, {0, 1, 4}, {{232, 3}, {233, 1}, {234, 2}, {141, 0}}},
+        {{8, 0, 0, 0, 0, 0, 0}, {0, 0, 4}, {{12, 2}, {20, 0}, {28, 8}, {8, 3}}},
+        {{9, 0, 4, 1, 0, 0, 0}, {0, 0, 5}, {{0, 0}}},
+        {{1, 4, 1, 1, 3, 7, 77}, {0, 1, 3}, {{14, 77}, {22, 77}, {30, 77}, {46, 0}}},
+        {{11, 0, 0, 0, 0, 0, 0}, {3, 0, 0}, {{200, 3}, {201, 5}, {202, 1}, {203, 2}}},
+        {{11, 0, 0, 0, 0, 0, 0}, {3, 0, 0}, {{204, 4}, {232, 0}, {141, 1}, {480, 77}}},
+        {{11, 0, 0, 0, 0, 0, 0}, {3, 0, 0}, {{12, 0}, {13, 0}, {15, 1}, {17, 1}}},
+        {{1, 2, 1, 3, 2, 0, 0}, {0, 1, 3}, {{141, 0}, {480, 0}, {14, 77}, {30, 0}}},
+        {{1, 2, 1, 2, 3, 1, 0}, {0, 0, 5}, {{232, 3}}},
+        {{8, 0, 0, 0, 0, 0, 0}, {0, 0, 3}, {{31, 3}, {30, 0}, {232, 0}, {24, 2}}}, /* TO */
+        {{1, 2, 1, 2, 1, 0, 0}, {0, 0, 5}, {{232, 3}}},
+        {{3, 4, 2, 0, 0, 0, 0}, {0, 1, 5}, {{232, 0}, {24, 1}}}, /* and withdrawn */
+        {{1, 4, 1, 1, 2, 0, 6}, {0, 1, 5}, {{480, 6}, {22, 77}}},
+    };
+    TAKE_STEPS(at, "readers of a Board", steps);
+}
+
+/* 15 readers met in one update, the most there can be: tasks 1 to 15, all equals, wait
+ * from the last to the first, and task 0 updates. So the ready list is in the list's
+ * order, not in the tasks'. */
+static void case_readers_15(bench *at)
+{
+    uint32_t table[WORDS] = {0};
+
+    begin(at, "15 met by an update", 0);
+    ledger_begin(&at->book);
+    enter_call(at, table, (uint32_t[7]){0}, 0);
+    enter_call(at, table, (uint32_t[7]){10, 0, 6, 0, 0, 1, 0}, 0);
+    enter_call(at, table, (uint32_t[7]){9, 0, 200, 1, 0, 0, 0}, 0);
+    for (uint32_t task = 1; task <= 15; task++)
+        enter_call(at, table, (uint32_t[7]){9, 0, 5, 0, 0, 0, 0}, 0);
+    for (uint32_t task = 15; task >= 1; task--) {
+        enter_call(at, table, (uint32_t[7]){2, 0, task, 0, 0, 0, 0}, 0);
+        enter_call(at, table, (uint32_t[7]){1, task, 0, 2, 3, 7, 0}, 0);
+    }
+    if (!same_reply(enter_call(at, table, (uint32_t[7]){1, 0, 0, 1, 1, 0, MAX}, 0),
+                    (second_reply){0, 1, 16}))
+        fail(at, NULL, "the reader who waited longest runs next");
+    for (uint32_t i = 0; i < 15; i++)
+        if (table[200 + i] != 16 - i || table[22 + 8 * i] != MAX || table[23 + 8 * i] != 1)
+            fail(at, NULL, "each reader was met with the word, in list order");
+    if (table[215] != 1 || table[216] != 0 || table[137] != 1 || table[472] != MAX)
+        fail(at, NULL, "the caller is behind them, and the Board is written");
+    end_run(at, NULL, table);
+}
+
 static void case_ticks(bench *at)
 {
     static const step steps[] = {
@@ -583,7 +682,7 @@ static void case_full(bench *at)
             check_call(at, table, hub).refusal != (i == 17 ? 7u : 0u))
             fail(at, task, "16 fit, the 17th is refused with 7");
     task[C_TARGET] = 256;
-    hub[C_TARGET] = 6;
+    hub[C_TARGET] = 7;
     if (check_call(at, table, task).refusal != 6 || check_call(at, table, hub).refusal != 6)
         fail(at, task, "6 before 7");
 }
@@ -677,13 +776,14 @@ static void case_listings(bench *at)
         {9, 0, 130, 0, 0, 0, 0}, {1, 0, 0, 1, 2, 0, 77},  {10, 0, 2, 0, 0, 65535, 40},
         {1, 0, 1, 1, 2, 0, 0},   {10, 0, 3, 0, 0, 0, 0},  {9, 0, 42, 1, 0, 0, 0},
         {10, 0, 1, 0, 0, 1, 0},  {10, 0, 5, 0, 0, 1, 0},  {1, 0, 4, 2, 2, 0, 0},
-        {4, 0, 2, 0, 0, 0, 0},   {7, 0, 0, 0, 0, 9, 0},
+        {10, 0, 6, 0, 0, 1, 0},  {1, 0, 5, 1, 2, 0, 99},  {4, 0, 2, 0, 0, 0, 0},
+        {7, 0, 0, 0, 0, 9, 0},
     };
     static const char blank_text[] = "0 0 0 0 0 0 0\n";
     static const char text[] = "0 0 0 0 0 0 0\n"
                                "9 0 5 0 0 0 0\n9 0 130 0 0 0 0\n9 0 42 0 0 0 0\n"
                                "10 0 4 0 0 1 0\n10 0 2 0 0 65535 40\n10 0 3 0 0 0 0\n"
-                               "10 0 1 0 0 1 0\n10 0 5 0 0 1 0\n";
+                               "10 0 1 0 0 1 0\n10 0 5 0 0 1 0\n10 0 6 0 0 1 0\n";
     uint32_t table[WORDS] = {0};
     uint8_t listed[TEXT_BYTES];
 
@@ -741,6 +841,9 @@ static void part_cases(bench *at)
     case_stop(at);
     case_stop_14(at);
     case_inactive_owner(at);
+    case_board(at);
+    case_readers(at);
+    case_readers_15(at);
     case_ticks(at);
     case_caller_as_target(at);
     case_full(at);
@@ -797,15 +900,16 @@ static void part_tables(bench *at, const scale *to)
     }
 }
 
-/* The Stop, and a few calls more: whoever got a lock has it. */
-static void part_stops(bench *at, const scale *to)
+/* The call drawn with the table, and a few more: whoever was met goes on. */
+static void part_met(bench *at, const char *part, uint32_t tables,
+                     void (*draw)(gen_random *, uint32_t *, uint32_t *))
 {
     uint32_t table[WORDS], call[7];
     gen_mood mood;
 
-    for (uint32_t i = 0; i < to->stops; i++) {
-        begin(at, "stops", i);
-        gen_stop(&at->random, table, call);
+    for (uint32_t i = 0; i < tables; i++) {
+        begin(at, part, i);
+        draw(&at->random, table, call);
         if (second_well_formed(table, WORDS) != SECOND_RIGHT || !expect_well_formed(table))
             fail(at, NULL, "a built table isn't well formed");
         gen_draw_mood(&at->random, &mood);
@@ -985,7 +1089,7 @@ static void run_well_formed(bench *at, const scale *to)
     double since = seconds();
 
     part_cases(at);
-    report("cases", "marked lines, refusal order, lengths, bytes, corners, Stops, listings",
+    report("cases", "marked lines, refusal order, lengths, bytes, corners, Stops, Boards, listings",
            at->calls - calls, "calls", since);
 
     calls = at->calls, since = seconds();
@@ -1000,10 +1104,16 @@ static void run_well_formed(bench *at, const scale *to)
     report("tables", what, at->calls - calls, "calls", since);
 
     calls = at->calls, since = seconds();
-    part_stops(at, to);
+    part_met(at, "stops", to->stops, gen_stop);
     snprintf(what, sizeof what, "%" PRIu32 " Stops of a task that owns none to 16 Resources",
              to->stops);
     report("stops", what, at->calls - calls, "calls", since);
+
+    calls = at->calls, since = seconds();
+    part_met(at, "boards", to->boards, gen_board);
+    snprintf(what, sizeof what, "%" PRIu32 " requests to a Board, none to 15 readers waiting",
+             to->boards);
+    report("boards", what, at->calls - calls, "calls", since);
 }
 
 static void run_damaged(bench *at, const scale *to)

@@ -27,6 +27,7 @@ typedef struct {
     uint32_t runs, calls;         /* from Blank: runs, calls in each */
     uint32_t tables, table_calls; /* well-formed tables that no run need reach */
     uint32_t stops;               /* the same, and a Stop of an owner first */
+    uint32_t boards;              /* the same, and a request to a Board first */
     uint32_t damages;             /* tables of each family of damage */
     uint32_t flips;               /* tables with a few words changed at random */
     uint32_t lengths;             /* tables of each odd length */
@@ -36,24 +37,29 @@ typedef struct {
 } scale;
 
 static const scale scales[] = {
-    {"quick", 60, 300, 1500, 8, 400, 2, 3000, 100, 500, 10, 30000, 300},
-    {"gate", 1200, 400, 40000, 8, 10000, 40, 150000, 1500, 15000, 100, 1000000, 600},
-    {"long", 20000, 1000, 1000000, 8, 300000, 800, 4000000, 20000, 400000, 3000, 30000000, 14400},
-    {"campaign", 65000, 1000, 3200000, 8, 1000000, 2600, 13000000, 65000, 1300000, 10000, 100000000,
+    {"quick", 60, 300, 1500, 8, 400, 400, 2, 3000, 100, 500, 10, 30000, 300},
+    {"gate", 1200, 400, 40000, 8, 10000, 10000, 40, 150000, 1500, 15000, 100, 1000000, 600},
+    {"long", 20000, 1000, 1000000, 8, 300000, 300000, 800, 4000000, 20000, 400000, 3000, 30000000,
      14400},
+    {"campaign", 65000, 1000, 3200000, 8, 1000000, 1000000, 2600, 13000000, 65000, 1300000, 10000,
+     100000000, 14400},
 };
 
 static const size_t odd_lengths[] = {0, 1, 4, 2396, 2399, 2401, 2404};
 
 enum { LONGEST = BYTES + 4, AROUND = 64, PLACES = 16, WATCHED = 0xA5 };
 enum { PAST = 24, ROOM_MOST = LISTING_MOST + PAST };
-enum { MET_MOST = TASKS - 2 }; /* by one Stop: neither the caller nor the target waits for it */
+enum {
+    MET_MOST = TASKS - 2,    /* by one Stop: neither the caller nor the target waits for it */
+    READERS_MOST = TASKS - 1 /* by one update: the caller doesn't wait */
+};
 
 typedef struct {
     const char *part;
     uint64_t seed; /* of the part's draws, for the report of a difference */
     uint64_t calls;
-    uint64_t refusals[8], answers[3], waiters, met_by_stop[MET_MOST + 1];
+    uint64_t refusals[8], answers[3], waiters;
+    uint64_t met_by_stop[MET_MOST + 1], met_by_update[READERS_MOST + 1];
     uint64_t listings, listing_refusals[SHORT_BUFFER + 1], longest;
     gen_random random; /* the calls and tables */
     gen_random other;  /* places and hubs: the draws of the calls stay the generator's own */
@@ -336,25 +342,51 @@ static uint32_t count_met(const uint32_t *before, const uint32_t *after)
     return met;
 }
 
-/* The Stop, and a few calls more on the table that it left. */
+/* The call drawn with the table, and a few calls more on the table that it left. Gives
+ * how many the first one met. */
+static uint32_t compare_met(comparison *at, uint32_t *words, uint32_t *call)
+{
+    uint32_t before[WORDS], met;
+    gen_mood mood;
+
+    lay_words(at, words);
+    memcpy(before, words, sizeof before);
+    compare(at, words, call);
+    met = count_met(before, words);
+    gen_draw_mood(&at->random, &mood);
+    mood.tasks = mood.hubs = 0; /* nothing to add first */
+    for (int j = 0; j < 3; j++) {
+        gen_call(&at->random, &mood, words, call);
+        compare(at, words, call);
+    }
+    return met;
+}
+
 static void part_stops(comparison *at, const scale *to)
 {
-    uint32_t words[WORDS], before[WORDS], call[CALL_NUMBERS];
-    gen_mood mood;
+    uint32_t words[WORDS], call[CALL_NUMBERS];
 
     for (uint32_t i = 0; i < to->stops; i++) {
         begin(at, "stops", i);
         gen_stop(&at->random, words, call);
-        lay_words(at, words);
-        memcpy(before, words, sizeof before);
-        compare(at, words, call);
-        at->met_by_stop[count_met(before, words)]++;
-        gen_draw_mood(&at->random, &mood);
-        mood.tasks = mood.hubs = 0; /* nothing to add first */
-        for (int j = 0; j < 3; j++) {
-            gen_call(&at->random, &mood, words, call);
-            compare(at, words, call);
-        }
+        at->met_by_stop[compare_met(at, words, call)]++;
+    }
+}
+
+/* Updates mostly; reads and wipes, the latter at any kind of hub, meet nobody. */
+static void part_boards(comparison *at, const scale *to)
+{
+    uint32_t words[WORDS], call[CALL_NUMBERS];
+
+    for (uint32_t i = 0; i < to->boards; i++) {
+        begin(at, "boards", i);
+        gen_board(&at->random, words, call);
+        int updates = call[C_SIDE] == PUT;
+        uint32_t met = compare_met(at, words, call);
+        if (updates)
+            at->met_by_update[met]++;
+        else if (met > 0)
+            differ(at, NULL, "a read or a wipe met somebody");
     }
 }
 
@@ -484,6 +516,17 @@ static void part(comparison *at, const scale *to, const char *name,
     fflush(stdout);
 }
 
+/* How many calls met none, one, and so on up to the most there can be; whether none,
+ * one and the most came up. */
+static int check_met(const char *calls, const uint64_t *met, int most)
+{
+    printf("%s that met 0 to %d:", calls, most);
+    for (int i = 0; i <= most; i++)
+        printf(" %" PRIu64, met[i]);
+    printf("\n");
+    return met[0] > 0 && met[1] > 0 && met[most] > 0;
+}
+
 /* A comparison in which an answer or a refusal never came up shows little. */
 static int check_seen(const comparison *at)
 {
@@ -500,12 +543,8 @@ static int check_seen(const comparison *at)
         fine = fine && at->answers[i] > 0;
     }
     printf("; waiters in summaries: %" PRIu64 "\n", at->waiters);
-    printf("Stops that met 0 to %d waiters:", MET_MOST);
-    for (int i = 0; i <= MET_MOST; i++)
-        printf(" %" PRIu64, at->met_by_stop[i]);
-    printf("\n");
-    fine = fine && at->met_by_stop[0] > 0 && at->met_by_stop[1] > 0 &&
-           at->met_by_stop[MET_MOST] > 0;
+    fine = check_met("Stops", at->met_by_stop, MET_MOST) && fine;
+    fine = check_met("updates of a Board", at->met_by_update, READERS_MOST) && fine;
     printf("listings: accepted, refused with 1, 2, 8:");
     for (uint32_t i = 0; i <= SHORT_BUFFER; i++) {
         if (i > NOT_WELL_FORMED && i < SHORT_BUFFER)
@@ -529,6 +568,7 @@ int main(int count, char **words)
         part(&at, &scales[i], "runs", part_runs);
         part(&at, &scales[i], "tables", part_tables);
         part(&at, &scales[i], "stops", part_stops);
+        part(&at, &scales[i], "boards", part_boards);
         part(&at, &scales[i], "damaged", part_damaged);
         part(&at, &scales[i], "flips", part_flips);
         part(&at, &scales[i], "lengths", part_lengths);

@@ -1,13 +1,17 @@
-/* Ten runs of the second program's generator, and what its ledger says of them:
+/* Twelve runs of the second program's generator, and what its ledger says of them:
  * `runs` writes crates/history/proofs/Generated.antt, in the layout of `rt fmt`,
  * to standard output and the figures to standard error.
  *
  * Each value in the file is the second program's: the calls from gen.c, replies
  * and tables from second.c, classes and the words of the meetings from ledger.c.
- * The seeds were searched for, so that 39 of the first 54 slips of second/mutants
- * show in the file (40 before M-101). The program fails unless the ten runs together have every class,
- * meetings alone and with a waiter, every service, the refusals 3 to 6 and every
- * kind of hub. */
+ * The seeds of the first ten were searched for, so that 39 of the first 54 slips of
+ * second/mutants show in the file (40 before M-101); they draw no Boards, and so are as
+ * they were before M-103. The last two were searched for with hub 0 a Board: updates
+ * that meet none, one, two and more readers, one of them suspended; reads that take
+ * nothing, fail, time out and are withdrawn; wipes, also while readers wait. Of the 26
+ * slips of M-103, 84 to 109, 15 show. The program fails unless all runs together have
+ * every class, meetings alone and with a waiter, an update that meets more than one,
+ * every service, the refusals 3 to 6 and every kind of hub. */
 #include <inttypes.h>
 #include <stdio.h>
 #include <stdlib.h>
@@ -18,14 +22,15 @@
 #include "numbers.h"
 #include "second.h"
 
-enum { RUNS = 10, CALLS = 24 };
+enum { RUNS = 12, BEFORE_BOARDS = 10, CALLS = 24 };
 
 static const uint64_t seeds[RUNS] = {
     410789, 368890, 603406, 2178998, 2843506, 383324, 1963138, 2005245, 120749, 1584567,
+    2481147, 2791289,
 };
 
 static const char *const kinds[] = {
-    "no hub", "an Event", "a Semaphore", "a Port", "a FIFO", "a Resource",
+    "no hub", "an Event", "a Semaphore", "a Port", "a FIFO", "a Resource", "a Board",
 };
 
 static const char *const classes[] = {
@@ -48,8 +53,9 @@ typedef struct {
 typedef struct {
     size_t calls, requests;
     size_t refusals[TABLE_FULL + 1], services[ADD_HUB + 1];
-    size_t of_class[IS_WITHDRAWN + 1], at_kind[RESOURCE + 1];
-    size_t met_alone, met_pairs; /* calls that met the caller's request, or a waiter's too */
+    size_t of_class[IS_WITHDRAWN + 1], at_kind[BOARD + 1];
+    size_t met_alone, met_pairs, met_more; /* calls that met the caller's request; or one
+                                            * waiter's too; or several waiters' */
 } figures;
 
 static void stop(uint64_t seed, const char *wrong)
@@ -65,7 +71,8 @@ static uint32_t kind_of(const drawn_run *run, uint32_t hub)
     return run->table[hub_place(hub) + H_KIND];
 }
 
-static int bears_word(uint32_t kind) { return kind == PORT || kind == FIFO; }
+static int bears_word(uint32_t kind) { return kind == PORT || kind == FIFO || kind == BOARD; }
+static int holds_words(uint32_t kind) { return kind == FIFO || kind == BOARD; }
 
 static size_t count_met(const ledger *book)
 {
@@ -93,9 +100,10 @@ static void count_call(figures *all, const uint32_t *call, second_reply reply, s
         all->services[call[C_SERVICE]]++;
     all->met_alone += met == 1;
     all->met_pairs += met == 2;
+    all->met_more += met > 2;
 }
 
-static void draw_run(drawn_run *run, uint64_t seed, figures *all)
+static void draw_run(drawn_run *run, uint64_t seed, uint32_t kinds_drawn, figures *all)
 {
     static const uint32_t blank[CALL_NUMBERS] = {BLANK};
     uint32_t before[WORDS];
@@ -105,7 +113,7 @@ static void draw_run(drawn_run *run, uint64_t seed, figures *all)
 
     memset(run, 0, sizeof *run);
     gen_seed(&random, seed);
-    gen_draw_mood(&random, &mood);
+    gen_draw_mood_of(&random, &mood, kinds_drawn);
     ledger_begin(&run->book);
     second_call(run->table, WORDS, blank);
     for (size_t i = 0; i < CALLS; i++) {
@@ -140,11 +148,11 @@ static void count_requests(figures *all, const drawn_run *run)
 
 static int all_shown(const figures *all)
 {
-    int shown = all->met_alone > 0 && all->met_pairs > 0;
+    int shown = all->met_alone > 0 && all->met_pairs > 0 && all->met_more > 0;
 
     for (int class = IS_WAITING; class <= IS_WITHDRAWN; class++)
         shown = shown && all->of_class[class] > 0;
-    for (int kind = EVENT; kind <= RESOURCE; kind++)
+    for (int kind = EVENT; kind <= BOARD; kind++)
         shown = shown && all->at_kind[kind] > 0;
     for (int service = BLANK; service <= ADD_HUB; service++)
         shown = shown && all->services[service] > 0;
@@ -164,10 +172,10 @@ static void print_figures(const figures *all)
     for (int class = IS_WAITING; class <= IS_WITHDRAWN; class++)
         fprintf(stderr, " %zu %s", all->of_class[class], classes[class]);
     fprintf(stderr, "\nat:");
-    for (int kind = EVENT; kind <= RESOURCE; kind++)
+    for (int kind = EVENT; kind <= BOARD; kind++)
         fprintf(stderr, " %s %zu", kinds[kind], all->at_kind[kind]);
-    fprintf(stderr, "\ncalls that met one request %zu, two %zu\naccepted, by service:",
-            all->met_alone, all->met_pairs);
+    fprintf(stderr, "\ncalls that met one request %zu, two %zu, more %zu\naccepted, by service:",
+            all->met_alone, all->met_pairs, all->met_more);
     for (int service = BLANK; service <= ADD_HUB; service++)
         fprintf(stderr, " %zu", all->services[service]);
     fprintf(stderr, "\n");
@@ -176,7 +184,7 @@ static void print_figures(const figures *all)
 /* ---- The file ---------------------------------------------------------- */
 
 static const char head[] =
-    "-- Ten runs drawn by the second program's generator, and what its ledger says of each: the definitions agree, by computation.\n"
+    "-- Twelve runs of the second program's generator, and what its ledger says of each: the definitions agree, by computation.\n"
     "-- Every number here is the second program's: tests/history/runs.c writes the file, tests/history/run compares it.\n"
     "-- `Seen` shows the requests at all hubs, and of hub 0 the words met, the count and the words held. In order: the runs, each\n"
     "-- with its proof, so that a run that disagrees is named; all of them, and `agree`.\n"
@@ -247,7 +255,7 @@ static void print_run(const drawn_run *run, int number)
     print_words("gets", hub->got, hub->gets, 1);
     printf("    removed = %" PRIu32 ";\n", hub->owners_removed);
     printf("    count = %" PRIu32 ";\n", count);
-    print_words("held", run->table + store_place(0), kind == FIFO ? count : 0, 1);
+    print_words("held", run->table + store_place(0), holds_words(kind) ? count : 0, 1);
     printf("  };\n}\n\nagrees-%d : Agrees drawn-%d\nunfolding drawn-%d shows\nagrees-%d = refl\n",
            number, number, number, number);
 }
@@ -273,7 +281,7 @@ int main(void)
 
     fputs(head, stdout);
     for (int number = 1; number <= RUNS; number++) {
-        draw_run(&run, seeds[number - 1], &all);
+        draw_run(&run, seeds[number - 1], number <= BEFORE_BOARDS ? RESOURCE : BOARD, &all);
         count_requests(&all, &run);
         print_run(&run, number);
     }

@@ -3,7 +3,8 @@
 -- Not here: the hubs' own records (Made.antt), the tables of words (Run.antt).
 use Prim.Native.Nat.{_+_, _<_, _≤_, ℕ}
 use Rattle.history.proofs.Again.{Agree, agree-quiet, met-again, turned-none}
-use Rattle.history.proofs.Asked.{agree-settle, metIn, turned-settle, words-append, words-else, words-got, words-put}
+use Rattle.history.proofs.Asked.{agree-settle, turned-place, turned-settle, words-append, words-got, words-off, words-put}
+use Rattle.history.proofs.Boards.{board-or}
 use Rattle.history.proofs.Balance.{Balanced, Share, balance-step, law-side, owned-none, share-core, share-same}
 use Rattle.history.proofs.Stopping.{stop-agree, stop-beyond, stop-kind, stop-share}
 use Rattle.history.proofs.Those.{howMany-append, howMany-below, no-entries}
@@ -26,13 +27,14 @@ use Rattle.rules.specs.Calls.{AddHub, AddTask, Blank, HubRequest, Resume, Servi
 use Rattle.rules.specs.HubTable.{Verdict, verdict}
 use Rattle.rules.specs.Lists.{answer, answered, firstWaiting, queued}
 use Rattle.rules.specs.Refusals.{goodHub, refusalFor}
-use Rattle.rules.specs.Table.{Event, Fifo, Hub, Kind, NoKind, Port, Resource, Semaphore, State, Task, hub, inactive, kindOf, noHub, owns, sideOf, tab, task}
+use Rattle.rules.specs.Table.{Board, Event, Fifo, Hub, Kind, NoKind, Port, Resource, Semaphore, State, Task, hub, inactive, kindOf, noHub, owns, sideOf, tab, task}
 use Rattle.rules.specs.declared.Call.{Call}
 use borrow.Author.Tests.{eqb-true}
 use lib.Dec.{eqb}
 use lib.ListN.{length}
 use mathlib.Core.Bool.{Bool, _&&_, and-false, false, true}
 use mathlib.Core.List.{List, [], _++_, _∷_, append-nil, map}
+use mathlib.Core.Logic.{_≢_, _⊎_, inl, inr}
 use mathlib.Core.Option.{some}
 use mathlib.Core.Path.{_∙_, _≡_, ap, refl, subst, sym}
 use native.Mathlib.Nat.{add-zero}
@@ -111,19 +113,30 @@ module _ (key : ℕ → ℕ) (s : State) (rs ms : List Request) (gone : List ℕ
   abbrev s₁ : State
   s₁ = settle key v s c
 
-  now : turned Class.met s₁ (rs ++ asked s c ∷ []) ≡ metIn s c v
-  now = turned-settle key s c (t .run) rs (a .agree) v _ (few s c) (partners s (g .listed) c)
+  -- those that turn met
+  abbrev new : List Request
+  new = turned Class.met s₁ (rs ++ asked s c ∷ [])
 
-  law : Share (kindOf (hub s (c .target) .kind)) (hub s (c .target)) (hubAfter (hub s (c .target)) v) 0 (wordsOf (c .target) 1 (metIn s c v)) (wordsOf (c .target) 2 (metIn s c v))
-  law =
-      rw (words-put s c v (t .side), words-got s c v (t .side))
-      (unfold verdict in law-side s (hub s (c .target)) c (t .side) (λ w e k. held-empty s g (c .target) w e (t .named) k))
+  -- all at the target
+  elsewhere : (h d : ℕ) → c .target ≢ h → wordsOf h d new ≡ []
+  elsewhere h d n = words-off (c .target) h d new n (turned-place key s c (t .run) rs (a .agree) v (partners s (g .listed) c))
 
-  share : (h : ℕ) → Share (kindOf (hub s h .kind)) (hub s h) (hub s₁ h) 0 (wordsOf h 1 (metIn s c v)) (wordsOf h 2 (metIn s c v))
+  -- of a Board nothing is counted
+  law : Share (kindOf (hub s (c .target) .kind)) (hub s (c .target)) (hubAfter (hub s (c .target)) v) 0 (wordsOf (c .target) 1 new) (wordsOf (c .target) 2 new)
+  law = by (board-or (kindOf (hub s (c .target) .kind)))
+    where
+      by : (kindOf (hub s (c .target) .kind) ≡ Board) ⊎ (kindOf (hub s (c .target) .kind) ≢ Board)
+          → Share (kindOf (hub s (c .target) .kind)) (hub s (c .target)) (hubAfter (hub s (c .target)) v) 0 (wordsOf (c .target) 1 new) (wordsOf (c .target) 2 new)
+      by (inl b) = unfold Share in rw b tt
+      by (inr n) =
+          rw (turned-settle key s c (t .run) rs (a .agree) v _ _ _ _ (few s c) (λ b _. n b) (partners s (g .listed) c), words-put s c v (t .side), words-got s c v (t .side))
+          (unfold verdict in law-side s (hub s (c .target)) c (t .side) (λ w e k. held-empty s g (c .target) w e (t .named) k))
+
+  share : (h : ℕ) → Share (kindOf (hub s h .kind)) (hub s h) (hub s₁ h) 0 (wordsOf h 1 new) (wordsOf h 2 new)
   share h =
       sameOr h (c .target)
       (λ e. rw e (share-core _ _ _ _ 0 _ _ (hub-target key s c v (t .named)) law))
-      (λ n. rw (words-else s c h 1 v (λ q. n (sym q)), words-else s c h 2 v (λ q. n (sym q))) (share-same _ (hub s h) (hub s₁ h) (hub-else key s c v h n)))
+      (λ n. rw (elsewhere h 1 (λ q. n (sym q)), elsewhere h 2 (λ q. n (sym q))) (share-same _ (hub s h) (hub s₁ h) (hub-else key s c v h n)))
 
   kind-same : (h : ℕ) → kindOf (hub s₁ h .kind) ≡ kindOf (hub s h .kind)
   kind-same h =
@@ -131,8 +144,8 @@ module _ (key : ℕ → ℕ) (s : State) (rs ms : List Request) (gone : List ℕ
       (λ e. rw e (core-kind _ _ (hub-target key s c v (t .named)) ∙ ap kindOf (after-kind (hub s (c .target)) v)))
       (λ n. core-kind _ _ (hub-else key s c v h n))
 
-  both : (h d : ℕ) → wordsOf h d (ms ++ turned Class.met s₁ (rs ++ asked s c ∷ [])) ≡ wordsOf h d ms ++ wordsOf h d (metIn s c v)
-  both h d = rw now (words-append h d ms (metIn s c v))
+  both : (h d : ℕ) → wordsOf h d (ms ++ new) ≡ wordsOf h d ms ++ wordsOf h d new
+  both h d = words-append h d ms new
 
   new-meetings : (p : Request → Bool) → howMany p ms ≡ howMany (λ r. p r && isMet r) (rs ++ asked s c ∷ [])
   new-meetings p =
@@ -147,7 +160,7 @@ module _ (key : ℕ → ℕ) (s : State) (rs ms : List Request) (gone : List ℕ
     balanced = λ h. rw (both h 1, both h 2, ← add-zero (removedAt h gone)) (balanced-on (hub s h) (hub s₁ h) (removedAt h gone) 0 (wordsOf h 1 ms) (wordsOf h 2 ms) _ _ (kind-same h) (a .balanced h) (share h));
     beyond = λ h d l.
         let m : length (s .hubs) ≤ h = subst (λ (n : ℕ). n ≤ h) (many-settle key s c v) l in
-        both h d ∙ rw (a .beyond h d m, words-else s c h d v (λ e. omega (arith, e, t .named)));
+        both h d ∙ rw (a .beyond h d m, elsewhere h d (λ e. omega (arith, e, t .named)));
     unowned = λ h l. a .unowned h (subst (λ (n : ℕ). n ≤ h) (many-settle key s c v) l);
     meetings = meetings-on s₁ (rs ++ asked s c ∷ []) ms new-meetings;
   }
@@ -199,6 +212,7 @@ new-balanced c Semaphore e = refl
 new-balanced c Port e = refl
 new-balanced c Fifo e = refl
 new-balanced c Resource e = omega (arith, owned-none (newHub c) (eqb-true (c .word) 0 (and-r (eqb (c .ticks) 1) _ e)))
+new-balanced c Board e = tt
 
 account-addHub : (s : State) (rs ms : List Request) (gone : List ℕ) (c : Call) → Account s rs ms gone → goodHub (kindOf (c .target)) (c .ticks) (c .word) ≡ true
     → Account (addHub (newHub c) s) (map (again (addHub (newHub c) s)) rs) (ms ++ turned Class.met (addHub (newHub c) s) rs) gone

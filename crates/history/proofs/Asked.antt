@@ -1,27 +1,29 @@
 -- A hub request: after it the requests and the table agree, with the caller's own request among them; the requests that turn
 -- met in it are those that the verdict names (`metIn`), and their words are the verdict's.
--- About any list of waiters met, but for `turned-settle`, which goes by the rows of the hub table.
-use Prim.Native.Nat.{_+_, ℕ}
-use Rattle.history.proofs.Again.{Agree, Entry, Meets, MovedOrMet, again-waiting, entries-again, turned-append, turned-none, turned-one, waiting-again}
+-- About any list of waiters met, but for `turned-settle`, which goes by the rows of the hub table, and `turned-update`.
+use Prim.Native.Nat.{_+_, _<_, _≤_, ℕ}
+use Rattle.history.proofs.Again.{Agree, Entry, Meets, MovedOrMet, again-waiting, each-turned, entries-again, turned-append, turned-none, turned-one, waiting-again}
 use Rattle.history.proofs.Balance.{getsBy, putsBy}
 use Rattle.history.proofs.Classes.{class-failed, class-met, class-waiting}
-use Rattle.history.proofs.Those.{each-append, each-imp, howMany-append, howMany-cons, those-append}
-use Rattle.history.specs.History.{Class, Request, again, asked, at, classOf, failed, howMany, isClass, passed, reread, rowClass, those, turned, turns, waitsBy, wordsOf}
+use Rattle.history.proofs.Those.{each-append, each-imp, howMany-append, howMany-cons, those-append, those-none}
+use Rattle.history.specs.History.{Class, Request, again, asked, at, classOf, failed, howMany, isClass, passed, reread, rowClass, those, turned, turns, waiting, waitsBy, wordsOf}
 use Rattle.history.specs.Statements.{Each, Stands}
 use Rattle.lists.proofs.Laws.{boolCase}
-use Rattle.lists.specs.Lists.{bit}
+use Rattle.lists.specs.Lists.{bit, occ}
+use Rattle.rules.proofs.Accepted.{Sided}
 use Rattle.rules.proofs.Cases.{condCase, sameOr}
 use Rattle.rules.proofs.Changes.{inUse, set-case}
 use Rattle.rules.proofs.Quiet.{Moved, Quiet, stays}
-use Rattle.rules.proofs.Settled.{InUse, Partners, answer-other, in-use-move, length-answer, length-wake, met-caller, met-first, met-other, met-waiting, partners-in, quiet-told, told-caller, wait-caller, wait-other, wake-other, wake-same}
-use Rattle.rules.proofs.Verdicts.{Each as EachMeeting, Few, across, meets-first, meets-later, meets-never, meets-none, waitersMet}
+use Rattle.rules.proofs.Settled.{InUse, Partners, Reads, Waiter, answer-other, in-use-move, length-answer, length-wake, met-caller, met-first, met-other, met-waiting, partners-in, quiet-told, readers-waits, told-caller, wait-caller, wait-other, wake-other, wake-same}
+use Rattle.rules.proofs.Verdicts.{Each as EachMeeting, Few, across, each-map as each-meeting, meets-all, meets-first, meets-later, meets-never, meets-none, waitersMet}
 use Rattle.rules.specs.Calls.{hold, kept, meetAll, settle, wait}
-use Rattle.rules.specs.HubTable.{Meeting, Verdict, fail, met, notNow}
+use Rattle.rules.specs.HubTable.{Meeting, Verdict, fail, met, notNow, readers}
 use Rattle.rules.specs.Lists.{answer, answered, joinReady, leave, readied, waits, wake}
-use Rattle.rules.specs.Table.{State, Task, hub, setHub, setReady, sideOf, task}
+use Rattle.rules.specs.Table.{Board, Kind, State, Task, hub, setHub, setReady, sideOf, task}
 use Rattle.rules.specs.declared.Call.{Call}
 use borrow.Author.Tests.{eq-eqb, eqb-true, ne-eqb}
 use lib.Dec.{eqb}
+use lib.ListN.{length}
 use mathlib.Core.Bool.{_&&_, false, true}
 use mathlib.Core.List.{List, [], _++_, _∷_, append-nil, map, map-append}
 use mathlib.Core.Logic.{_≢_, _⊎_, inl, inr}
@@ -34,6 +36,10 @@ same-moved t t′ q g =
     stays (ap (λ (t : Task). t .state) q ∙ g) (ap (λ (t : Task). t .hub) q) (ap (λ (t : Task). t .side) q) (ap (λ (t : Task). t .word) q)
 
 -- ---- all waiters met: each task's record is as it was, or its request is met
+
+-- what follows, of task j's record afterwards, where meeting m is j's: ready, answer 1, and the meeting's word
+abbrev pub Known : (Task → Type 0) → ℕ → Meeting → Type 0
+Known R j m = m .waiter ≡ j → (t : Task) → t .state ≡ 2 → t .answer ≡ 1 → t .word ≡ m .word → R t
 
 module _ (key : ℕ → ℕ) where
   wake-meets : (s : State) (i w j : ℕ) → Meets (task s j) → Meets (task (wake key i 1 w s) j)
@@ -53,22 +59,28 @@ module _ (key : ℕ → ℕ) where
     meet-each ms (wake key (m .waiter) 1 (m .word) s) (in-use-move s (wake key (m .waiter) 1 (m .word) s) ms (length-wake key s (m .waiter) 1 (m .word)) (u .1)),
   )
 
-  meet-fates : (ms : List Meeting) (s : State) (j : ℕ) → task s j .state ≡ 3 → (task (meetAll key ms s) j ≡ task s j) ⊎ Meets (task (meetAll key ms s) j)
-  unfolding meetAll readied
-  meet-fates [] s j e = inl refl
-  meet-fates (m ∷ ms) s j e =
-      sameOr j (m .waiter)
-      (λ q. inr (meet-meets ms _ j (woken q)))
-      (λ q. subst (λ (t : Task). (task (meetAll key ms s₁) j ≡ t) ⊎ Meets (task (meetAll key ms s₁) j)) (other q) (meet-fates ms s₁ j (rw (other q) e)))
+  -- task j's record is as it was, or what is known of the meeting that was its holds
+  meet-known : (R : Task → Type 0) (j : ℕ) (ms : List Meeting) (s : State) → j < length (s .tasks) → EachMeeting (Known R j) ms
+      → (task (meetAll key ms s) j ≡ task s j) ⊎ R (task (meetAll key ms s) j)
+  unfolding EachMeeting meetAll readied
+  meet-known R j [] s u k = inl refl
+  meet-known R j (m ∷ ms) s u k = step (meet-known R j ms s₁ (rw (length-wake key s (m .waiter) 1 (m .word)) u) (k .1))
     where
       s₁ : State
       s₁ = wake key (m .waiter) 1 (m .word) s
 
-      other : j ≢ m .waiter → task s₁ j ≡ task s j
-      other q = wake-other key s (m .waiter) 1 (m .word) j q
+      step : (task (meetAll key ms s₁) j ≡ task s₁ j) ⊎ R (task (meetAll key ms s₁) j) → (task (meetAll key ms s₁) j ≡ task s j) ⊎ R (task (meetAll key ms s₁) j)
+      step (inl e) =
+          sameOr j (m .waiter)
+          (λ q. let w : task s₁ j ≡ readied 1 (m .word) (task s (m .waiter)) = rw q (wake-same key s (m .waiter) 1 (m .word) (rw (← q) u)) in
+          inr (k .0 (sym q) _ (ap (λ (t : Task). t .state) (e ∙ w)) (ap (λ (t : Task). t .answer) (e ∙ w)) (ap (λ (t : Task). t .word) (e ∙ w))))
+          (λ q. inl (e ∙ wake-other key s (m .waiter) 1 (m .word) j q))
+      step (inr r) = inr r
 
-      woken : j ≡ m .waiter → Meets (task s₁ j)
-      woken q = rw (q, wake-same key s (m .waiter) 1 (m .word) (inUse s (m .waiter) 1 (rw (← q) e))) (refl, refl)
+all-known : (j : ℕ) (ms : List Meeting) → EachMeeting (Known Meets j) ms
+unfolding EachMeeting
+all-known j [] = tt
+all-known j (m ∷ ms) = (λ e t a b w. (a, b), all-known j ms)
 
 -- ---- the requests that turn met, by the verdict: the waiters' first, then the caller's
 
@@ -97,6 +109,10 @@ metIn s c (met n ws x ms) = map (metWaiter s c) ms ++ metCaller s c x ∷ []
 metIn s c notNow = []
 metIn s c fail = []
 
+-- the update of a Board: every reader is met with the word written
+abbrev pub updates : State → Call → ℕ → Verdict
+updates s c y = met 1 (y ∷ []) 0 (readers s (hub s (c .target) .waiters) y)
+
 -- what comes of the caller's own request: met with word x, failed, or waiting
 pub data Outcome (s : State) (c : Call) (s′ : State) : Type 0 where
   isMet : (x : ℕ) → task s′ (c .caller) ≡ answered 1 x (task s (c .caller)) → Outcome s c s′
@@ -109,22 +125,27 @@ module _ (key : ℕ → ℕ) (s : State) (c : Call) (run : task s (c .caller) .s
   free : (j : ℕ) → task s j .state ≡ 3 → j ≢ c .caller
   free j g e = omega (arith, run, rw e at g)
 
-  -- a waiting task's record is as it was, or its request is met
-  pub rests-settle : (v : Verdict) (j : ℕ) → task s j .state ≡ 3 → (task (settle key v s c) j ≡ task s j) ⊎ Meets (task (settle key v s c) j)
-  unfolding hold setHub settle
-  rests-settle (met n ws x ms) j g =
-      subst (λ (t : Task). (task (meetAll key ms s₁) j ≡ t) ⊎ Meets (task (meetAll key ms s₁) j)) same (meet-fates key ms s₁ j (rw same g))
+  -- a waiting task's record is as it was, or what is known of its meeting holds
+  known-settle : (R : Task → Type 0) (v : Verdict) (j : ℕ) → task s j .state ≡ 3 → EachMeeting (Known R j) (waitersMet v)
+      → (task (settle key v s c) j ≡ task s j) ⊎ R (task (settle key v s c) j)
+  unfolding settle waitersMet
+  known-settle R (met n ws x ms) j g k =
+      subst (λ (t : Task). (task (meetAll key ms s₁) j ≡ t) ⊎ R (task (meetAll key ms s₁) j)) same
+      (meet-known key R j ms s₁ (rw (length-answer (hold (c .target) n ws s) (c .caller) 1 x) (unfold hold setHub in inUse s j 1 g)) k)
     where
       s₁ : State
       s₁ = answer (c .caller) 1 x (hold (c .target) n ws s)
 
       same : task s₁ j ≡ task s j
       same = unfold hold setHub in answer-other (hold (c .target) n ws s) (c .caller) 1 x j (free j g)
-  rests-settle notNow j g =
-      condCase (λ (z : State). (task z j ≡ task s j) ⊎ Meets (task z j)) (eqb (c .mode) 2) _ _
+  known-settle R notNow j g k =
+      condCase (λ (z : State). (task z j ≡ task s j) ⊎ R (task z j)) (eqb (c .mode) 2) _ _
       (λ _. inl (answer-other s (c .caller) 2 0 j (free j g)))
       (λ _. inl (wait-other key s c run j (free j g)))
-  rests-settle fail j g = inl (answer-other s (c .caller) 2 0 j (free j g))
+  known-settle R fail j g k = inl (answer-other s (c .caller) 2 0 j (free j g))
+
+  pub rests-settle : (v : Verdict) (j : ℕ) → task s j .state ≡ 3 → (task (settle key v s c) j ≡ task s j) ⊎ Meets (task (settle key v s c) j)
+  rests-settle v j g = known-settle Meets v j g (all-known j (waitersMet v))
 
   moves-settle : (v : Verdict) → MovedOrMet s (settle key v s c)
   moves-settle v j g = go (rests-settle v j g)
@@ -293,24 +314,83 @@ module _ (key : ℕ → ℕ) (s : State) (c : Call) (run : task s (c .caller) .s
         unmet-turned _ (λ j g. same-moved _ _ (wait-other key s c run j (free j g)) g)
         (ap (isClass Class.met) (class-waiting (task (wait key s c) (c .caller)) (ap (λ (t : Task). t .state) (wait-caller key s c run))))
 
-    pub turned-settle : (v : Verdict) (f : Option ℕ) → Few f v → Partners s c (waitersMet v) → turned Class.met (settle key v s c) (rs ++ asked s c ∷ []) ≡ metIn s c v
+    -- by the rows of the hub table, but for the update of a Board (k the kind, d the other side), which meets every reader: those
+    -- turn in the order of the calls, not of the list
+    pub turned-settle : (v : Verdict) (k : Kind) (l : List ℕ) (d : ℕ) (f : Option ℕ) → Few k s l d f v → (k ≡ Board → d ≡ 2 → ⊥) → Partners s c (waitersMet v)
+        → turned Class.met (settle key v s c) (rs ++ asked s c ∷ []) ≡ metIn s c v
     unfolding metIn settle waitersMet
-    turned-settle v f (meets-none n ws x) p =
+    turned-settle v k l d f (meets-none n ws x) nu p =
         turned-append Class.met (settle key (met n ws x []) s c) rs (asked s c ∷ [])
         ∙ rw (alone-turned n ws x, own-met (settle key (met n ws x []) s c) x (met-caller key s c run n ws x [] p))
-    turned-settle v f (meets-first n ws x w y e) p =
+    turned-settle v k l d f (meets-first n ws x w y e) nu p =
         let m : Meeting = record { waiter = w; word = y } in
         turned-append Class.met (settle key (met n ws x (m ∷ [])) s c) rs (asked s c ∷ [])
         ∙ rw (pair-turned n ws x m p, own-met (settle key (met n ws x (m ∷ [])) s c) x (met-caller key s c run n ws x (m ∷ []) p))
-    turned-settle v f meets-later p =
+    turned-settle v k l d f (meets-all y b e) nu p = absurd (nu b e)
+    turned-settle v k l d f meets-later nu p =
         condCase (λ (z : State). turned Class.met z (rs ++ asked s c ∷ []) ≡ []) (eqb (c .mode) 2) _ _ (λ _. fail-turned) (λ _. wait-turned)
-    turned-settle v f meets-never p = fail-turned
+    turned-settle v k l d f meets-never nu p = fail-turned
+
+    -- by any verdict: of the old requests those turn met whose task has a meeting
+    turned-old : (P : Request → Type 0) (v : Verdict)
+        → ((r : Request) → Stands s r → EachMeeting (Known (λ t. t ≡ task (settle key v s c) (r .task) → P (reread (settle key v s c) r)) (r .task)) (waitersMet v))
+        → Each P (turned Class.met (settle key v s c) rs)
+    turned-old P v f = each-turned P Class.met (settle key v s c) rs (each-imp (Entry s) _ (λ r y z u. by r (y .stands z) u) rs (a .entries))
+      where
+        by : (r : Request) → Stands s r → classOf (task (settle key v s c) (r .task)) ≡ Class.met → P (reread (settle key v s c) r)
+        by r k u = go (known-settle _ v (r .task) (k .state) (f r k))
+          where
+            go : (task (settle key v s c) (r .task) ≡ task s (r .task)) ⊎ (task (settle key v s c) (r .task) ≡ task (settle key v s c) (r .task) → P (reread (settle key v s c) r)) → P (reread (settle key v s c) r)
+            go (inl e) = absurd (let z : _≡_ {A = ℕ} 0 1 = cc (class-waiting (task (settle key v s c) (r .task)) (ap (λ (t : Task). t .state) e ∙ k .state)) in omega arith)
+            go (inr q) = q refl
+
+    -- and all that turn met are of the caller's hub
+    pub turned-place : (v : Verdict) → Partners s c (waitersMet v) → Each (λ r. r .hub ≡ c .target) (turned Class.met (settle key v s c) (rs ++ asked s c ∷ []))
+    unfolding reread
+    turned-place v p =
+        rw (turned-append Class.met (settle key v s c) rs (asked s c ∷ []))
+        (each-append _ _ _
+        (turned-old _ v (λ r k. each-meeting (λ m. Waiter s c (m .waiter)) _ (λ m w e t x y z q. omega (arith, k .hub, w .hub, ap (λ (i : ℕ). task s i .hub) e)) (waitersMet v) p))
+        (each-turned (λ r. r .hub ≡ c .target) Class.met (settle key v s c) (asked s c ∷ []) own))
+      where
+        own : Each (λ r. r .class ≡ waiting → classOf (task (settle key v s c) (r .task)) ≡ Class.met → reread (settle key v s c) r .hub ≡ c .target) (asked s c ∷ [])
+        own = unfold Each asked in (λ z u. refl, tt)
+
+    -- an update of a Board: its readers, with the word y written, and the caller
+    pub turned-update : (y : ℕ) (P : Request → Type 0) → Partners s c (readers s (hub s (c .target) .waiters) y)
+        → ((r : Request) → Stands s r → 1 ≤ occ (r .task) (hub s (c .target) .waiters) → task s (r .task) .side ≡ 2
+        → task (settle key (updates s c y) s c) (r .task) .word ≡ y → P (reread (settle key (updates s c y) s c) r))
+        → P (metCaller s c 0) → Each P (turned Class.met (settle key (updates s c y) s c) (rs ++ asked s c ∷ []))
+    unfolding waitersMet
+    turned-update y P p f q =
+        rw (turned-append Class.met s′ rs (asked s c ∷ []), own-met s′ 0 (unfold settle in met-caller key s c run 1 (y ∷ []) 0 ms p))
+        (each-append P _ _
+        (turned-old P (updates s c y) (λ r k. each-meeting (Reads s l y) _
+        (λ m w e t a b z g. f r k (rw e at (w .0)) (rw e at (w .1)) (sym (ap (λ (t : Task). t .word) g) ∙ z ∙ w .2)) ms (readers-waits s l y)))
+        (unfold Each in (q, tt)))
+      where
+        l : List ℕ
+        l = hub s (c .target) .waiters
+
+        ms : List Meeting
+        ms = readers s l y
+
+        s′ : State
+        s′ = settle key (updates s c y) s c
 
 -- ---- their words
 
 pub words-append : (h d : ℕ) (rs qs : List Request) → wordsOf h d (rs ++ qs) ≡ wordsOf h d rs ++ wordsOf h d qs
 unfolding wordsOf
 words-append h d rs qs = ap (map passed) (those-append (at h d) rs qs) ∙ map-append passed (those (at h d) rs) (those (at h d) qs)
+
+-- none of a hub where all are of another
+pub those-off : (g h d : ℕ) (qs : List Request) → g ≢ h → Each (λ r. r .hub ≡ g) qs → those (at h d) qs ≡ []
+those-off g h d qs n a = those-none (at h d) qs (each-imp (λ r. r .hub ≡ g) (λ r. at h d r ≡ false) (λ r e. rw (ne-eqb (r .hub) h (λ q. n (sym e ∙ q)))) qs a)
+
+pub words-off : (g h d : ℕ) (qs : List Request) → g ≢ h → Each (λ r. r .hub ≡ g) qs → wordsOf h d qs ≡ []
+unfolding wordsOf
+words-off g h d qs n a = rw (those-off g h d qs n a)
 
 module _ (s : State) (c : Call) where
   waiters-off : (h d : ℕ) → (eqb (c .target) h && eqb (across (sideOf (c .side))) d) ≡ false → (ms : List Meeting) → wordsOf h d (map (metWaiter s c) ms) ≡ []
@@ -321,14 +401,6 @@ module _ (s : State) (c : Call) where
   caller-off : (h d x : ℕ) → (eqb (c .target) h && eqb (c .side) d) ≡ false → wordsOf h d (metCaller s c x ∷ []) ≡ []
   unfolding those wordsOf
   caller-off h d x e = rw e
-
-  pub words-else : (h d : ℕ) (v : Verdict) → c .target ≢ h → wordsOf h d (metIn s c v) ≡ []
-  unfolding metIn
-  words-else h d (met n ws x ms) e =
-      words-append h d (map (metWaiter s c) ms) (metCaller s c x ∷ [])
-      ∙ rw (waiters-off h d (rw (ne-eqb (c .target) h e) refl) ms, caller-off h d x (rw (ne-eqb (c .target) h e) refl))
-  words-else h d notNow e = unfold those wordsOf in refl
-  words-else h d fail e = unfold those wordsOf in refl
 
   here : eqb (c .target) (c .target) ≡ true
   here = eq-eqb (c .target) (c .target) refl
@@ -344,28 +416,38 @@ module _ (s : State) (c : Call) where
   waiters-got b b₁ [] = refl
   waiters-got b b₁ (m ∷ ms) = rw (here, b, b₁, waiters-got b b₁ ms)
 
-  pub words-put : (v : Verdict) → (c .side ≡ 1) ⊎ (c .side ≡ 2) → wordsOf (c .target) 1 (metIn s c v) ≡ putsBy (sideOf (c .side)) s (kept (hub s (c .target)) c) v
+  pub words-put : (v : Verdict) {k : Kind} → Sided k (c .side) → wordsOf (c .target) 1 (metIn s c v) ≡ putsBy (sideOf (c .side)) s (kept (hub s (c .target)) c) v
   unfolding across metIn putsBy sideOf
   words-put (met n ws x ms) (inl e) =
       words-append (c .target) 1 (map (metWaiter s c) ms) (metCaller s c x ∷ [])
       ∙ (rw (waiters-off (c .target) 1 (rw (here, e)) ms) (unfold those wordsOf in rw (here, e)))
-  words-put (met n ws x ms) (inr e) =
+  words-put (met n ws x ms) (inr (inl e)) =
       words-append (c .target) 1 (map (metWaiter s c) ms) (metCaller s c x ∷ [])
       ∙ (rw (caller-off (c .target) 1 x (rw (here, e)), waiters-put (rw e) ms) (rw e (append-nil _)))
+  words-put (met n ws x ms) (inr (inr e)) =
+      words-append (c .target) 1 (map (metWaiter s c) ms) (metCaller s c x ∷ [])
+      ∙ rw (waiters-off (c .target) 1 (rw (here, e .0)) ms, caller-off (c .target) 1 x (rw (here, e .0))) (rw (e .0) refl)
   words-put notNow (inl e) = unfold those wordsOf in rw e
-  words-put notNow (inr e) = unfold those wordsOf in rw e
+  words-put notNow (inr (inl e)) = unfold those wordsOf in rw e
+  words-put notNow (inr (inr e)) = unfold those wordsOf in rw (e .0)
   words-put fail (inl e) = unfold those wordsOf in rw e
-  words-put fail (inr e) = unfold those wordsOf in rw e
+  words-put fail (inr (inl e)) = unfold those wordsOf in rw e
+  words-put fail (inr (inr e)) = unfold those wordsOf in rw (e .0)
 
-  pub words-got : (v : Verdict) → (c .side ≡ 1) ⊎ (c .side ≡ 2) → wordsOf (c .target) 2 (metIn s c v) ≡ getsBy (sideOf (c .side)) v
+  pub words-got : (v : Verdict) {k : Kind} → Sided k (c .side) → wordsOf (c .target) 2 (metIn s c v) ≡ getsBy (sideOf (c .side)) v
   unfolding across getsBy metIn sideOf
   words-got (met n ws x ms) (inl e) =
       words-append (c .target) 2 (map (metWaiter s c) ms) (metCaller s c x ∷ [])
       ∙ (rw (caller-off (c .target) 2 x (rw (here, e)), waiters-got (rw e) (rw e) ms) (rw e (append-nil _)))
-  words-got (met n ws x ms) (inr e) =
+  words-got (met n ws x ms) (inr (inl e)) =
       words-append (c .target) 2 (map (metWaiter s c) ms) (metCaller s c x ∷ [])
       ∙ (rw (waiters-off (c .target) 2 (rw (here, e)) ms) (unfold those wordsOf in rw (here, e)))
+  words-got (met n ws x ms) (inr (inr e)) =
+      words-append (c .target) 2 (map (metWaiter s c) ms) (metCaller s c x ∷ [])
+      ∙ rw (waiters-off (c .target) 2 (rw (here, e .0)) ms, caller-off (c .target) 2 x (rw (here, e .0))) (rw (e .0) refl)
   words-got notNow (inl e) = unfold those wordsOf in rw e
-  words-got notNow (inr e) = unfold those wordsOf in rw e
+  words-got notNow (inr (inl e)) = unfold those wordsOf in rw e
+  words-got notNow (inr (inr e)) = unfold those wordsOf in rw (e .0)
   words-got fail (inl e) = unfold those wordsOf in rw e
-  words-got fail (inr e) = unfold those wordsOf in rw e
+  words-got fail (inr (inl e)) = unfold those wordsOf in rw e
+  words-got fail (inr (inr e)) = unfold those wordsOf in rw (e .0)

@@ -4,13 +4,14 @@
 use Prim.Native.Nat.{_+_, pred, suc, ℕ}
 use Rattle.history.specs.History.{isOwned}
 use Rattle.lists.specs.Lists.{bit}
+use Rattle.rules.proofs.Accepted.{Sided}
 use Rattle.rules.proofs.Cases.{condCase}
 use Rattle.rules.proofs.Hubs.{core}
 use Rattle.rules.proofs.Verdicts.{hubAfter}
 use Rattle.rules.specs.Calls.{kept}
 use Rattle.rules.specs.HubTable.{Meeting, Verdict, alone, fail, getEvent, getFifo, getPort, getResource, getSemaphore, met, notNow, onGet, onPut, onSide, pass, putEvent, putFifo, putPort, putResource, putSemaphore}
 use Rattle.rules.specs.Lists.{firstWaiting, holding, queued}
-use Rattle.rules.specs.Table.{Event, Fifo, Get, Hub, Kind, NoKind, NoSide, Port, Put, Resource, Semaphore, Side, State, kindOf, sideOf, task}
+use Rattle.rules.specs.Table.{Board, Event, Fifo, Get, Hub, Kind, NoKind, NoSide, Port, Put, Resource, Semaphore, Side, State, Wipe, kindOf, sideOf, task}
 use Rattle.rules.specs.WellFormed.{bearsWord}
 use Rattle.rules.specs.declared.Call.{Call}
 use borrow.Author.Tests.{eq-eqb, eqb-true, ltb-true, ne-eqb}
@@ -18,7 +19,7 @@ use lib.Dec.{eqb, ltb}
 use lib.ListN.{length, length-append}
 use mathlib.Core.Bool.{true}
 use mathlib.Core.List.{List, [], _++_, _∷_, append-assoc, append-nil, map}
-use mathlib.Core.Logic.{_⊎_, inl, inr}
+use mathlib.Core.Logic.{inl, inr}
 use mathlib.Core.Option.{Option, none, some}
 use mathlib.Core.Path.{_∙_, _≡_, ap, refl, subst, sym}
 use native.Mathlib.Omega.{arith}
@@ -36,7 +37,7 @@ pub owned-none : (h : Hub) → h .count ≡ 0 → ownedBit h ≡ 0
 owned-none h e = rw (eq-eqb (h .count) 0 e)
 
 -- Event and Semaphore: start + puts = count + gets; FIFO: puts = gets, then the words held; Port: puts = gets; Resource: gets are
--- the puts, the n owners that Stops removed, and 1 when owned
+-- the puts, the n owners that Stops removed, and 1 when owned. Nothing is counted of a Board: its sentence is in Boards.antt
 unfoldable pub Balanced : Kind → Hub → ℕ → List ℕ → List ℕ → Type 0
 Balanced NoKind h n puts gets = Unit {0}
 Balanced Event h n puts gets = h .start + length puts ≡ h .count + length gets
@@ -44,6 +45,7 @@ Balanced Semaphore h n puts gets = h .start + length puts ≡ h .count + length 
 Balanced Port h n puts gets = puts ≡ gets
 Balanced Fifo h n puts gets = puts ≡ gets ++ h .held
 Balanced Resource h n puts gets = length gets ≡ length puts + n + ownedBit h
+Balanced Board h n puts gets = Unit {0}
 
 -- one call's share: h before it, h′ after it, n owners removed
 abbrev Counts : Hub → Hub → List ℕ → List ℕ → Type 0
@@ -56,6 +58,7 @@ Share Semaphore h h′ n puts gets = Counts h h′ puts gets
 Share Port h h′ n puts gets = puts ≡ gets
 Share Fifo h h′ n puts gets = h .held ++ puts ≡ gets ++ h′ .held
 Share Resource h h′ n puts gets = ownedBit h + length gets ≡ ownedBit h′ + length puts + n
+Share Board h h′ n puts gets = Unit {0}
 
 pub balance-step : (k : Kind) (h h′ : Hub) (m n : ℕ) (ps gs puts gets : List ℕ) → Balanced k h m ps gs → Share k h h′ n puts gets → Balanced k h′ (m + n) (ps ++ puts) (gs ++ gets)
 unfolding Balanced Share
@@ -65,6 +68,7 @@ balance-step Semaphore h h′ m n ps gs puts gets b l = rw (length-append ps put
 balance-step Port h h′ m n ps gs puts gets b l = rw (b, l)
 balance-step Fifo h h′ m n ps gs puts gets b l = rw (b, append-assoc gs (h .held) puts, l, append-assoc gs gets (h′ .held)) refl
 balance-step Resource h h′ m n ps gs puts gets b l = rw (length-append ps puts, length-append gs gets) (omega (arith, b, l))
+balance-step Board h h′ m n ps gs puts gets b l = tt
 
 -- a hub is as it was apart from its waiting list, and nothing is met there
 counts-same : (h h′ : Hub) → core h′ ≡ core h → Counts h h′ [] []
@@ -83,6 +87,7 @@ share-same Semaphore h h′ e = counts-same h h′ e
 share-same Port h h′ e = refl
 share-same Fifo h h′ e = append-nil (h .held) ∙ sym (ap (λ (x : Hub). x .held) e)
 share-same Resource h h′ e = omega (arith, owned-same h h′ e)
+share-same Board h h′ e = tt
 
 -- the share is the same for two hubs that differ in their waiting lists alone
 counts-core : (h x x′ : Hub) (puts gets : List ℕ) → core x′ ≡ core x → Counts h x puts gets → Counts h x′ puts gets
@@ -98,6 +103,7 @@ share-core Semaphore h x x′ n puts gets e l = counts-core h x x′ puts gets e
 share-core Port h x x′ n puts gets e l = l
 share-core Fifo h x x′ n puts gets e l = l ∙ ap (λ (y : List ℕ). gets ++ y) (sym (ap (λ (y : Hub). y .held) e))
 share-core Resource h x x′ n puts gets e l = omega (arith, l, owned-same x x′ e)
+share-core Board h x x′ n puts gets e l = tt
 
 -- ---- what a verdict meets: x is the word that the caller puts
 
@@ -115,6 +121,7 @@ putsBy Put s x fail = []
 putsBy Get s x (met n ws y ms) = wordsPut s ms
 putsBy Get s x notNow = []
 putsBy Get s x fail = []
+putsBy Wipe s x v = []
 
 unfoldable pub getsBy : Side → Verdict → List ℕ
 getsBy NoSide v = []
@@ -124,6 +131,7 @@ getsBy Put fail = []
 getsBy Get (met n ws y ms) = y ∷ []
 getsBy Get notNow = []
 getsBy Get fail = []
+getsBy Wipe v = []
 
 -- ---- the hub table's law
 
@@ -135,10 +143,11 @@ unfolding getsBy hubAfter putsBy
 law-not k NoSide s h x = share-same k h h refl
 law-not k Put s h x = share-same k h h refl
 law-not k Get s h x = share-same k h h refl
+law-not k Wipe s h x = share-same k h h refl
 
 -- x₀ is the word of the call, x the word kept: the same at a Port or FIFO
 law-put : (k : Kind) (s : State) (f : Option ℕ) (h : Hub) (i x₀ x : ℕ) → (bearsWord k ≡ true → x₀ ≡ x) → ((w : ℕ) → f ≡ some w → k ≡ Fifo → h .held ≡ [])
-    → Law k Put s h x (onPut k f h i x₀)
+    → Law k Put s h x (onPut k s f h i x₀)
 unfolding Share bearsWord getsBy holding hubAfter onPut pass putEvent putFifo putPort putResource putSemaphore putsBy
 law-put NoKind s f h i x₀ x q e = tt
 law-put Event s (some w) h i x₀ x q e = (refl, refl)
@@ -160,6 +169,7 @@ law-put Resource s f h i x₀ x q e =
     passes : (f : Option ℕ) → h .count ≡ suc i → Law Resource Put s h x (pass f h)
     passes (some w) e = omega (arith, owned-some h i e, owned-some (hubAfter h (pass (some w) h)) w refl)
     passes none e = omega (arith, owned-some h i e, owned-none (hubAfter h (pass none h)) refl)
+law-put Board s f h i x₀ x q e = tt
 
 law-get : (k : Kind) (s : State) (f : Option ℕ) (h : Hub) (i x : ℕ) → Law k Get s h x (onGet k s f h i)
 unfolding Share getEvent getFifo getPort getResource getSemaphore getsBy holding hubAfter onGet putsBy
@@ -186,19 +196,21 @@ law-get Resource s f h i x =
     condCase (Law Resource Get s h x) (eqb (h .count) 0) _ _
     (λ b. omega (arith, owned-none h (eqb-true (h .count) 0 b), owned-some (hubAfter h (alone (suc i) (h .held) 0)) i refl))
     (λ b. condCase (Law Resource Get s h x) (eqb (h .count) (suc i)) fail notNow (λ _. law-not Resource Get s h x) (λ _. law-not Resource Get s h x))
+law-get Board s f h i x = tt
 
 kept-word : (h : Hub) (c : Call) → c .side ≡ 1 → bearsWord (kindOf (h .kind)) ≡ true → c .word ≡ kept h c
 unfolding kept
 kept-word h c e f = rw (e, f)
 
 -- by side, with the word kept
-pub law-side : (s : State) (h : Hub) (c : Call) → (c .side ≡ 1) ⊎ (c .side ≡ 2)
+pub law-side : (s : State) (h : Hub) (c : Call) → Sided (kindOf (h .kind)) (c .side)
     → ((w : ℕ) → firstWaiting s 2 (h .waiters) ≡ some w → kindOf (h .kind) ≡ Fifo → h .held ≡ [])
     → Law (kindOf (h .kind)) (sideOf (c .side)) s h (kept h c) (onSide (sideOf (c .side)) s h c)
-unfolding onSide sideOf
+unfolding Share onSide sideOf
 law-side s h c (inl e) f =
     subst (λ (d : Side). Law (kindOf (h .kind)) d s h (kept h c) (onSide d s h c)) (ap sideOf (sym e))
     (law-put (kindOf (h .kind)) s (firstWaiting s 2 (h .waiters)) h (c .caller) (c .word) (kept h c) (kept-word h c e) f)
-law-side s h c (inr e) f =
+law-side s h c (inr (inl e)) f =
     subst (λ (d : Side). Law (kindOf (h .kind)) d s h (kept h c) (onSide d s h c)) (ap sideOf (sym e))
     (law-get (kindOf (h .kind)) s _ h (c .caller) (kept h c))
+law-side s h c (inr (inr e)) f = rw (e .1) tt

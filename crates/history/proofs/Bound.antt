@@ -19,9 +19,9 @@ use Rattle.rules.proofs.Valid.{Listed}
 use Rattle.rules.specs.Calls.{AddHub, AddTask, Blank, HubRequest, Resume, Service, Sleep, Start, Stop, Suspend, Tick, Unknown, Yield, serve, serviceOf}
 use Rattle.rules.specs.HubTable.{verdict}
 use Rattle.rules.specs.Lists.{answered, waits}
-use Rattle.rules.specs.Refusals.{WT, goodRequest, goodWait, modeOf, refusalFor, refusalOf}
+use Rattle.rules.specs.Refusals.{WT, goodRequest, goodWait, lastSide, modeOf, refusalFor, refusalOf}
 use Rattle.rules.specs.Reply.{tableAfter}
-use Rattle.rules.specs.Table.{State, Task, task}
+use Rattle.rules.specs.Table.{State, Task, hub, kindOf, task}
 use Rattle.rules.specs.WellFormed.{urgency, within}
 use Rattle.rules.specs.declared.Call.{Call}
 use borrow.Author.Tests.{ne-eqb}
@@ -141,8 +141,8 @@ unfolding goodWait refusalFor
 wt-ticks s l c e m =
     let p = by-running s l c _ e in
     let q = need-zero (ltb (c .target) (length (s .hubs))) 4 _ (p .1) in
-    let r = need-zero (goodRequest c) 5 0 (q .1) in
-    let w : within 1 1000000 (c .ticks) ≡ true = rw m at (and-r (within 1 2 (c .side)) _ (r .0)) in
+    let r = need-zero (goodRequest (kindOf (hub s (c .target) .kind)) c) 5 0 (q .1) in
+    let w : within 1 1000000 (c .ticks) ≡ true = rw m at (and-r (within 1 (lastSide (kindOf (hub s (c .target) .kind))) (c .side)) _ (r .0)) in
     within-true 1 1000000 (c .ticks) w .0
 
 module _ (x : History) (g : Sound x) (c : Call) (sv : serviceOf (c .service) ≡ HubRequest) (e : refusalOf (x .table) c ≡ 0) where

@@ -1,4 +1,4 @@
--- Ten runs drawn by the second program's generator, and what its ledger says of each: the definitions agree, by computation.
+-- Twelve runs of the second program's generator, and what its ledger says of each: the definitions agree, by computation.
 -- Every number here is the second program's: tests/history/runs.c writes the file, tests/history/run compares it.
 -- `Seen` shows the requests at all hubs, and of hub 0 the words met, the count and the words held. In order: the runs, each
 -- with its proof, so that a run that disagrees is named; all of them, and `agree`.
@@ -553,9 +553,123 @@ agrees-10 : Agrees drawn-10
 unfolding drawn-10 shows
 agrees-10 = refl
 
+-- hub 0 is a Board
+unfoldable pub drawn-11 : Drawn
+drawn-11 = record {
+  calls =
+      call 10 4294967295 6 0 2921013769 1 0
+      ∷ call 9 4294967295 3 1 0 4151298261 0
+      ∷ call 1 0 0 2 3 1 3743893785
+      ∷ call 8 4294967295 0 0 2042822398 100267699 0
+      ∷ call 1 0 0 2 3 1 1277269730
+      ∷ call 9 4294967295 3 1 591216254 2147483648 0
+      ∷ call 9 1 3 1 313024475 2503150508 886765957
+      ∷ call 1 1 0 3 1 0 934608582
+      ∷ call 4 1 0 2944021927 4203388413 2867681987 0
+      ∷ call 2 1 2 2210641708 0 2599254132 0
+      ∷ call 1 1 0 2 3 1 3291007262
+      ∷ call 1 2 0 1 3 1 464803428
+      ∷ call 2 2 1 0 261922882 1310961186 0
+      ∷ call 1 2 0 3 1 0 2478175840
+      ∷ call 1 2 0 1 1 0 1
+      ∷ call 1 2 0 1 1 0 4024511934
+      ∷ call 8 2 1528369838 0 3364675218 2879175083 134957516
+      ∷ call 1 2 0 1 3 1 1322425771
+      ∷ call 1 2 0 1 1 0 631021345
+      ∷ call 1 2 0 2 1 0 3349095241
+      ∷ call 1 2 0 2 1 0 892311529
+      ∷ call 2 2 1 1739537252 207712047 150367917 4281877699
+      ∷ call 1 2 0 3 3 1 1326505161
+      ∷ call 1 2 0 2 3 1 3053467209
+      ∷ [];
+  ledger = record {
+    requests =
+        row 0 0 2 0 timedOut 0
+        ∷ row 0 0 2 0 met 464803428
+        ∷ row 1 0 3 0 met 0
+        ∷ row 1 0 2 0 met 464803428
+        ∷ row 2 0 1 464803428 met 0
+        ∷ row 2 0 3 0 met 0
+        ∷ row 2 0 1 1 met 0
+        ∷ row 2 0 1 4024511934 met 0
+        ∷ row 2 0 1 1322425771 met 0
+        ∷ row 2 0 1 631021345 met 0
+        ∷ row 2 0 2 0 met 631021345
+        ∷ row 2 0 2 0 met 631021345
+        ∷ row 2 0 3 0 met 0
+        ∷ row 2 0 2 0 waiting 0
+        ∷ [];
+    puts = 464803428 ∷ 1 ∷ 4024511934 ∷ 1322425771 ∷ 631021345 ∷ [];
+    gets = 464803428 ∷ 464803428 ∷ 631021345 ∷ 631021345 ∷ [];
+    removed = 0;
+    count = 0;
+    held = [];
+  };
+}
+
+agrees-11 : Agrees drawn-11
+unfolding drawn-11 shows
+agrees-11 = refl
+
+-- hub 0 is a Board
+unfoldable pub drawn-12 : Drawn
+drawn-12 = record {
+  calls =
+      call 9 4294967295 0 1 3741406427 0 2811307700
+      ∷ call 9 0 0 1 0 0 0
+      ∷ call 9 0 255 1 0 0 585639495
+      ∷ call 10 0 6 0 0 1 0
+      ∷ call 1 0 0 2 1 0 974677171
+      ∷ call 1 1 0 1 3 7 64167136
+      ∷ call 8 1 89970492 490729638 0 0 2643791205
+      ∷ call 8 1 0 0 3406951744 0 0
+      ∷ call 1 1 0 3 2 0 1824157558
+      ∷ call 1 1 0 3 1 0 4294967295
+      ∷ call 1 1 0 2 3 2 1118700609
+      ∷ call 1 0 0 3 3 4 0
+      ∷ call 9 0 0 1 0 467981266 2415026813
+      ∷ call 1 0 0 2 1 0 4086877699
+      ∷ call 3 3 0 959969514 914157943 0 0
+      ∷ call 1 3 0 2 3 3 0
+      ∷ call 1 2 0 2 2 0 4294967295
+      ∷ call 2 2 0 2763668157 4095840802 2147483648 1895045292
+      ∷ call 1 0 0 2 1 0 980182130
+      ∷ call 1 2 0 1 3 5 4294967295
+      ∷ call 1 1 0 1 1 0 1
+      ∷ call 2 1 3 0 0 0 0
+      ∷ call 5 1 2 3050164511 581371226 2954814998 4294967295
+      ∷ call 8 1 0 1412164313 819726808 0 0
+      ∷ [];
+  ledger = record {
+    requests =
+        row 0 0 2 0 met 64167136
+        ∷ row 1 0 1 64167136 met 0
+        ∷ row 1 0 3 0 met 0
+        ∷ row 1 0 3 0 met 0
+        ∷ row 1 0 2 0 met 4294967295
+        ∷ row 0 0 3 0 met 0
+        ∷ row 0 0 2 0 withdrawn 0
+        ∷ row 3 0 2 0 met 4294967295
+        ∷ row 2 0 2 0 failed 0
+        ∷ row 0 0 2 0 met 4294967295
+        ∷ row 2 0 1 4294967295 met 0
+        ∷ row 1 0 1 1 met 0
+        ∷ [];
+    puts = 64167136 ∷ 4294967295 ∷ 1 ∷ [];
+    gets = 64167136 ∷ 4294967295 ∷ 4294967295 ∷ 4294967295 ∷ [];
+    removed = 0;
+    count = 1;
+    held = 1 ∷ [];
+  };
+}
+
+agrees-12 : Agrees drawn-12
+unfolding drawn-12 shows
+agrees-12 = refl
+
 unfoldable pub drawn : List Drawn
-drawn = drawn-1 ∷ drawn-2 ∷ drawn-3 ∷ drawn-4 ∷ drawn-5 ∷ drawn-6 ∷ drawn-7 ∷ drawn-8 ∷ drawn-9 ∷ drawn-10 ∷ []
+drawn = drawn-1 ∷ drawn-2 ∷ drawn-3 ∷ drawn-4 ∷ drawn-5 ∷ drawn-6 ∷ drawn-7 ∷ drawn-8 ∷ drawn-9 ∷ drawn-10 ∷ drawn-11 ∷ drawn-12 ∷ []
 
 pub agree : Each Agrees drawn
 unfolding Each drawn
-agree = (agrees-1, (agrees-2, (agrees-3, (agrees-4, (agrees-5, (agrees-6, (agrees-7, (agrees-8, (agrees-9, (agrees-10, tt))))))))))
+agree = (agrees-1, (agrees-2, (agrees-3, (agrees-4, (agrees-5, (agrees-6, (agrees-7, (agrees-8, (agrees-9, (agrees-10, (agrees-11, (agrees-12, tt))))))))))))

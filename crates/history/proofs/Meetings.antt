@@ -1,10 +1,11 @@
--- Over a whole run: whatever request is met, one of the calls met it. From what each call says of those that turn met.
+-- Over a whole run: whatever request is met, one of the calls met it. From what each call says of those that turn met, whatever
+-- that is.
 use Prim.Native.Nat.{suc, zero, ℕ}
 use Rattle.history.proofs.Opened.{opened-case}
 use Rattle.history.proofs.Run.{Sound, sound-next}
 use Rattle.history.proofs.Those.{each-append, each-both, each-imp, each-map}
 use Rattle.history.specs.History.{History, Request, again, asked, history, isWaiting, met, next, nextBy, opened, partOf, reread, shown, those, turned, turnedBy, turnedTo, turns}
-use Rattle.history.specs.Statements.{Each, MetBy, MetIn}
+use Rattle.history.specs.Statements.{Each, InOne}
 use Rattle.lists.proofs.Laws.{boolCase}
 use Rattle.rules.specs.Calls.{serviceOf}
 use Rattle.rules.specs.Refusals.{refusalOf}
@@ -39,10 +40,7 @@ as-again P Q s r a =
     (λ b. rw b (λ e. inr (a .1 (rw b (unfold reread in rw e)))))
     (λ b. rw b (λ e. inl (a .0 e)))
 
-module _ (x : History) (c : Call) (m : Each (MetBy (shown (x .table)) (shown (tableAfter (x .table) c)) c) (turnedTo met x c)) (P : Request → Type 0) where
-  abbrev Met : Request → Type 0
-  Met r = MetBy (shown (x .table)) (shown (tableAfter (x .table) c)) c r
-
+module _ (x : History) (c : Call) (M : Request → Type 0) (m : Each M (turnedTo met x c)) (P : Request → Type 0) where
   -- the call's own request opens as waiting
   as-opened : Each (MetAs P) (x .requests) → Each (MetAs P) (opened (partOf (serviceOf (c .service))) (shown (x .table)) c (x .requests))
   as-opened a =
@@ -54,28 +52,28 @@ module _ (x : History) (c : Call) (m : Each (MetBy (shown (x .table)) (shown (ta
       own : MetAs P (asked (shown (x .table)) c)
       own = unfold asked in (λ e. absurd (let z : _≡_ {A = ℕ} 0 1 = cc in omega arith))
 
-  as-next : Each (MetAs P) (x .requests) → Each (MetAs (λ r. P r ⊎ Met r)) (next x c .requests)
+  as-next : Each (MetAs P) (x .requests) → Each (MetAs (λ r. P r ⊎ M r)) (next x c .requests)
   unfolding next turnedTo
   as-next a = by (refusalOf (x .table) c) (unfold turnedTo in m)
     where
       s′ : State
       s′ = shown (tableAfter (x .table) c)
 
-      by : (n : ℕ) → Each Met (turnedBy n met (x .table) c (x .requests)) → Each (MetAs (λ r. P r ⊎ Met r)) (nextBy n x c .requests)
+      by : (n : ℕ) → Each M (turnedBy n met (x .table) c (x .requests)) → Each (MetAs (λ r. P r ⊎ M r)) (nextBy n x c .requests)
       by zero t =
           unfold nextBy turned turnedBy in
           each-map _ (again s′) (opened (partOf (serviceOf (c .service))) (shown (x .table)) c (x .requests))
-          (each-imp _ _ (as-again P Met s′) _ (each-both _ _ _ (as-opened a) (each-passed Met (reread s′) (turns met s′) _ t)))
+          (each-imp _ _ (as-again P M s′) _ (each-both _ _ _ (as-opened a) (each-passed M (reread s′) (turns met s′) _ t)))
       by (suc n) t = unfold nextBy in each-imp (MetAs P) _ (λ r f e. inl (f e)) (x .requests) a
 
 -- ---- any calls
 
-module _ (means : (x : History) → Sound x → (c : Call) → Each (MetBy (shown (x .table)) (shown (tableAfter (x .table) c)) c) (turnedTo met x c)) where
-  pub met-in : (cs : List Call) (x : History) → Sound x → (P : Request → Type 0) → Each (MetAs P) (x .requests) → Each (MetAs (λ r. P r ⊎ MetIn x cs r)) (history x cs .requests)
-  unfolding MetIn history
+module _ (M : History → Call → Request → Type 0) (means : (x : History) → Sound x → (c : Call) → Each (M x c) (turnedTo met x c)) where
+  pub met-in : (cs : List Call) (x : History) → Sound x → (P : Request → Type 0) → Each (MetAs P) (x .requests) → Each (MetAs (λ r. P r ⊎ InOne M x cs r)) (history x cs .requests)
+  unfolding InOne history
   met-in [] x g P a = each-imp (MetAs P) _ (λ r f e. inl (f e)) (x .requests) a
   met-in (c ∷ cs) x g P a =
-      each-imp _ _ (λ r f e. regroup (f e)) _ (met-in cs (next x c) (sound-next x c g) _ (as-next x c (means x g c) P a))
+      each-imp _ _ (λ r f e. regroup (f e)) _ (met-in cs (next x c) (sound-next x c g) _ (as-next x c (M x c) (means x g c) P a))
     where
       regroup : {A B C : Type 0} → (A ⊎ B) ⊎ C → A ⊎ (B ⊎ C)
       regroup (inl (inl a)) = inl a

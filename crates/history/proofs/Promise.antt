@@ -1,4 +1,4 @@
--- Demand 3, for every run: `demand3`, and its consequences `each-met` and `one-each` (the statements: specs/Statements.antt).
+-- Demand 3, for every run: `demand3`, and its consequences `each-met`, `each-read` and `one-each` (the statements: specs/Statements.antt).
 -- A Blank on any 600 words begins a run (`blank-begins`).
 use Prim.Native.Nat.{_+_, _<_, _≤_, suc, zero, ℕ}
 use Rattle.history.proofs.Again.{Entry}
@@ -6,11 +6,11 @@ use Rattle.history.proofs.Balance.{Balanced}
 use Rattle.history.proofs.Bound.{bound}
 use Rattle.history.proofs.Following.{continues-history, own-place}
 use Rattle.history.proofs.Meetings.{met-in}
-use Rattle.history.proofs.Reasons.{class-own, one-met, turned-failed, turned-met, turned-timed, turned-withdrawn}
+use Rattle.history.proofs.Reasons.{class-own, one-met, turned-failed, turned-met, turned-reads, turned-timed, turned-withdrawn}
 use Rattle.history.proofs.Run.{Sound, accepted-service, refusal-shown, shown-next, sound-run}
-use Rattle.history.proofs.Those.{each-imp}
-use Rattle.history.specs.History.{Class, History, Request, asked, at, begun, failed, history, howMany, isOwned, metCount, next, opened, partOf, removedAt, reread, rowClass, shown, those, timedOut, turned, turnedBy, turnedTo, withdrawn, wordsOf}
-use Rattle.history.specs.Statements.{Begins, Demand3, Each, EachMet, MetBy, OneEach, Own, addedAs, requestAt}
+use Rattle.history.proofs.Those.{each-both, each-imp}
+use Rattle.history.specs.History.{Class, History, Request, asked, at, begun, boardWord, failed, history, howMany, isOwned, metCount, next, nextBy, opened, partOf, removedAt, reread, rowClass, shown, those, timedOut, turned, turnedBy, turnedTo, withdrawn, wordsOf}
+use Rattle.history.specs.Statements.{Bears, Begins, Demand3, Each, EachMet, EachRead, Met, MetBy, OneEach, Own, addedAs, requestAt}
 use Rattle.lists.proofs.Laws.{boolCase}
 use Rattle.lists.specs.Lists.{bit}
 use Rattle.rules.proofs.After.{well-formed-not-2}
@@ -20,7 +20,7 @@ use Rattle.rules.specs.Calls.{HubRequest, Stop, Tick, serve, serviceOf}
 use Rattle.rules.specs.HubTable.{verdict}
 use Rattle.rules.specs.Refusals.{refusalFor, refusalOf}
 use Rattle.rules.specs.Reply.{tableAfter}
-use Rattle.rules.specs.Table.{Event, Fifo, Hub, Kind, NoKind, Port, Resource, Semaphore, State, hub, kindOf, noHub}
+use Rattle.rules.specs.Table.{Board, Event, Fifo, Hub, Kind, NoKind, Port, Resource, Semaphore, State, hub, kindOf, noHub}
 use Rattle.rules.specs.WellFormed.{urgency}
 use Rattle.rules.specs.declared.Call.{Call}
 use borrow.Author.Tests.{ltb-false, ltb-true}
@@ -28,6 +28,7 @@ use lib.Dec.{ltb}
 use lib.ListN.{List·getD-eq-default, length, length-map}
 use mathlib.Core.List.{List, []}
 use mathlib.Core.Logic.{_≢_, _⊎_, inl, inr}
+use mathlib.Core.Option.{some}
 use mathlib.Core.Path.{_∙_, _≡_, ap, refl, subst, sym}
 use native.Mathlib.Omega.{arith}
 
@@ -95,6 +96,15 @@ module _ (x : History) (g : Sound x) where
       → Each (P (shown (tableAfter (x .table) c))) (turnedTo k x c)
   each-next k P c f = turned-next k (λ s′ l. Each (P s′) l) c f (λ s′. unfold Each in tt)
 
+  reads : (c : Call) → Each (Bears x c) (turnedTo Class.met x c)
+  unfolding next turnedTo
+  reads c = by (refusalOf (x .table) c) refl
+    where
+      by : (n : ℕ) → refusalOf (x .table) c ≡ n
+          → Each (λ r. kindOf (hub s (r .hub) .kind) ≡ Board → r .side ≡ 2 → boardWord (r .hub) (nextBy n x c .calls) ≡ some (r .received)) (turnedBy n Class.met (x .table) c (x .requests))
+      by zero e = unfold nextBy turnedBy in rw (shown-next x c e) (turned-reads (urgency s) _ s (x .requests) c (x .calls) (g .account .agree) (g .valid) (g .boards) (accepted-service x c e))
+      by (suc n) e = unfold Each turnedBy in tt
+
   own : (c : Call) → serviceOf (c .service) ≡ HubRequest → refusalOf (x .table) c ≡ 0
       → requestAt (next x c) (length (x .requests)) .class ≡ rowClass (verdict s c) c
   unfolding asked reread
@@ -114,6 +124,8 @@ module _ (x : History) (g : Sound x) where
     fifo = λ h e. unfold Balanced in balanced h Fifo e;
     port = λ h e. unfold Balanced in balanced h Port e;
     resource = resource;
+    board = g .boards .each;
+    reads = reads;
     own = own;
     metMeansMet = λ c. each-next Class.met (λ s′. MetBy s s′ c) c (λ o. turned-met (urgency s) _ s (x .requests) c (g .account .agree) (g .valid) o refl);
     fails = λ c. each-next failed (λ s′. Own c) c (λ o. turned-failed (urgency s) _ s (x .requests) c (g .account .agree) (g .valid) o refl);
@@ -130,7 +142,7 @@ module _ (x : History) (g : Sound x) where
   sound-one : OneEach x
   sound-one c h d e =
       turned-next Class.met (λ s′ l. howMany (at h d) l ≤ 1) c
-      (λ o. one-met (urgency s) _ s (x .requests) c (g .account .agree) (g .valid) o h d)
+      (λ o. one-met (urgency s) _ s (x .requests) c (g .account .agree) (g .valid) o h d e)
       (λ s′. unfold those in omega arith)
 
 -- ---- every run
@@ -138,14 +150,20 @@ module _ (x : History) (g : Sound x) where
 pub demand3 : (w : List ℕ) (b : Call) → Begins w b → (cs : List Call) → Demand3 (history (begun (tableAfter w b)) cs)
 demand3 w b g cs = sound-demand _ (sound-run w b g cs)
 
+only : {A : Type 0} → ⊥ ⊎ A → A
+only (inl z) = absurd z
+only (inr a) = a
+
 pub each-met : (w : List ℕ) (b : Call) → Begins w b → (cs : List Call) → EachMet (begun (tableAfter w b)) cs
 each-met w b g cs =
     each-imp _ _ (λ r f e. only (f e)) _
-    (met-in (λ x k. sound-demand x k .metMeansMet) cs (begun (tableAfter w b)) (unfold history in sound-run w b g []) (λ r. ⊥) (unfold Each begun in tt))
-  where
-    only : {A : Type 0} → ⊥ ⊎ A → A
-    only (inl z) = absurd z
-    only (inr a) = a
+    (met-in Met (λ x k. sound-demand x k .metMeansMet) cs (begun (tableAfter w b)) (unfold history in sound-run w b g []) (λ r. ⊥) (unfold Each begun in tt))
+
+pub each-read : (w : List ℕ) (b : Call) → Begins w b → (cs : List Call) → EachRead (begun (tableAfter w b)) cs
+each-read w b g cs =
+    each-imp _ _ (λ r f e. only (f e)) _
+    (met-in (λ x c r. Met x c r × Bears x c r) (λ x k c. each-both _ _ _ (sound-demand x k .metMeansMet c) (sound-demand x k .reads c)) cs (begun (tableAfter w b))
+    (unfold history in sound-run w b g []) (λ r. ⊥) (unfold Each begun in tt))
 
 pub one-each : (w : List ℕ) (b : Call) → Begins w b → (cs : List Call) → OneEach (history (begun (tableAfter w b)) cs)
 one-each w b g cs = sound-one _ (sound-run w b g cs)

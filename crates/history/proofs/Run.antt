@@ -2,6 +2,7 @@
 -- the state shown (`Sound`). From words to states by the rules' own promises (rules' Promise.antt); all else is of states.
 use Prim.Native.Nat.{suc, zero, ℕ}
 use Rattle.history.proofs.Account.{Account, account-blank, account-serve}
+use Rattle.history.proofs.Boards.{Boards, boards-blank, boards-serve}
 use Rattle.history.proofs.Made.{Makes, makes-blank, makes-serve}
 use Rattle.history.specs.History.{History, begun, history, next, nextBy, shown, turnedBy}
 use Rattle.history.specs.Statements.{Begins}
@@ -25,6 +26,7 @@ pub record Sound (x : History) : Type 0 where
   pub valid : Valid (shown (x .table))
   pub account : Account (shown (x .table)) (x .requests) (x .met) (x .removed)
   pub makes : Makes (shown (x .table)) (x .added)
+  pub boards : Boards (shown (x .table)) (x .calls)
 
 -- ---- a call, by its service on the state shown
 
@@ -49,12 +51,14 @@ sound-by zero x c g e = record {
   valid = read-valid (tableAfter (x .table) c) (well-formed-after (x .table) c e);
   account = rw (shown-next x c e) (account-serve _ (serviceOf (c .service)) (shown (x .table)) (x .requests) (x .met) (x .removed) c (g .account) (g .valid) (accepted-service x c e));
   makes = rw (shown-next x c e) (makes-serve _ (serviceOf (c .service)) (shown (x .table)) c (x .added) (g .valid .listed) (accepted-service x c e) (g .makes));
+  boards = rw (shown-next x c e) (boards-serve _ (serviceOf (c .service)) (shown (x .table)) c (x .calls) (g .valid .listed) (accepted-service x c e) (g .boards));
 }
 sound-by (suc n) x c g e = record {
   formed = rw (refused-leaves (x .table) c n e .0) (g .formed);
   valid = rw (refused-leaves (x .table) c n e .0) (g .valid);
   account = rw (refused-leaves (x .table) c n e .0) (g .account);
   makes = rw (refused-leaves (x .table) c n e .0) (g .makes);
+  boards = rw (refused-leaves (x .table) c n e .0) (g .boards);
 }
 
 pub sound-next : (x : History) (c : Call) → Sound x → Sound (next x c)
@@ -81,4 +85,5 @@ sound-run w b g cs = sound-history _ cs first
       valid = read-valid (tableAfter w b) (well-formed-after w b (g .accepted));
       account = rw (first-shown w b g) account-blank;
       makes = rw (first-shown w b g) makes-blank;
+      boards = rw (first-shown w b g) boards-blank;
     }

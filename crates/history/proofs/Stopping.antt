@@ -37,7 +37,7 @@ use mathlib.Core.Option.{Option, none, some}
 use mathlib.Core.Path.{_∙_, _≡_, ap, refl, subst, sym}
 use native.Mathlib.Omega.{arith}
 
-handed-kind : (i : ℕ) (f : Option ℕ) (x : Hub) → handed i f x .kind ≡ x .kind
+pub handed-kind : (i : ℕ) (f : Option ℕ) (x : Hub) → handed i f x .kind ≡ x .kind
 handed-kind i f x =
     boolCase (owns i x)
     (λ o. ap (λ (y : Hub). y .kind) (handed-owned i f x o) ∙ after-kind x (pass f x))

@@ -1,17 +1,19 @@
 -- A run, and what became of each accepted hub request in it, read from the calls and the tables around them: definitions.
--- In order: the classes; a request, and a request read again; the run so far, call by call; what is counted of it.
+-- In order: the classes; a request, and a request read again; the run so far, call by call; what is counted of it; what stands on
+-- a Board.
 -- Not here: what is promised of a run (Statements.antt), a run worked out (Worked.antt).
 use Prim.Native.Nat.{suc, zero, ℕ}
 use Rattle.rules.specs.Calls.{AddHub, AddTask, Blank, HubRequest, Resume, Service, Sleep, Start, Stop, Suspend, Tick, Unknown, Yield, kept, serviceOf}
 use Rattle.rules.specs.HubTable.{Verdict, fail, notNow}
 use Rattle.rules.specs.Refusals.{refusalOf}
 use Rattle.rules.specs.Reply.{tableAfter}
-use Rattle.rules.specs.Table.{Hub, Inactive, NoStage, Ready, Sleeping, Stage, State, Task, Waiting, hub, one, owns, read, stageOf, tab, task}
+use Rattle.rules.specs.Table.{Get, Hub, Inactive, NoSide, NoStage, Put, Ready, Side, Sleeping, Stage, State, Task, Waiting, Wipe, hub, one, owns, read, sideOf, stageOf, tab, task}
 use Rattle.rules.specs.declared.Call.{Call}
 use lib.Dec.{eqb}
 use lib.ListN.{getD, length}
 use mathlib.Core.Bool.{Bool, _&&_, cond, not}
 use mathlib.Core.List.{List, [], _++_, _∷_, map}
+use mathlib.Core.Option.{Option, none, some}
 
 -- ---- lists
 
@@ -133,17 +135,18 @@ partOf Unknown = passes
 
 -- the table as it stands; the accepted hub requests since the last Blank, in the order of the calls; those that are met, in
 -- the order of meeting; the accepted Add hub calls, in order: hub h is made by the one at place h; the hubs whose owner a Stop
--- removed, in the order of the calls
+-- removed, in the order of the calls; the accepted hub requests as they were called, in order
 pub record History : Type 0 where
   pub table : List ℕ
   pub requests : List Request
   pub met : List Request
   pub added : List Call
   pub removed : List ℕ
+  pub calls : List Call
 
 -- a run's beginning: the table after an accepted Blank
 unfoldable pub begun : List ℕ → History
-begun t = record { table = t; requests = []; met = []; added = []; removed = [] }
+begun t = record { table = t; requests = []; met = []; added = []; removed = []; calls = [] }
 
 -- the requests that the table after an accepted call is read for: with its own, where it opens one
 unfoldable pub opened : Part → State → Call → List Request → List Request
@@ -164,6 +167,12 @@ made begins c cs = []
 made opens c cs = cs
 made adds c cs = cs ++ c ∷ []
 made passes c cs = cs
+
+unfoldable pub called : Part → Call → List Call → List Call
+called begins c cs = []
+called opens c cs = cs ++ c ∷ []
+called adds c cs = cs
+called passes c cs = cs
 
 -- M-101 "owners removed by Stop": an accepted Stop with answer 1, and each hub that its target owned in the table before; s is
 -- the state before the call, s′ the one after it
@@ -198,6 +207,7 @@ nextBy zero x c = record {
   met = sinceBlank (partOf (serviceOf (c .service))) (x .met) ++ turnedBy 0 met (x .table) c (x .requests);
   added = made (partOf (serviceOf (c .service))) c (x .added);
   removed = sinceBlank (partOf (serviceOf (c .service))) (x .removed) ++ removedBy (serviceOf (c .service)) (shown (x .table)) (shown (tableAfter (x .table) c)) c;
+  calls = called (partOf (serviceOf (c .service))) c (x .calls);
 }
 nextBy (suc r) x c = record {
   table = tableAfter (x .table) c;
@@ -205,6 +215,7 @@ nextBy (suc r) x c = record {
   met = x .met;
   added = x .added;
   removed = x .removed;
+  calls = x .calls;
 }
 
 unfoldable pub next : History → Call → History
@@ -244,3 +255,26 @@ passed r = cond (eqb (r .side) 1) (r .word) (r .received)
 -- the words of those of a side at a hub
 unfoldable pub wordsOf : ℕ → ℕ → List Request → List ℕ
 wordsOf h d rs = map passed (those (at h d) rs)
+
+-- ---- what stands on a Board (M-103), from the calls alone
+
+-- one more accepted request of it: an update writes its word, a read leaves what stands there, a wipe takes it away
+unfoldable pub boardBy : Side → Call → Option ℕ → Option ℕ
+boardBy NoSide c o = o
+boardBy Put c o = some (c .word)
+boardBy Get c o = o
+boardBy Wipe c o = none
+
+-- behind these calls, in order, where o stood on hub h before them
+unfoldable pub boardFrom : ℕ → Option ℕ → List Call → Option ℕ
+boardFrom h o [] = o
+boardFrom h o (c ∷ cs) = boardFrom h (cond (eqb (c .target) h) (boardBy (sideOf (c .side)) c o) o) cs
+
+-- "the word of the last update ..., with no wipe between": none where there is no such update
+abbrev pub boardWord : ℕ → List Call → Option ℕ
+boardWord h cs = boardFrom h none cs
+
+-- as a store holds it
+unfoldable pub written : Option ℕ → List ℕ
+written none = []
+written (some x) = x ∷ []

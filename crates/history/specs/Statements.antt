@@ -1,16 +1,17 @@
--- Demand 3: what holds of every run. `Demand3` is the whole of it, a field for each sentence; `EachMet` and `OneEach` are
--- consequences, said by themselves. The proofs are elsewhere: `demand3`, `each-met`, `one-each` of proofs/Promise.antt.
+-- Demand 3: what holds of every run. `Demand3` is the whole of it, a field for each sentence; `EachMet`, `EachRead` and `OneEach`
+-- are consequences, said by themselves. The proofs are elsewhere: `demand3`, `each-met`, `each-read`, `one-each` of
+-- proofs/Promise.antt.
 -- A run: a Blank, accepted, on any 600 words (`Begins`), and then any calls, any seven numbers each, refused ones included;
 -- x is its history (History.antt), and x .table the table as it stands.
 use Prim.Native.Nat.{_+_, _<_, _≤_, suc, ℕ}
-use Rattle.history.specs.History.{History, Request, at, classOf, failed, history, howMany, isMet, isOwned, met, metCount, next, removedAt, rowClass, shown, timedOut, turnedTo, unread, waiting, waitsBy, withdrawn, wordsOf}
-use Rattle.lists.specs.Lists.{bit}
+use Rattle.history.specs.History.{History, Request, at, boardWord, classOf, failed, history, howMany, isMet, isOwned, met, metCount, next, removedAt, rowClass, shown, timedOut, turnedTo, unread, waiting, waitsBy, withdrawn, wordsOf, written}
+use Rattle.lists.specs.Lists.{bit, occ}
 use Rattle.rules.specs.Calls.{Blank, HubRequest, Stop, Tick, serviceOf}
 use Rattle.rules.specs.HubTable.{Meeting, Verdict, verdict}
 use Rattle.rules.specs.Lists.{firstWaiting}
 use Rattle.rules.specs.Refusals.{WT, modeOf, refusalOf}
 use Rattle.rules.specs.Reply.{tableAfter}
-use Rattle.rules.specs.Table.{Event, Fifo, Hub, Port, Resource, Semaphore, State, hub, kindOf, owns, task}
+use Rattle.rules.specs.Table.{Board, Event, Fifo, Hub, Port, Resource, Semaphore, State, hub, kindOf, owns, task}
 use Rattle.rules.specs.WellFormed.{wellFormed}
 use Rattle.rules.specs.declared.Call.{Call}
 use lib.Dec.{eqb}
@@ -120,11 +121,27 @@ pub record ByStop (s s′ : State) (c : Call) (r : Request) : Type 0 where
   pub first : firstWaiting s 2 (hub s (r .hub) .waiters) ≡ some (r .task)
   pub owner : owns (r .task) (hub s′ (r .hub)) ≡ true
 
+-- M-103: a reader that waited at a Board which the call updates; it bears the update's word
+pub record ByUpdate (s s′ : State) (c : Call) (r : Request) : Type 0 where
+  pub service : serviceOf (c .service) ≡ HubRequest
+  pub board : kindOf (hub s (c .target) .kind) ≡ Board
+  pub update : c .side ≡ 1
+  pub place : r .hub ≡ c .target
+  pub side : r .side ≡ 2
+  pub waited : 1 ≤ occ (r .task) (hub s (c .target) .waiters)
+  pub word : r .received ≡ c .word
+  pub caller : classOf (task s′ (c .caller)) ≡ met
+
 -- who met r in call c
 pub data MetBy (s s′ : State) (c : Call) (r : Request) : Type 0 where
   itself : ByRow s s′ c r → MetBy s s′ c r
   partner : ByCaller s s′ c r → MetBy s s′ c r
   passed : ByStop s s′ c r → MetBy s s′ c r
+  updated : ByUpdate s s′ c r → MetBy s s′ c r
+
+-- r, if it reads a Board, bears the word that stands there after call c by the calls alone, and there is one
+abbrev pub Bears : History → Call → Request → Type 0
+Bears x c r = kindOf (hub (shown (x .table)) (r .hub) .kind) ≡ Board → r .side ≡ 2 → boardWord (r .hub) (next x c .calls) ≡ some (r .received)
 
 -- ---- demand 3
 
@@ -155,12 +172,16 @@ pub record Demand3 (x : History) : Type 0 where
   -- Resource: met locks less met unlocks less owners removed by Stop is 1 when owned and 0 when free
   pub resource : (h : ℕ) → kindOf (hub (shown (x .table)) h .kind) ≡ Resource
       → metCount h 2 (x .requests) ≡ metCount h 1 (x .requests) + removedAt h (x .removed) + bit (isOwned (hub (shown (x .table)) h))
+  -- Board: it holds the word of the last update, with no wipe after it, or none
+  pub board : (h : ℕ) → kindOf (hub (shown (x .table)) h .kind) ≡ Board → hub (shown (x .table)) h .held ≡ written (boardWord h (x .calls))
+  -- "every met read bears the word of the last update up to its meeting, with no wipe between": whoever turns met in a call
+  pub reads : (c : Call) → Each (Bears x c) (turnedTo met x c)
   -- a request is met, fails or waits as the hub table's row for it says: call c opens it, and it takes the next place
   pub own : (c : Call) → serviceOf (c .service) ≡ HubRequest → refusalOf (x .table) c ≡ 0
       → requestAt (next x c) (length (x .requests)) .class ≡ rowClass (verdict (shown (x .table)) c) c
   -- a request that came back is never met unless somebody, or the hub's own count or store, met it: whoever turns met in a
   -- call is its caller, by the hub table's row, or the first waiter of the other side at its hub, the caller being met too, or
-  -- the first waiter of a Resource whose owner the call stopped
+  -- the first waiter of a Resource whose owner the call stopped, or a reader of the Board that the call updates
   pub metMeansMet : (c : Call) → Each (MetBy (shown (x .table)) (shown (tableAfter (x .table) c)) c) (turnedTo met x c)
   -- a request fails in its own call only, times out in a Tick only, is withdrawn by a Stop of its task only
   pub fails : (c : Call) → Each (Own c) (turnedTo failed x c)
@@ -176,14 +197,22 @@ pub record Demand3 (x : History) : Type 0 where
   pub blanks : (c : Call) → serviceOf (c .service) ≡ Blank → refusalOf (x .table) c ≡ 0
   pub ticks : (c : Call) → serviceOf (c .service) ≡ Tick → refusalOf (x .table) c ≡ 0
 
--- r is met in one of the calls after x
-unfoldable pub MetIn : History → List Call → Request → Type 0
-MetIn x [] r = ⊥
-MetIn x (c ∷ cs) r = MetBy (shown (x .table)) (shown (tableAfter (x .table) c)) c r ⊎ MetIn (next x c) cs r
+-- P of one of the calls after x, and of r
+unfoldable pub InOne : (History → Call → Request → Type 0) → History → List Call → Request → Type 0
+InOne P x [] r = ⊥
+InOne P x (c ∷ cs) r = P x c r ⊎ InOne P (next x c) cs r
+
+-- call c, after x, met r
+abbrev pub Met : History → Call → Request → Type 0
+Met x c r = MetBy (shown (x .table)) (shown (tableAfter (x .table) c)) c r
 
 -- The shift leader's sentence, over a whole run, which begins at x: whatever request is met, one of the run's calls met it.
 abbrev pub EachMet : History → List Call → Type 0
-EachMet x cs = Each (λ r. r .class ≡ met → MetIn x cs r) (history x cs .requests)
+EachMet x cs = Each (λ r. r .class ≡ met → InOne Met x cs r) (history x cs .requests)
+
+-- M-103, over a whole run: the call that met a read of a Board is one after which the read's word stands on it.
+abbrev pub EachRead : History → List Call → Type 0
+EachRead x cs = Each (λ r. r .class ≡ met → InOne (λ x c r. Met x c r × Bears x c r) x cs r) (history x cs .requests)
 
 -- One call meets at most one put and one get of a FIFO. Nothing above leans on it.
 abbrev pub OneEach : History → Type 0

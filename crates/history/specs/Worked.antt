@@ -1,14 +1,14 @@
--- Three runs worked out over the tables themselves, by computation: the marked calls of document 01, one with a Stop of a task
--- that waits, one with a Stop of a task that owns a Resource (M-101).
+-- Four runs worked out over the tables themselves, by computation: the marked calls of document 01, one with a Stop of a task
+-- that waits, one with a Stop of a task that owns a Resource (M-101), one of a Board (M-103).
 -- A line for each call behind the Blank, a line for each request that the calls opened; refused calls open none.
 use Prim.Native.Nat.{ℕ}
-use Rattle.history.specs.History.{Class, History, Request, again, asked, begun, classBy, classOf, failed, history, made, met, metCount, next, nextBy, opened, partOf, removedAt, removedBy, reread, shown, sinceBlank, those, timedOut, turned, turnedBy, turnedTo, waiting, withdrawn, wordsOf}
+use Rattle.history.specs.History.{Class, History, Request, again, asked, begun, called, classBy, classOf, failed, history, made, met, metCount, next, nextBy, opened, partOf, removedAt, removedBy, reread, shown, sinceBlank, those, timedOut, turned, turnedBy, turnedTo, waiting, withdrawn, wordsOf}
 use Rattle.lists.specs.Lists.{allZero, entries, insert, numbers, occ, packed, without}
 use Rattle.rules.specs.Calls.{addHub, addStarted, addTask, blank, carryOut, deactivate, flag, grant, hold, kept, meetAll, newHub, passAll, passOne, serve, served, serviceOf, settle, slept, start, stop, tickAll, tickBy, tickOne, wait, yielded}
-use Rattle.rules.specs.HubTable.{getEvent, getFifo, getPort, getResource, getSemaphore, onGet, onPut, onSide, pass, putEvent, putFifo, putPort, putResource, putSemaphore, verdict}
+use Rattle.rules.specs.HubTable.{getBoard, getEvent, getFifo, getPort, getResource, getSemaphore, onGet, onPut, onSide, onWipe, pass, putBoard, putEvent, putFifo, putPort, putResource, putSemaphore, readers, verdict}
 use Rattle.rules.specs.Lists.{answer, answered, asleep, counted, firstFree, firstWaiting, flagged, holding, joinHub, joinReady, leave, queued, readied, unqueue, waits, wake}
 use Rattle.rules.specs.Lists.{next as running}
-use Rattle.rules.specs.Refusals.{byRunning, goodHub, goodWait, modeOf, need, onTask, refusal, refusalFor, refusalIn}
+use Rattle.rules.specs.Refusals.{byRunning, goodHub, goodWait, lastSide, modeOf, need, onTask, refusal, refusalFor, refusalIn}
 use Rattle.rules.specs.Reply.{tableAfter, tableBy, tableIn}
 use Rattle.rules.specs.Table.{contents, heldIn, hub, hubAt, inactive, isResource, kindOf, noHub, owns, read, rows, setHub, setReady, setTask, sideOf, stageOf, tab, taskAt, words}
 use Rattle.rules.specs.WellFormed.{bearsWord, contentsRight, every, exactly, fieldsRight, forAll, hubsRight, inOrder, kindRight, listsExact, listsPacked, mayWait, oneSide, ownerRight, ownersRight, rising, stageRight, storeRight, storesRight, tasksRight, unusedZero, valid, waitersRight, wellFormedIn, written}
@@ -49,7 +49,7 @@ seen x = record {
 
 -- what is seen of a run; to unfold it is to unfold all that it computes with
 unfoldable pub shows : List Call → Seen
-unfolding addHub addStarted addTask again allZero answer answered asked asleep bearsWord begun blank byRunning carryOut classBy classOf contents contentsRight counted deactivate entries every exactly fieldsRight firstFree firstWaiting flag flagged forAll getEvent getFifo getPort getResource getSemaphore goodHub goodWait grant heldIn history hold holding hubAt hubsRight inOrder inactive insert isResource joinHub joinReady kept kindOf kindRight leave listsExact listsPacked made mayWait meetAll metCount modeOf need newHub next nextBy noHub numbers occ onGet onPut onSide onTask oneSide opened ownerRight ownersRight owns packed partOf pass passAll passOne putEvent putFifo putPort putResource putSemaphore queued read readied refusal refusalFor refusalIn removedBy reread rising rows run running seen serve served serviceOf setHub setReady setTask settle sideOf sinceBlank slept stageOf stageRight start stop storeRight storesRight tab tableBy tableIn taskAt tasksRight those tickAll tickBy tickOne turned turnedBy turnedTo unqueue unusedZero valid verdict wait waitersRight waits wake wellFormedIn without words wordsOf written yielded
+unfolding addHub addStarted addTask again allZero answer answered asked asleep bearsWord begun blank byRunning called carryOut classBy classOf contents contentsRight counted deactivate entries every exactly fieldsRight firstFree firstWaiting flag flagged forAll getBoard getEvent getFifo getPort getResource getSemaphore goodHub goodWait grant heldIn history hold holding hubAt hubsRight inOrder inactive insert isResource joinHub joinReady kept kindOf kindRight lastSide leave listsExact listsPacked made mayWait meetAll metCount modeOf need newHub next nextBy noHub numbers occ onGet onPut onSide onTask onWipe oneSide opened ownerRight ownersRight owns packed partOf pass passAll passOne putBoard putEvent putFifo putPort putResource putSemaphore queued read readers readied refusal refusalFor refusalIn removedBy reread rising rows run running seen serve served serviceOf setHub setReady setTask settle sideOf sinceBlank slept stageOf stageRight start stop storeRight storesRight tab tableBy tableIn taskAt tasksRight those tickAll tickBy tickOne turned turnedBy turnedTo unqueue unusedZero valid verdict wait waitersRight waits wake wellFormedIn without words wordsOf written yielded
 shows cs = seen (run cs)
 
 -- the marked calls behind the Blank
@@ -95,6 +95,23 @@ passes =
     ∷ call 1 1 0 1 1 0 0  -- task 1 unlocks: met, and it is free
     ∷ []
 
+-- a Board: two readers wait, the more urgent one behind the other in time and before it in the list; an update meets both
+unfoldable pub boarded : List Call
+boarded =
+    call 9 0 2 1 0 0 0  -- task 0, priority 2, started
+    ∷ call 10 0 6 0 0 1 0  -- hub 0, a Board
+    ∷ call 1 0 0 2 1 0 0  -- task 0 reads: nothing is written, it waits
+    ∷ call 9 0 1 1 0 0 0  -- task 1, priority 1, started
+    ∷ call 1 1 0 2 3 5 0  -- task 1 reads under WT: it waits
+    ∷ call 9 0 3 1 0 0 0  -- task 2, priority 3, started
+    ∷ call 1 2 0 1 1 0 41  -- task 2 writes 41: both readers are met with it
+    ∷ call 1 1 0 2 2 0 0  -- task 1 reads 41 again: it isn't taken
+    ∷ call 1 1 0 1 2 0 42  -- and writes 42 over it
+    ∷ call 1 1 0 3 1 0 9  -- wipes
+    ∷ call 1 1 0 2 2 0 0  -- reads under NW: failed
+    ∷ call 1 1 0 1 1 0 0  -- writes 0, a word as any other
+    ∷ []
+
 --       task hub side word class received
 pub worked : (
     shows marked ≡ record {
@@ -135,6 +152,24 @@ pub worked : (
       count = 0;
       held = [];
     }
+    ) × (
+    shows boarded ≡ record {
+      requests =
+          row 0 0 2 0 met 41
+          ∷ row 1 0 2 0 met 41
+          ∷ row 2 0 1 41 met 0
+          ∷ row 1 0 2 0 met 41
+          ∷ row 1 0 1 42 met 0
+          ∷ row 1 0 3 0 met 0
+          ∷ row 1 0 2 0 failed 0
+          ∷ row 1 0 1 0 met 0
+          ∷ [];
+      puts = 41 ∷ 42 ∷ 0 ∷ [];
+      gets = 41 ∷ 41 ∷ 41 ∷ [];
+      removed = 0;
+      count = 1;
+      held = 0 ∷ [];
+    }
     )
-unfolding marked passes shows stopped
-worked = (refl, refl, refl)
+unfolding boarded marked passes shows stopped
+worked = (refl, refl, refl, refl)

@@ -4,9 +4,9 @@
 use Prim.Native.Nat.{_-_, _<_, _≤_, pred, suc, zero, ℕ}
 use Rattle.hubtable.specs.Says.{metWith}
 use Rattle.records.specs.Records.{first}
-use Rattle.rules.proofs.Valid.{Range}
-use Rattle.rules.specs.HubTable.{getEvent, getFifo, getSemaphore, met, notNow, onGet, onPut, pass, putEvent, putSemaphore}
-use Rattle.rules.specs.Table.{Event, Fifo, Hub, NoKind, Port, Resource, Semaphore, State, kindOf, task}
+use Rattle.rules.proofs.Valid.{Held, Range}
+use Rattle.rules.specs.HubTable.{fail, getBoard, getEvent, getFifo, getSemaphore, met, notNow, onGet, onPut, onWipe, pass, putEvent, putSemaphore}
+use Rattle.rules.specs.Table.{Board, Event, Fifo, Hub, NoKind, Port, Resource, Semaphore, State, kindOf, task}
 use lib.Dec.{eqb, eqb·suc-suc}
 use lib.ListN.{List·getD-eq-default, drop, getD, length}
 use mathlib.Core.List.{List, [], _++_, _∷_}
@@ -46,9 +46,43 @@ fifo-pair s (y ∷ l) w x h = refl
 
 -- ---- the kinds
 
-pub no-kind : (n : ℕ) → 6 ≤ n → kindOf n ≡ NoKind
+pub no-kind : (n : ℕ) → 7 ≤ n → kindOf n ≡ NoKind
 unfolding kindOf
-no-kind n h = List·getD-eq-default (NoKind ∷ Event ∷ Semaphore ∷ Port ∷ Fifo ∷ Resource ∷ []) NoKind h
+no-kind n h = List·getD-eq-default (NoKind ∷ Event ∷ Semaphore ∷ Port ∷ Fifo ∷ Resource ∷ Board ∷ []) NoKind h
+
+-- a kind that is no Board's number is not a Board
+pub no-wipe : (n : ℕ) → (n ≡ 6 → ⊥) → fail ≡ onWipe (kindOf n)
+unfolding kindOf onWipe
+no-wipe zero h = refl
+no-wipe (suc zero) h = refl
+no-wipe (suc (suc zero)) h = refl
+no-wipe (suc (suc (suc zero))) h = refl
+no-wipe (suc (suc (suc (suc zero)))) h = refl
+no-wipe (suc (suc (suc (suc (suc zero))))) h = refl
+no-wipe (suc (suc (suc (suc (suc (suc zero)))))) h = absurd (h refl)
+no-wipe (suc (suc (suc (suc (suc (suc (suc n))))))) h = refl
+
+-- ---- a Board, by the words held
+
+pub board-one : (x : Hub) (T : ℕ) → Range Board T x → Held Board x → length (x .held) ≤ 1
+unfolding Held Range
+board-one x T r e = omega (arith, r .0, e)
+
+-- of at most one word nothing is left when the oldest goes
+pub at-most-none : (l : List ℕ) → length l ≤ 1 → drop 1 l ≡ []
+at-most-none [] h = refl
+at-most-none (x ∷ []) h = refl
+at-most-none (x ∷ (y ∷ l)) h = absurd (omega arith)
+
+pub board-empty : (l : List ℕ) (x : Hub) → length l ≡ 0 → notNow ≡ getBoard l x
+unfolding getBoard
+board-empty [] x e = refl
+board-empty (y ∷ l) x e = absurd (omega (arith, e))
+
+pub board-written : (l : List ℕ) (x : Hub) → (length l ≡ 0 → ⊥) → met (x .count) (x .held) (getD l 0 0) [] ≡ getBoard l x
+unfolding getBoard
+board-written [] x h = absurd (h refl)
+board-written (y ∷ l) x h = refl
 
 -- ---- the kinds that count: 1 Event, 2 Semaphore
 
@@ -73,12 +107,12 @@ event-get (some w) x few = ⊎-elim (λ z. rw z) (λ z. rw z) (at-most-one (x .c
 event-get none x few = ⊎-elim (λ z. rw z) (λ z. rw z) (at-most-one (x .count) few)
 
 module _ (f : Option ℕ) (x : Hub) (T caller : ℕ) where
-  pub counted-put : (word n : ℕ) → 1 ≤ n → n < 3 → Range (kindOf n) T x → putSemaphore f x ≡ onPut (kindOf n) f x caller word
+  pub counted-put : (word n : ℕ) → 1 ≤ n → n < 3 → Range (kindOf n) T x → (s : State) → putSemaphore f x ≡ onPut (kindOf n) s f x caller word
   unfolding Range kindOf onPut
-  counted-put word zero lo hi r = absurd (omega arith)
-  counted-put word (suc zero) lo hi r = event-put f x (r .0) (r .1)
-  counted-put word (suc (suc zero)) lo hi r = refl
-  counted-put word (suc (suc (suc n))) lo hi r = absurd (omega arith)
+  counted-put word zero lo hi r s = absurd (omega arith)
+  counted-put word (suc zero) lo hi r s = event-put f x (r .0) (r .1)
+  counted-put word (suc (suc zero)) lo hi r s = refl
+  counted-put word (suc (suc (suc n))) lo hi r s = absurd (omega arith)
 
   pub counted-get : (s : State) (n : ℕ) → 1 ≤ n → n < 3 → Range (kindOf n) T x → getSemaphore f x ≡ onGet (kindOf n) s f x caller
   unfolding Range kindOf onGet

@@ -1,4 +1,4 @@
-// The hub table of document 01: what a hub says of a put or a get, by its record, the first waiter of the other side and, of
+// The hub table of document 01: what a hub says of a put, a get or a wipe, by its record, the first waiter of the other side and, of
 // a get, the words that may be received. A waiter is a task number plus 1, or 0 for none.
 // A message is one number; what a verdict says of messages is below any bound that those handed in are below.
 // Not here: where the words stand in the table, and what a verdict does to it.
@@ -6,7 +6,7 @@ ghost use Prim.Native.Nat.{_<_, suc, ℕ};
 ghost use Rattle.hubtable.specs.Says.{Below, RecordOf, StoreBelow, metWith, says, storeAfter};
 ghost use Rattle.records.specs.Records.{first};
 ghost use Rattle.rules.proofs.Valid.{Held, Range};
-ghost use Rattle.rules.specs.HubTable.{getFifo, getPort, getResource, getSemaphore, met, onGet, onPut, putFifo, putPort, putResource, putSemaphore};
+ghost use Rattle.rules.specs.HubTable.{getBoard, getFifo, getPort, getResource, getSemaphore, met, onGet, onPut, onWipe, putFifo, putPort, putResource, putSemaphore};
 ghost use Rattle.rules.specs.Table.{Hub, State, kindOf, task};
 ghost use lib.Dec.{eqb};
 ghost use lib.ListN.{getD, length};
@@ -187,10 +187,36 @@ fn get_resource(h: HubRecord, caller: u32) -> Verdict
     Verdict::NotNow
 }
 
+// Board: "reads without taking, its word the board's; on an unwritten board it is 'not now'"
+fn get_board(h: HubRecord, word: u64) -> Verdict
+    ensures { λ r. ⌜ ((x : Hub) → RecordOf h x → x .count ≡ length (x .held) → word ≡ getD (x .held) 0 0
+        → says (x .held) r ≡ getBoard (x .held) x) ⌝ }
+    ensures { λ r. ⌜ ((b : ℕ) → word < b → Below b r) ⌝ }
+{
+    if h.count == 0 {
+        return Verdict::NotNow;
+    }
+    alone(h.count, Store::Keep, word)
+}
+
+// Board: "always OK, and store and count become 0": it holds at most one word, the oldest. Any other kind's wipe is refused
+// before it comes here.
+pub fn on_wipe(h: HubRecord) -> Verdict
+    ensures { λ r. ⌜ ((x : Hub) (T : ℕ) → RecordOf h x → Range (kindOf (x .kind)) T x → Held (kindOf (x .kind)) x
+        → says (x .held) r ≡ onWipe (kindOf (x .kind))) ⌝ }
+    ensures { λ r. ⌜ ((b : ℕ) → 0 < b → Below b r) ⌝ }
+{
+    if h.kind == rules::BOARD {
+        return alone(0, Store::Take, 0);
+    }
+    Verdict::Fail
+}
+
 // A put by the caller of this word, where waiter is the first getter that waits. An Event runs as a Semaphore of limit 1.
+// Not here: the update of a Board, which meets every waiter (crate requests).
 pub fn on_put(h: HubRecord, waiter: u32, caller: u32, word: u64) -> Verdict
-    ensures { λ r. ⌜ ((x : Hub) (T : ℕ) → RecordOf h x → Range (kindOf (x .kind)) T x
-        → says (x .held) r ≡ onPut (kindOf (x .kind)) (first waiter) x caller word) ⌝ }
+    ensures { λ r. ⌜ ((x : Hub) (s : State) (T : ℕ) → RecordOf h x → Range (kindOf (x .kind)) T x → (x .kind ≡ 6 → ⊥)
+        → says (x .held) r ≡ onPut (kindOf (x .kind)) s (first waiter) x caller word) ⌝ }
     ensures { λ r. ⌜ ((b : ℕ) → 0 < b → word < b → Below b r) ⌝ }
 {
     let kind = h.kind;
@@ -218,6 +244,7 @@ pub fn on_get(h: HubRecord, waiter: u32, its: u64, oldest: u64, caller: u32) -> 
         rules::PORT => get_port(h, waiter, its),
         rules::FIFO => get_fifo(h, waiter, its, oldest),
         rules::RESOURCE => get_resource(h, caller),
+        rules::BOARD => get_board(h, oldest),
         _ => Verdict::Fail,
     }
 }

@@ -13,7 +13,7 @@ use Rattle.rules.proofs.States.{stateAfter, stateBy}
 use Rattle.rules.specs.Calls.{addHub, addStarted, addTask, blank, hold, kept, meetAll, newHub, serve, served, serviceOf, settle, start, tickAll, tickBy, tickOne, wait}
 use Rattle.rules.specs.HubTable.{getFifo, onGet, onPut, onSide, putFifo, verdict}
 use Rattle.rules.specs.Lists.{answer, answered, counted, firstFree, firstWaiting, holding, joinHub, joinReady, leave, next, queued, readied, unqueue, waits, wake}
-use Rattle.rules.specs.Refusals.{byRunning, goodHub, goodWait, modeOf, need, refusal, refusalFor}
+use Rattle.rules.specs.Refusals.{byRunning, goodHub, goodWait, lastSide, modeOf, need, refusal, refusalFor}
 use Rattle.rules.specs.Reply.{bearsAnswer, outcome, outcomeOf, replyBy, replyIn, tableBy, tableIn}
 use Rattle.rules.specs.Table.{inactive, kindOf, noHub, one, setHub, setReady, setTask, sideOf, size, words}
 use Rattle.rules.specs.WellFormed.{bearsWord}
@@ -40,7 +40,7 @@ unfolding bearsAnswer blank firstFree next numbersOf outcome replyBy replyIn rep
 blanked ls = rw (blank-accepted zeros (callOf (numbersOf (0 ∷ 0 ∷ 0 ∷ 0 ∷ 0 ∷ 0 ∷ 0 ∷ []))) zeros-long refl)
 
 answered-all : textThrough zeros (linesFrom rows) ≡ outputOf rows
-unfolding addHub addStarted addTask answer answered badText bearsAnswer bearsWord blank byRunning counted decimal digits firstFree firstWaiting getFifo goodHub goodWait hold holding inactive insert joinHub joinReady joined kept kindOf leave linesFrom meetAll modeOf need newHub next noHub numbersOf onGet onPut onSide outcome outcomeOf outputOf printed putFifo queued readied refusal refusalFor replyBy replyText rows serve served serviceOf setHub setReady setTask settle sideOf spaced start stateAfter stateBy textFrom tickAll tickBy tickOne unqueue verdict wait waits wake without
+unfolding addHub addStarted addTask answer answered badText bearsAnswer bearsWord blank byRunning counted decimal digits firstFree firstWaiting getFifo goodHub goodWait hold holding inactive insert joinHub joinReady joined kept kindOf lastSide leave linesFrom meetAll modeOf need newHub next noHub numbersOf onGet onPut onSide outcome outcomeOf outputOf printed putFifo queued readied refusal refusalFor replyBy replyText rows serve served serviceOf setHub setReady setTask settle sideOf spaced start stateAfter stateBy textFrom tickAll tickBy tickOne unqueue verdict wait waits wake without
 answered-all = blanked _ ∙ ap (λ (t : List ℕ). printed (0 ∷ 0 ∷ 0 ∷ []) ++ t) (on-words blank valid-blank _)
 
 -- the twelve, as one input and one output

@@ -21,7 +21,7 @@ use Rattle.rules.specs.Calls.{blank, serve, served, serviceOf}
 use Rattle.rules.specs.Lists.{firstFree, next}
 use Rattle.rules.specs.Refusals.{goodHub}
 use Rattle.rules.specs.Reply.{bearsAnswer, outcome, replyBy, replyIn, tableAfter, tableBy, tableIn}
-use Rattle.rules.specs.Table.{Event, Fifo, Hub, Kind, NoKind, Port, Resource, Semaphore, State, hub, inactive, kindOf, noHub, one, read, size, words}
+use Rattle.rules.specs.Table.{Board, Event, Fifo, Hub, Kind, NoKind, Port, Resource, Semaphore, State, hub, inactive, kindOf, noHub, one, read, size, words}
 use Rattle.rules.specs.WellFormed.{wellFormed, within as between}
 use Rattle.runner.specs.Runner.{callOf, drillText, replyText, tableThrough, textThrough, zeros}
 use borrow.Author.Tests.{eqb-true, le-leb, leb-false, leb-true}
@@ -66,6 +66,7 @@ good-range Semaphore T h r = rw (le-leb 1 (h .limit) (r .1), le-leb (h .limit) 6
 good-range Port T h r = rw (r .1, r .2)
 good-range Fifo T h r = rw (le-leb 1 (h .limit) (r .1), le-leb (h .limit) 8 (r .2), r .3)
 good-range Resource T h r = rw (r .1, r .2)
+good-range Board T h r = rw (r .1, r .2)
 
 set-up-acceptable : (s : State) → Valid s → Acceptable (setUp s)
 unfolding setUp
@@ -97,13 +98,14 @@ low-by Fifo l s e =
     let q = both (between 1 8 l) (eqb s 0) e in
     (omega (arith, leb-true l 8 (both (leb 1 l) (leb l 8) (q .0) .1)), omega (arith, eqb-true s 0 (q .1)))
 low-by Resource l s e = let q = both _ _ e in (omega (arith, eqb-true l 1 (q .0)), omega (arith, eqb-true s 0 (q .1)))
+low-by Board l s e = let q = both _ _ e in (omega (arith, eqb-true l 1 (q .0)), omega (arith, eqb-true s 0 (q .1)))
 
-low-kind : (n l s : ℕ) → goodHub (kindOf n) l s ≡ true → n ≤ 5
+low-kind : (n l s : ℕ) → goodHub (kindOf n) l s ≡ true → n ≤ 6
 unfolding goodHub kindOf
 low-kind n l s e =
-    boolCase (leb n 5) (leb-true n 5)
-    (λ b. let far : 6 ≤ n = leb-false n 5 b in
-    absurd (false≢true (rw (List·getD-eq-default (NoKind ∷ Event ∷ Semaphore ∷ Port ∷ Fifo ∷ Resource ∷ []) NoKind far) at e)))
+    boolCase (leb n 6) (leb-true n 6)
+    (λ b. let far : 7 ≤ n = leb-false n 6 b in
+    absurd (false≢true (rw (List·getD-eq-default (NoKind ∷ Event ∷ Semaphore ∷ Port ∷ Fifo ∷ Resource ∷ Board ∷ []) NoKind far) at e)))
 
 -- ---- its lines: seven numbers each, within the limit, and short
 

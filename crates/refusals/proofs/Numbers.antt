@@ -1,14 +1,20 @@
--- The numbers of modes and services, by ranges: numbers whose rows are alike, and a service that is none.
+-- The numbers of modes and services, by ranges: numbers whose rows are alike, and a service that is none; the kind of a hub asked.
 -- Not here: a single number, of which the rules compute the row. Assumes nothing.
 use Prim.Native.Nat.{_<_, _≤_, suc, zero, ℕ}
+use Rattle.lists.proofs.Laws.{boolCase}
+use Rattle.refusals.specs.Lookup.{kindIn}
+use Rattle.rules.proofs.Layouts.{Laid, sized}
+use Rattle.rules.proofs.Places.{hub-word}
 use Rattle.rules.specs.Calls.{AddHub, AddTask, Blank, HubRequest, Resume, Sleep, Start, Stop, Suspend, Tick, Unknown, Yield, serviceOf}
-use Rattle.rules.specs.Refusals.{byRunning, goodWait, modeOf, onTask, refusalFor}
-use Rattle.rules.specs.Table.{State}
+use Rattle.rules.specs.Refusals.{byRunning, goodRequest, goodWait, modeOf, need, onTask, refusalFor}
+use Rattle.rules.specs.Table.{Layout, State, hub, kindOf, words}
 use Rattle.rules.specs.declared.Call.{Call}
-use lib.Dec.{eqb}
-use lib.ListN.{List·getD-eq-default}
+use borrow.Author.Tests.{ltb-true}
+use lib.Dec.{eqb, ltb}
+use lib.ListN.{List·getD-eq-default, length}
 use mathlib.Core.List.{[], _∷_}
 use mathlib.Core.Path.{_≡_, refl}
+use native.Mathlib.Nat.{add-zero}
 use native.Mathlib.Omega.{arith}
 
 -- W and NW
@@ -50,3 +56,15 @@ module _ (s : State) (c : Call) where
   asks-task (suc (suc (suc (suc zero)))) a b = refl
   asks-task (suc (suc (suc (suc (suc zero))))) a b = refl
   asks-task (suc (suc (suc (suc (suc (suc n)))))) a b = absurd (omega arith)
+
+-- a request's tests look at its hub's kind only where the hub is in use, and there the table has it
+pub kind-asked : {ts : ℕ} (L : Layout) (s : State) → Laid ts L → length (s .hubs) ≤ 16 → (c : Call)
+    → need (ltb (c .target) (length (s .hubs))) 5 (need (goodRequest (kindOf (kindIn ts (words L s) (c .target))) c) 6 0)
+    ≡ need (ltb (c .target) (length (s .hubs))) 5 (need (goodRequest (kindOf (hub s (c .target) .kind)) c) 6 0)
+unfolding need
+kind-asked {ts} L s y fits c =
+    boolCase (ltb (c .target) (length (s .hubs)))
+    (λ b. let used = ltb-true (c .target) (length (s .hubs)) b in
+    let kind : kindIn ts (words L s) (c .target) ≡ hub s (c .target) .kind = rw (y .size) (rw add-zero at (hub-word L (sized y) s (c .target) (omega arith) used 0 (omega arith))) in
+    rw (b, kind))
+    (λ b. rw b)

@@ -6,11 +6,11 @@ use records::TaskNo;
 use rules::Call;
 ghost use Prim.Native.Nat.{_≤_, suc};
 ghost use Rattle.records.specs.Records.{taskAt};
-ghost use Rattle.refusals.specs.Lookup.{foundHub, foundTask, hubsIn, tasksIn};
+ghost use Rattle.refusals.specs.Lookup.{foundHub, foundTask, hubsIn, kindIn, tasksIn};
 ghost use Rattle.rules.proofs.Layouts.{Laid};
 ghost use Rattle.rules.proofs.Valid.{Listed, Room, Valid};
 ghost use Rattle.rules.specs.Lists.{next};
-ghost use Rattle.rules.specs.Refusals.{goodHub, goodRequest, goodWait, modeOf, need, refusal};
+ghost use Rattle.rules.specs.Refusals.{goodHub, goodRequest, goodWait, lastSide, modeOf, need, refusal};
 ghost use Rattle.rules.specs.Table.{Layout, State, kindOf, words};
 ghost use Rattle.rules.specs.WellFormed.{within};
 ghost use lib.Dec.{eqb, leb, ltb};
@@ -111,11 +111,22 @@ fn good_wait(mode: u32, ticks: u32) -> bool
     }
 }
 
-// "side 1 put, 2 get"
-fn good_request(c: Call) -> bool
-    ensures { λ r. ⌜ r ≡ goodRequest c ⌝ }
+// "side 1 put, 2 get"; of a Board 3 wipe (M-103).
+fn last_side(kind: u32) -> u32
+    ensures { λ r. ⌜ r ≡ lastSide (kindOf kind) ⌝ }
 {
-    ((rules::PUT <= c.side) & (c.side <= rules::GET)) & good_wait(c.mode, c.ticks)
+    if kind == rules::BOARD {
+        rules::WIPE
+    } else {
+        rules::GET
+    }
+}
+
+// Side, mode and ticks of a request at a hub of this kind.
+fn good_request(kind: u32, c: Call) -> bool
+    ensures { λ r. ⌜ r ≡ goodRequest (kindOf kind) c ⌝ }
+{
+    ((rules::PUT <= c.side) & (c.side <= last_side(kind))) & good_wait(c.mode, c.ticks)
 }
 
 // The kinds table: limit and start.
@@ -127,20 +138,24 @@ fn good_hub(kind: u32, limit: u32, start: u32) -> bool
         rules::SEMAPHORE => ((1 <= limit) & (limit <= rules::MOST_COUNT)) & (start <= limit),
         rules::PORT => (limit == 0) & (start == 0),
         rules::FIFO => ((1 <= limit) & (limit <= rules::MOST_HELD)) & (start == 0),
+        rules::BOARD => (limit == 1) & (start == 0),
         _ => false,
     }
 }
 
 // 1 Hub request: "the hub is looked up before side, mode and ticks; an unused number ends the call there"
-fn for_request(t: &[u32], c: Call) -> u32
+fn for_request(t: &[u32], ts: usize, c: Call) -> u32
+    requires { ⌜ 8 ≤ ts ⌝ }
+    requires { ⌜ ts ≤ 9 ⌝ }
     ensures { λ r. ⌜ r ≡ need (ltb (c .target) (hubsIn (now (t .entry)))) 5
-        (need (goodRequest c) 6 0) ⌝ }
+        (need (goodRequest (kindOf (kindIn ts (now (t .entry)) (c .target))) c) 6 0) ⌝ }
 {
     let found = find_hub(t, c.target);
-    let FoundHub::InUse(_) = found else {
+    let FoundHub::InUse(h) = found else {
         return rules::NOT_IN_USE;
     };
-    if good_request(c) {
+    let x = records::hub(t, records::hubs_at(ts), h);
+    if good_request(x.kind, c) {
         0
     } else {
         rules::BAD_ARGUMENT
@@ -211,7 +226,7 @@ fn for_caller(t: &[u32], ts: usize, c: Call) -> u32
     }
     let service = c.service;
     match service {
-        rules::HUB_REQUEST => for_request(t, c),
+        rules::HUB_REQUEST => for_request(t, ts, c),
         rules::YIELD => 0,
         rules::SLEEP => for_sleep(c),
         _ => for_task(t, c),

@@ -1,5 +1,5 @@
 -- What the functions of this crate read off a table and write into it, in the terms of the rules. In order: a hub's record;
--- what a met request rests on; the word that is kept; a verdict that meets nobody.
+-- what a met request rests on; the word that is kept; a verdict that meets nobody; whether a request updates a Board.
 -- Not here: the store (Stores.antt), where a state's parts stand (rules, Places), the moves (moves, Laws). Assumes nothing.
 use Prim.Native.Nat.{_*_, _+_, _<_, _≤_, ℕ}
 use Rattle.hubtable.specs.Says.{RecordOf, metWith, says, storeAfter}
@@ -7,12 +7,12 @@ use Rattle.hubtable.specs.declared.Meeting.{Meeting}
 use Rattle.hubtable.specs.declared.Store.the-variants.{Append, Keep, Take, TakeAppend}
 use Rattle.hubtable.specs.declared.Store.{Store}
 use Rattle.hubtable.specs.declared.Verdict.the-variants.{Met}
-use Rattle.lists.proofs.Laws.{boolCase}
 use Rattle.moves.proofs.Laws.{hub-number, waiter-in}
 use Rattle.moves.specs.Moves.{Sound}
 use Rattle.records.specs.Records.{first, hubAt, hubsAt as hubsFrom}
 use Rattle.requests.specs.Requests.{StoreFits}
 use Rattle.rules.proofs.Accepted.{Asked, request-tests}
+use Rattle.rules.proofs.Cases.{and-l, and-r}
 use Rattle.rules.proofs.Changes.{inUse, length-setHub}
 use Rattle.rules.proofs.Layouts.{Laid}
 use Rattle.rules.proofs.Listed.{listed-answer, listed-hold}
@@ -25,13 +25,13 @@ use Rattle.rules.specs.Calls.{HubRequest, hold, kept, meetAll, serve, settle, w
 use Rattle.rules.specs.HubTable.{Verdict, fail, notNow, verdict}
 use Rattle.rules.specs.Lists.{answer, firstWaiting, holding}
 use Rattle.rules.specs.Refusals.{refusalFor}
-use Rattle.rules.specs.Table.{Event, Fifo, Hub, Kind, Layout, NoKind, Port, Resource, Semaphore, State, hub, hubWords, kindOf, setHub, setTask, sideOf, words}
+use Rattle.rules.specs.Table.{Board, Event, Fifo, Hub, Kind, Layout, NoKind, Port, Resource, Semaphore, State, hub, hubWords, kindOf, setHub, setTask, sideOf, words}
 use Rattle.rules.specs.declared.Call.{Call}
-use borrow.Author.Tests.{eq-eqb, eqb-false, ne-eqb}
+use borrow.Author.Tests.{eq-eqb, eqb-true, ne-eqb}
 use lib.Dec.{eqb}
 use lib.ListN.{drop, getD, length, length-append}
-use mathlib.Core.Bool.{and-false}
-use mathlib.Core.List.{[], _++_, _∷_}
+use mathlib.Core.Bool.{Bool, _&&_, _||_, cond, false, false≢true, true}
+use mathlib.Core.List.{List, [], _++_, _∷_}
 use mathlib.Core.Option.{Option, some}
 use mathlib.Core.Path.{_∙_, _≡_, ap, refl, subst, sym}
 use native.Mathlib.Nat.{add-zero}
@@ -68,6 +68,7 @@ module _ (k : Kind) (T n : ℕ) (x : Hub) where
       taken Port r e = rw e (omega arith)
       taken Fifo r e = omega (arith, e, r .0, r .2)
       taken Resource r e = rw e (omega arith)
+      taken Board r e = omega (arith, e, r .0)
   store-fits (Append w) r e r′ e′ = grown k r e r′ e′
     where
       never : x .held ++ w ∷ [] ≡ [] → ⊥
@@ -80,6 +81,7 @@ module _ (k : Kind) (T n : ℕ) (x : Hub) where
       grown Port r e r′ e′ = absurd (never e′)
       grown Fifo r e r′ e′ = (e, omega (arith, e, e′, r′ .0, r′ .2, length-append (x .held) (w ∷ [])))
       grown Resource r e r′ e′ = absurd (never e′)
+      grown Board r e r′ e′ = (e, omega (arith, r .0))
   store-fits (TakeAppend w) r e r′ e′ = passed k r e r′ e′
     where
       never : drop 1 (x .held) ++ w ∷ [] ≡ [] → ⊥
@@ -92,6 +94,7 @@ module _ (k : Kind) (T n : ℕ) (x : Hub) where
       passed Port r e r′ e′ = absurd (never e′)
       passed Fifo r e r′ e′ = (e, omega (arith, e, r .0, r .2))
       passed Resource r e r′ e′ = absurd (never e′)
+      passed Board r e r′ e′ = (e, omega (arith, e, r .0))
 
 module _ (s : State) (g : Valid s) (c : Call) (a : refusalFor HubRequest s c ≡ 0) where
   pub asked : Asked s c
@@ -106,10 +109,23 @@ module _ (s : State) (g : Valid s) (c : Call) (a : refusalFor HubRequest s c ≡
   pub putter-used : (w : ℕ) → firstWaiting s 1 (hub s (c .target) .waiters) ≡ some w → w < length (s .tasks)
   putter-used = first-used 1
 
-  range : Range (kindOf (hub s (c .target) .kind)) (length (s .tasks)) (hub s (c .target))
+  -- the caller told, and the hub with another count and store: what the moves rest on stays
+  module _ (n x : ℕ) (ws : List ℕ) where
+    pub told-sound : Sound (answer (c .caller) 1 x (hold (c .target) n ws s))
+    told-sound = record {
+      tasks = rw (length-answer (hold (c .target) n ws s) (c .caller) 1 x) (unfold hold setHub in g .tasks);
+      hubs = unfold answer hold setTask in rw (length-setHub s (c .target) (holding n ws (hub s (c .target)))) (g .hubs);
+      listed = listed-answer (c .caller) 1 x _ (listed-hold (c .target) n ws s (g .listed));
+    }
+
+    pub told-used : c .target < length (answer (c .caller) 1 x (hold (c .target) n ws s) .hubs)
+    unfolding answer hold setTask
+    told-used = rw (length-setHub s (c .target) (holding n ws (hub s (c .target)))) (asked .named)
+
+  pub range : Range (kindOf (hub s (c .target) .kind)) (length (s .tasks)) (hub s (c .target))
   range = g .ranges .range (c .target) (asked .named)
 
-  held : Held (kindOf (hub s (c .target) .kind)) (hub s (c .target))
+  pub held : Held (kindOf (hub s (c .target) .kind)) (hub s (c .target))
   held = g .ranges .held (c .target) (asked .named)
 
   module _ (m : Meeting) (e : says (hub s (c .target) .held) (Met m) ≡ verdict s c) where
@@ -134,33 +150,24 @@ module _ (s : State) (g : Valid s) (c : Call) (a : refusalFor HubRequest s c ≡
     unfolding says serve settle
     met-state key = ap (λ (v : Verdict). settle key v s c) e
 
-    pub met-sound : Sound (answer (c .caller) 1 (m .word) (hold (c .target) (m .count) (storeAfter (m .store) (hub s (c .target) .held)) s))
-    met-sound = record {
-      tasks = rw (length-answer (hold (c .target) (m .count) (storeAfter (m .store) (hub s (c .target) .held)) s) (c .caller) 1 (m .word)) (unfold hold setHub in g .tasks);
-      hubs = unfold answer hold setTask in rw (length-setHub s (c .target) (holding (m .count) (storeAfter (m .store) (hub s (c .target) .held)) (hub s (c .target)))) (g .hubs);
-      listed = listed-answer (c .caller) 1 (m .word) _ (listed-hold (c .target) (m .count) (storeAfter (m .store) (hub s (c .target) .held)) s (g .listed));
-    }
-
 -- an answer keeps the tasks in use
 pub told-in : (s : State) (c : Call) (x : ℕ) (s₁ : State) → s₁ .tasks ≡ s .tasks → {w : ℕ} → w < length (s .tasks) → w < length (answer (c .caller) 1 x s₁ .tasks)
 told-in s c x s₁ e h = rw (length-answer s₁ (c .caller) 1 x, e) h
 
 -- ---- the word that is kept
 
+-- the kinds whose puts bear a word, by their numbers
+abbrev pub bears : ℕ → Bool
+bears k = eqb k 3 || (eqb k 4 || eqb k 6)
+
 module _ (h : Hub) (c : Call) where
   pub kept-get : (c .side ≡ 1 → ⊥) → 0 ≡ kept h c
   unfolding kept
   kept-get n = rw (ne-eqb (c .side) 1 n) refl
 
-  pub kept-put : 3 ≤ h .kind → h .kind ≤ 4 → c .side ≡ 1 → c .word ≡ kept h c
+  pub kept-put : c .side ≡ 1 → (b : Bool) → bears (h .kind) ≡ b → cond b (c .word) 0 ≡ kept h c
   unfolding kept
-  kept-put p q e =
-      rw (eq-eqb (c .side) 1 e, bears-number (h .kind))
-      (boolCase (eqb (h .kind) 3) (λ b. rw b) (λ b. rw (b, eq-eqb (h .kind) 4 (omega (arith, eqb-false (h .kind) 3 b)))))
-
-  pub kept-not : (h .kind ≡ 3 → ⊥) → (h .kind ≡ 4 → ⊥) → 0 ≡ kept h c
-  unfolding kept
-  kept-not p q = rw (bears-number (h .kind), ne-eqb (h .kind) 3 p, ne-eqb (h .kind) 4 q, and-false)
+  kept-put e b q = rw (eq-eqb (c .side) 1 e, bears-number (h .kind), q) refl
 
 -- ---- a verdict that meets nobody
 
@@ -176,3 +183,12 @@ module _ (key : ℕ → ℕ) (s : State) (c : Call) where
   pub waiting-state : notNow ≡ verdict s c → (c .mode ≡ 2 → ⊥) → wait key s c ≡ serve key HubRequest s c
   unfolding serve settle
   waiting-state e m = sym (rw (ne-eqb (c .mode) 2 m) refl) ∙ ap (λ (v : Verdict). settle key v s c) e
+
+-- ---- whether a request is the update of a Board
+
+module _ (k d : ℕ) where
+  pub board-put : (eqb k 6 && eqb d 1) ≡ true → (k ≡ 6) × (d ≡ 1)
+  board-put e = (eqb-true k 6 (and-l _ _ e), eqb-true d 1 (and-r (eqb k 6) _ e))
+
+  pub not-update : (eqb k 6 && eqb d 1) ≡ false → k ≡ 6 → d ≡ 1 → ⊥
+  not-update n e f = false≢true (sym n ∙ rw (e, f) refl)

@@ -1,5 +1,5 @@
-// Service 1, a put or a get at a hub, on a table that holds a valid state: what the hub says is read off the table (`judge`),
-// and then carried out (`meet`, `wait_there`).
+// Service 1, a put or a get at a hub or the wipe of a Board, on a table that holds a valid state: what the hub says is read off
+// the table (`judge`), and then carried out (`meet`, `wait_there`). The update of a Board (`update`) meets all its readers.
 // Not here: the hub table itself (crate hubtable), when a call is refused, and what it gives back.
 use hubtable::Meeting;
 use hubtable::Store;
@@ -15,10 +15,10 @@ ghost use Rattle.hubtable.specs.declared.Verdict.the-variants.{Met};
 ghost use Rattle.messages.specs.Messages.{messages};
 ghost use Rattle.moves.specs.Moves.{Sound, keyOf};
 ghost use Rattle.records.specs.Records.{Table, first, width};
-ghost use Rattle.requests.specs.Requests.{StoreFits};
+ghost use Rattle.requests.specs.Requests.{StoreFits, meetOne, meetings};
 ghost use Rattle.rules.proofs.Layouts.{Laid};
 ghost use Rattle.rules.proofs.Valid.{Valid};
-ghost use Rattle.rules.specs.Calls.{HubRequest, hold, kept, serve, wait};
+ghost use Rattle.rules.specs.Calls.{HubRequest, hold, kept, meetAll, serve, wait};
 ghost use Rattle.rules.specs.HubTable.{verdict};
 ghost use Rattle.rules.specs.Lists.{waits};
 ghost use Rattle.rules.specs.Refusals.{refusalFor};
@@ -65,17 +65,21 @@ fn oldest_of(t: &[u32], ts: usize, h: HubNo) -> u64
     messages::message(t, records::store_at(ts, h), records::width_of(ts))
 }
 
-// What the hub that it names says of a call.
+// What the hub that it names says of a call, but for the update of a Board (`update`).
 fn judge(t: &[u32], ts: usize, c: Call) -> Verdict
     requires { ⌜ Table ts (now t) ⌝ }
     requires { ⌜ c .target < 16 ⌝ }
     requires { ⌜ c .caller < 16 ⌝ }
     ensures { λ r. ⌜ Below (messages (width ts)) r ⌝ }
     ensures { λ r. ⌜ ((L : Layout) (s : State) → Laid ts L → Valid s → refusalFor HubRequest s c ≡ 0
+        → (hub s (c .target) .kind ≡ 6 → c .side ≡ 1 → ⊥)
         → now (t .entry) ≡ words L s → says (hub s (c .target) .held) r ≡ verdict s c) ⌝ }
 {
     let h = HubNo(c.target as usize);
     let x = hub_at(t, ts, h);
+    if c.side == rules::WIPE {
+        return hubtable::on_wipe(x);
+    }
     if c.side == rules::PUT {
         let waiter = moves::first_waiter(t, ts, h, rules::GET);
         return hubtable::on_put(x, waiter, c.caller, c.word as u64);
@@ -185,6 +189,61 @@ fn meet(t: &mut [u32], ts: usize, keys: &[u32], c: Call, m: Meeting)
     }
 }
 
+// The first that waits at hub h, if there is one, is met with this word.
+fn meet_first(t: &mut [u32], ts: usize, keys: &[u32], h: HubNo, w: u64)
+    requires { ⌜ Table ts (now t) ⌝ }
+    requires { ⌜ h .0 < 16 ⌝ }
+    requires { ⌜ w < messages (width ts) ⌝ }
+    ensures { λ _. ⌜ ((L : Layout) (s : State) → Laid ts L → Sound s → h .0 < length (s .hubs) → now (t .entry) ≡ words L s
+        → now (t .exit) ≡ words L (meetOne (keyOf (now (keys .entry))) w (hub s (h .0) .waiters) s)) ⌝ }
+{
+    let e = lists::word(&*t, records::waits_at(ts, h));
+    if 1 <= e {
+        if e <= 16 {
+            moves::wake_task(t, ts, keys, TaskNo((e - 1) as usize), rules::OK, w);
+        }
+    }
+}
+
+// "every waiting reader is met with the word, in list order": each that is met leaves the list, so the next stands first.
+fn meet_all(t: &mut [u32], ts: usize, keys: &[u32], h: HubNo, w: u64)
+    requires { ⌜ Table ts (now t) ⌝ }
+    requires { ⌜ h .0 < 16 ⌝ }
+    requires { ⌜ w < messages (width ts) ⌝ }
+    ensures { λ _. ⌜ ((L : Layout) (s : State) → Laid ts L → Sound s → h .0 < length (s .hubs) → now (t .entry) ≡ words L s
+        → now (t .exit) ≡ words L (meetAll (keyOf (now (keys .entry))) (meetings w (hub s (h .0) .waiters)) s)) ⌝ }
+{
+    let mut k = 0;
+    while k < records::LIST_SIZE {
+        meet_first(t, ts, keys, h, w);
+        k += 1;
+    }
+}
+
+// Side 1 at a Board: "always OK, and every waiting reader is met with the word, in list order".
+fn update(t: &mut [u32], ts: usize, keys: &[u32], c: Call)
+    requires { ⌜ Table ts (now t) ⌝ }
+    requires { ⌜ c .caller < 16 ⌝ }
+    requires { ⌜ c .target < 16 ⌝ }
+    ensures { λ _. ⌜ ((L : Layout) (s : State) → Laid ts L → Valid s → refusalFor HubRequest s c ≡ 0
+        → hub s (c .target) .kind ≡ 6 → c .side ≡ 1 → now (t .entry) ≡ words L s
+        → now (t .exit) ≡ words L (serve (keyOf (now (keys .entry))) HubRequest s c)) ⌝ }
+{
+    let caller = TaskNo(c.caller as usize);
+    let h = HubNo(c.target as usize);
+    let word = c.word as u64;
+    let m = Meeting {
+        count: 1,
+        store: Store::TakeAppend(word),
+        word: 0,
+        waiter: 0,
+        its: 0,
+    };
+    hold_hub(t, ts, h, m);
+    moves::give_answer(t, ts, caller, rules::OK, 0);
+    meet_all(t, ts, keys, h, word);
+}
+
 // "The word of a put to a Port or FIFO is kept; any other word is stored as 0."
 fn kept_word(kind: u32, side: u32, word: u64) -> u64
     ensures { λ r. ⌜ r ≤ word ⌝ }
@@ -193,9 +252,10 @@ fn kept_word(kind: u32, side: u32, word: u64) -> u64
     if side != rules::PUT {
         return 0;
     }
-    match kind {
-        rules::PORT | rules::FIFO => word,
-        _ => 0,
+    if (kind == rules::PORT) | ((kind == rules::FIFO) | (kind == rules::BOARD)) {
+        word
+    } else {
+        0
     }
 }
 
@@ -246,13 +306,13 @@ fn wait_there(t: &mut [u32], ts: usize, keys: &[u32], c: Call)
     moves::join_hub(t, ts, keys, h, caller);
 }
 
-// Service 1, accepted: met, failed, or not now, which under NW fails and under W and WT waits.
-pub fn request(t: &mut [u32], ts: usize, keys: &[u32], c: Call)
+// Any request but the update of a Board: met, failed, or not now, which under NW fails and under W and WT waits.
+fn settle(t: &mut [u32], ts: usize, keys: &[u32], c: Call)
     requires { ⌜ Table ts (now t) ⌝ }
     requires { ⌜ c .caller < 16 ⌝ }
     requires { ⌜ c .target < 16 ⌝ }
     ensures { λ _. ⌜ ((L : Layout) (s : State) → Laid ts L → Valid s → refusalFor HubRequest s c ≡ 0
-        → now (t .entry) ≡ words L s
+        → (hub s (c .target) .kind ≡ 6 → c .side ≡ 1 → ⊥) → now (t .entry) ≡ words L s
         → now (t .exit) ≡ words L (serve (keyOf (now (keys .entry))) HubRequest s c)) ⌝ }
 {
     let caller = TaskNo(c.caller as usize);
@@ -267,5 +327,22 @@ pub fn request(t: &mut [u32], ts: usize, keys: &[u32], c: Call)
                 wait_there(t, ts, keys, c);
             }
         }
+    }
+}
+
+// Service 1, accepted.
+pub fn request(t: &mut [u32], ts: usize, keys: &[u32], c: Call)
+    requires { ⌜ Table ts (now t) ⌝ }
+    requires { ⌜ c .caller < 16 ⌝ }
+    requires { ⌜ c .target < 16 ⌝ }
+    ensures { λ _. ⌜ ((L : Layout) (s : State) → Laid ts L → Valid s → refusalFor HubRequest s c ≡ 0
+        → now (t .entry) ≡ words L s
+        → now (t .exit) ≡ words L (serve (keyOf (now (keys .entry))) HubRequest s c)) ⌝ }
+{
+    let x = hub_at(&*t, ts, HubNo(c.target as usize));
+    if (x.kind == rules::BOARD) & (c.side == rules::PUT) {
+        update(t, ts, keys, c);
+    } else {
+        settle(t, ts, keys, c);
     }
 }

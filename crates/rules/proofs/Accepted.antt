@@ -6,12 +6,12 @@ use Rattle.rules.proofs.Standing.{running-ready}
 use Rattle.rules.proofs.Valid.{Listed}
 use Rattle.rules.specs.Calls.{AddHub, AddTask, Blank, HubRequest, Resume, Service, Sleep, Start, Stop, Suspend, Tick, Unknown, Yield}
 use Rattle.rules.specs.Lists.{next}
-use Rattle.rules.specs.Refusals.{Mode, NW, NoMode, W, WT, byRunning, goodHub, goodRequest, goodWait, modeOf, need, onTask, refusalFor}
+use Rattle.rules.specs.Refusals.{Mode, NW, NoMode, W, WT, byRunning, goodHub, goodRequest, goodWait, lastSide, modeOf, need, onTask, refusalFor}
 use Rattle.rules.specs.Reply.{bearsAnswer}
-use Rattle.rules.specs.Table.{State, kindOf, task}
+use Rattle.rules.specs.Table.{Board, Event, Fifo, Kind, NoKind, Port, Resource, Semaphore, State, hub, kindOf, task}
 use Rattle.rules.specs.WellFormed.{within}
 use Rattle.rules.specs.declared.Call.{Call}
-use borrow.Author.Tests.{eqb-false, eqb-true, leb-true, ltb-true}
+use borrow.Author.Tests.{eqb-false, eqb-true, le-leb, leb-true, ltb-true}
 use lib.Dec.{eqb, leb, ltb}
 use lib.ListN.{length}
 use mathlib.Core.Bool.{Bool, _&&_, false, false≢true, true}
@@ -59,12 +59,34 @@ module _ (s : State) (l : Listed s) (c : Call) where
 
 -- ---- a hub request
 
+-- put or get, or the wipe of a Board
+abbrev pub Sided : Kind → ℕ → Type 0
+Sided k n = (n ≡ 1) ⊎ ((n ≡ 2) ⊎ ((n ≡ 3) × (k ≡ Board)))
+
 one-or-two : (n : ℕ) → within 1 2 n ≡ true → (n ≡ 1) ⊎ (n ≡ 2)
 one-or-two n e =
     let r = within-true 1 2 n e in
     boolCase (eqb n 1)
     (λ q. inl (eqb-true n 1 q))
     (λ q. inr (let d : n ≢ 1 = eqb-false n 1 q in omega (arith, r .0, r .1)))
+
+two-sided : (k : Kind) (n : ℕ) → (n ≡ 1) ⊎ (n ≡ 2) → Sided k n
+two-sided k n (inl e) = inl e
+two-sided k n (inr e) = inr (inl e)
+
+sided : (k : Kind) (n : ℕ) → within 1 (lastSide k) n ≡ true → Sided k n
+unfolding lastSide
+sided NoKind n e = two-sided NoKind n (one-or-two n e)
+sided Event n e = two-sided Event n (one-or-two n e)
+sided Semaphore n e = two-sided Semaphore n (one-or-two n e)
+sided Port n e = two-sided Port n (one-or-two n e)
+sided Fifo n e = two-sided Fifo n (one-or-two n e)
+sided Resource n e = two-sided Resource n (one-or-two n e)
+sided Board n e =
+    let r = within-true 1 3 n e in
+    boolCase (eqb n 3)
+    (λ q. inr (inr (eqb-true n 3 q, refl)))
+    (λ q. two-sided Board n (one-or-two n (let d : n ≢ 3 = eqb-false n 3 q in rw (le-leb 1 n (r .0), le-leb n 2 (omega (arith, r .1))))))
 
 wait-ticks : (m : Mode) (n : ℕ) → goodWait m n ≡ true → n ≤ 1000000
 unfolding goodWait
@@ -76,7 +98,7 @@ wait-ticks WT n e = within-true 1 1000000 n e .1
 pub record Asked (s : State) (c : Call) : Type 0 where
   pub run : task s (c .caller) .state ≡ 2
   pub named : c .target < length (s .hubs)
-  pub side : (c .side ≡ 1) ⊎ (c .side ≡ 2)
+  pub side : Sided (kindOf (hub s (c .target) .kind)) (c .side)
   pub ticks : c .ticks ≤ 1000000
 
 pub request-tests : (s : State) → Listed s → (c : Call) → refusalFor HubRequest s c ≡ 0 → Asked s c
@@ -84,12 +106,13 @@ unfolding refusalFor
 request-tests s l c e =
     let p = by-running s l c _ e in
     let q = need-zero (ltb (c .target) (length (s .hubs))) 4 _ (p .1) in
-    let r = need-zero (goodRequest c) 5 0 (q .1) in
+    let k = kindOf (hub s (c .target) .kind) in
+    let r = need-zero (goodRequest k c) 5 0 (q .1) in
     record {
       run = p .0;
       named = ltb-true _ _ (q .0);
-      side = one-or-two (c .side) (and-l _ _ (r .0));
-      ticks = wait-ticks (modeOf (c .mode)) (c .ticks) (and-r (within 1 2 (c .side)) _ (r .0));
+      side = sided k (c .side) (and-l _ _ (r .0));
+      ticks = wait-ticks (modeOf (c .mode)) (c .ticks) (and-r (within 1 (lastSide k) (c .side)) _ (r .0));
     }
 
 -- ---- Sleep, Add task, Add hub

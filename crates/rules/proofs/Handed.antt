@@ -6,17 +6,17 @@ use Rattle.lists.proofs.Counting.{occ-here}
 use Rattle.lists.proofs.Laws.{boolCase, without-none}
 use Rattle.lists.specs.Lists.{occ}
 use Rattle.rules.proofs.Cases.{and-l, and-r, sameOr}
-use Rattle.rules.proofs.Changes.{hub-leave, hub-set-other, hub-set-same, inUse}
+use Rattle.rules.proofs.Changes.{hub-set-other, hub-set-same, inUse}
 use Rattle.rules.proofs.Hubs.{core, hubs-wake, many-pass}
 use Rattle.rules.proofs.Listed.{listed-pass}
-use Rattle.rules.proofs.Settled.{wake-other, wake-same}
+use Rattle.rules.proofs.Settled.{hub-wake, wake-other, wake-same}
 use Rattle.rules.proofs.Standing.{first-waits, listed-waiting, listed-waits, waiting-used}
 use Rattle.rules.proofs.Valid.{Listed}
 use Rattle.rules.proofs.Verdicts.{hubAfter}
 use Rattle.rules.specs.Calls.{carryOut, heir, hold, meetAll, passAll, passOne}
 use Rattle.rules.specs.HubTable.{pass}
-use Rattle.rules.specs.Lists.{firstWaiting, joinReady, queued, readied, unqueue, wake}
-use Rattle.rules.specs.Table.{Event, Fifo, Hub, Kind, NoKind, Port, Resource, Semaphore, State, Task, hub, isResource, kindOf, noHub, owns, setHub, setReady, setTask, task}
+use Rattle.rules.specs.Lists.{firstWaiting, queued, readied, unqueue, wake}
+use Rattle.rules.specs.Table.{Board, Event, Fifo, Hub, Kind, NoKind, Port, Resource, Semaphore, State, Task, hub, isResource, kindOf, noHub, owns, setHub, task}
 use Rattle.rules.specs.WellFormed.{waitsFor}
 use borrow.Author.Tests.{eq-eqb, eqb-true, ltb-false, ltb-true, lt-ltb, ne-eqb}
 use lib.Dec.{eqb, ltb}
@@ -70,6 +70,7 @@ is-resource Semaphore e = absurd (false≢true e)
 is-resource Port e = absurd (false≢true e)
 is-resource Fifo e = absurd (false≢true e)
 is-resource Resource e = refl
+is-resource Board e = absurd (false≢true e)
 
 pub owned-kind : (i : ℕ) (x : Hub) → owns i x ≡ true → kindOf (x .kind) ≡ Resource
 unfolding owns
@@ -155,11 +156,8 @@ module _ (key : ℕ → ℕ) (i h : ℕ) (s : State) where
         by-step (λ (z : State). hub z g ≡ hub s g)
         (λ e. refl)
         (λ e q. hub-set-other s h _ g n)
-        (λ e w q. hub-wake w _ g ∙ (ap (unqueue w) (hub-set-other s h _ g n) ∙ unqueued w (hub s g) (absent w q)))
+        (λ e w q. hub-wake key _ w 1 0 g ∙ (ap (unqueue w) (hub-set-other s h _ g n) ∙ unqueued w (hub s g) (absent w q)))
       where
-        hub-wake : (w : ℕ) (z : State) (g : ℕ) → hub (wake key w 1 0 z) g ≡ unqueue w (hub z g)
-        hub-wake w z g = unfold joinReady setReady setTask wake in hub-leave w z g
-
         absent : (w : ℕ) → heir s h ≡ some w → occ w (hub s g .waiters) ≡ 0
         absent w q =
             l .waiters g w ∙ rw (ne-eqb (task s w .hub) (suc g) (λ a. n (omega (arith, a, heir-waits w q .1))), and-false)

@@ -144,7 +144,7 @@ listed-hold h n ws s l =
     (λ j. unfold setHub in refl) (λ j. unfold setHub in refl)
 
 module _ (key : ℕ → ℕ) where
-  listed-wake : (i a w : ℕ) (s : State) → Listed s → i < length (s .tasks) → Listed (wake key i a w s)
+  pub listed-wake : (i a w : ℕ) (s : State) → Listed s → i < length (s .tasks) → Listed (wake key i a w s)
   unfolding wake
   listed-wake i a w s l h =
       joining key i (setTask i t (leave i s)) (changing i t (leave i s) (leaving i s l))

@@ -1,21 +1,26 @@
 -- A hub request in the task records: who a verdict meets, and each task's record after the verdict is carried out.
 -- About any list of waiters met, by any key. Not here: the hubs (Hubs.antt), the lists (Listed.antt).
-use Prim.Native.Nat.{_<_, suc, ℕ}
+use Prim.Native.Nat.{_<_, _≤_, suc, ℕ}
+use Rattle.lists.proofs.Counting.{occ-here}
+use Rattle.lists.proofs.Laws.{boolCase}
+use Rattle.lists.specs.Lists.{occ}
+use Rattle.rules.proofs.Accepted.{Asked, Sided}
 use Rattle.rules.proofs.Cases.{condCase, sameOr}
-use Rattle.rules.proofs.Changes.{inUse, length-setTask, set-case, set-other, set-same}
+use Rattle.rules.proofs.Changes.{hub-leave, inUse, length-setTask, set-case, set-other, set-same}
 use Rattle.rules.proofs.Quiet.{Quiet, quiet-answer, quiet-same}
 use Rattle.rules.proofs.Standing.{first-waits, listed-waits}
 use Rattle.rules.proofs.Valid.{Listed}
-use Rattle.rules.proofs.Verdicts.{Apart, Each, Few, across, each-map, few, meets-first, meets-later, meets-never, meets-none, waitersMet}
+use Rattle.rules.proofs.Verdicts.{Apart, Each, Few, across, each-map, few, later-side, meets-all, meets-first, meets-later, meets-never, meets-none, waitersMet}
 use Rattle.rules.specs.Calls.{hold, kept, meetAll, settle, wait}
-use Rattle.rules.specs.HubTable.{Meeting, Verdict, fail, met, notNow, verdict}
-use Rattle.rules.specs.Lists.{answer, answered, firstWaiting, joinHub, joinReady, leave, readied, waits, wake}
-use Rattle.rules.specs.Table.{State, Task, hub, setHub, setReady, sideOf, task}
+use Rattle.rules.specs.HubTable.{Meeting, Verdict, fail, met, notNow, readers, verdict}
+use Rattle.rules.specs.Lists.{answer, answered, firstWaiting, joinHub, joinReady, leave, readied, unqueue, waits, wake}
+use Rattle.rules.specs.Table.{State, Task, hub, kindOf, setHub, setReady, setTask, sideOf, task}
 use Rattle.rules.specs.declared.Call.{Call}
+use borrow.Author.Tests.{eqb-true}
 use lib.Dec.{eqb}
 use lib.ListN.{length}
 use mathlib.Core.List.{List, [], _∷_}
-use mathlib.Core.Logic.{_≢_}
+use mathlib.Core.Logic.{_≢_, _⊎_, inl, inr}
 use mathlib.Core.Path.{_∙_, _≡_, ap, refl, subst, sym}
 use native.Mathlib.Omega.{arith}
 
@@ -52,6 +57,10 @@ module _ (key : ℕ → ℕ) (s : State) (i a w : ℕ) where
   pub length-wake : length (wake key i a w s .tasks) ≡ length (s .tasks)
   unfolding joinReady leave setReady wake
   length-wake = length-setTask (leave i s) i _
+
+  pub hub-wake : (h : ℕ) → hub (wake key i a w s) h ≡ unqueue i (hub s h)
+  unfolding joinReady setReady setTask wake
+  hub-wake h = hub-leave i s h
 
 -- ---- all waiters met
 
@@ -106,7 +115,23 @@ pub record Waiter (s : State) (c : Call) (w : ℕ) : Type 0 where
 abbrev pub Partners : State → Call → List Meeting → Type 0
 Partners s c ms = Each (λ m. Waiter s c (m .waiter)) ms
 
-partners-of : (s : State) → Listed s → (c : Call) (v : Verdict) → Few (firstWaiting s (across (sideOf (c .side))) (hub s (c .target) .waiters)) v
+-- a reader in a list, met with word x: in it, on side 2
+abbrev pub Reads : State → List ℕ → ℕ → Meeting → Type 0
+Reads s l x m = (1 ≤ occ (m .waiter) l) × (task s (m .waiter) .side ≡ 2) × (m .word ≡ x)
+
+pub readers-waits : (s : State) (l : List ℕ) (x : ℕ) → Each (Reads s l x) (readers s l x)
+unfolding Each occ readers
+readers-waits s [] x = tt
+readers-waits s (t ∷ ts) x =
+    let rest : Each (Reads s (t ∷ ts) x) (readers s ts x) =
+    each-map (Reads s ts x) (Reads s (t ∷ ts) x) (λ m q. (later (m .waiter) (q .0), q .1, q .2)) (readers s ts x) (readers-waits s ts x) in
+    boolCase (eqb (task s t .side) 2) (λ b. rw b ((occ-here t ts, eqb-true _ 2 b, refl), rest)) (λ b. rw b rest)
+  where
+    later : (j : ℕ) → 1 ≤ occ j ts → 1 ≤ occ j (t ∷ ts)
+    later j h = omega arith
+
+partners-of : (s : State) → Listed s → (c : Call) (v : Verdict)
+    → Few (kindOf (hub s (c .target) .kind)) s (hub s (c .target) .waiters) (across (sideOf (c .side))) (firstWaiting s (across (sideOf (c .side))) (hub s (c .target) .waiters)) v
     → Partners s c (waitersMet v)
 unfolding Each waitersMet
 partners-of s l c v (meets-none n ws x) = tt
@@ -114,6 +139,10 @@ partners-of s l c v (meets-first n ws x w y e) =
     let f = first-waits s (across (sideOf (c .side))) (hub s (c .target) .waiters) w e in
     let g = listed-waits s l (c .target) w (f .0) in
     (record { state = g .0; hub = g .1; side = f .1 }, tt)
+partners-of s l c v (meets-all y b e) =
+    each-map (Reads s (hub s (c .target) .waiters) y) (λ m. Waiter s c (m .waiter))
+    (λ m q. let g = listed-waits s l (c .target) (m .waiter) (q .0) in record { state = g .0; hub = g .1; side = q .1 ∙ sym e })
+    (readers s (hub s (c .target) .waiters) y) (readers-waits s (hub s (c .target) .waiters) y)
 partners-of s l c v meets-later = tt
 partners-of s l c v meets-never = tt
 
@@ -122,6 +151,16 @@ partners s l c = partners-of s l c _ (few s c)
 
 pub partners-in : (s : State) (c : Call) (ms : List Meeting) → Partners s c ms → InUse s ms
 partners-in s c ms p = each-map _ _ (λ m q. inUse s (m .waiter) 1 (q .state)) ms p
+
+-- who is told "not now" puts or gets
+pub later-asked : (s : State) (c : Call) → Asked s c → verdict s c ≡ notNow → (c .side ≡ 1) ⊎ (c .side ≡ 2)
+unfolding verdict
+later-asked s c a q = by (a .side)
+  where
+    by : Sided (kindOf (hub s (c .target) .kind)) (c .side) → (c .side ≡ 1) ⊎ (c .side ≡ 2)
+    by (inl e) = inl e
+    by (inr (inl e)) = inr e
+    by (inr (inr e)) = absurd (later-side s (hub s (c .target)) c (e .0) q)
 
 -- ---- the records after a request, by the verdict
 

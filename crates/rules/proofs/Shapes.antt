@@ -6,6 +6,7 @@ use Rattle.rules.proofs.Cases.{and-l, and-r, condCase, sameOr}
 use Rattle.rules.proofs.Changes.{added-other, added-same, hub-added-other, hub-past-end, hub-set-keeps, length-addHub, length-setHub, set-case, set-keeps, set-other}
 use Rattle.rules.proofs.Hubs.{SameHubs, core, hubs-join, hubs-leave, hubs-refl}
 use Rattle.rules.proofs.Passing.{pass-keeps, pass-ready}
+use Rattle.rules.proofs.Settled.{later-asked}
 use Rattle.rules.proofs.Valid.{Listed, Records, Shape, TaskOk}
 use Rattle.rules.specs.Calls.{AddHub, AddTask, Blank, HubRequest, Resume, Service, Sleep, Start, Stop, Suspend, Tick, Unknown, Yield, addHub, addStarted, addTask, blank, carryOut, deactivate, flag, grant, hold, kept, meetAll, newHub, serve, settle, slept, start, stop, tickAll, tickBy, tickOne, wait, yielded}
 use Rattle.rules.specs.HubTable.{Meeting, Verdict, fail, met, notNow, verdict}
@@ -161,15 +162,15 @@ kept-bears h c =
     (λ b _. (eqb-true _ 1 (and-l _ _ b), and-r (eqb (c .side) 1) _ b))
     (λ _ n. absurd (n refl))
 
-ok-waits : (s : State) (c : Call) (t : Task) → TaskOk s t → Asked s c
+ok-waits : (s : State) (c : Call) (t : Task) → TaskOk s t → Asked s c → (c .side ≡ 1) ⊎ (c .side ≡ 2)
     → TaskOk s (waits (c .target) (c .ticks) (c .side) (kept (hub s (c .target)) c) t)
 unfolding Shape stageOf waits
-ok-waits s c t h a = record {
+ok-waits s c t h a d = record {
   suspended = h .suspended;
   priority = h .priority;
   ticks = a .ticks;
   answer = omega arith;
-  shape = (omega arith, a .named, side (a .side) .0, side (a .side) .1, refl, λ n. kept-bears (hub s (c .target)) c n);
+  shape = (omega arith, a .named, side d .0, side d .1, refl, λ n. kept-bears (hub s (c .target)) c n);
 }
   where
     side : (c .side ≡ 1) ⊎ (c .side ≡ 2) → (1 ≤ c .side) × (c .side ≤ 2)
@@ -253,11 +254,11 @@ module _ (key : ℕ → ℕ) where
       amount true m h = (refl, refl)
       amount false m h = absurd (omega arith)
 
-  records-wait : (s : State) (c : Call) → Records s → Asked s c → Records (wait key s c)
+  records-wait : (s : State) (c : Call) → Records s → Asked s c → (c .side ≡ 1) ⊎ (c .side ≡ 2) → Records (wait key s c)
   unfolding wait
-  records-wait s c r a =
+  records-wait s c r a d =
       records-move s₁ _ (words-core s₁ _ (hubs-join key (c .target) (c .caller) s₁)) (unfold joinHub setHub in refl)
-      (records-out (c .caller) t s r (ok-waits s c (task s (c .caller)) (r .each (c .caller)) a))
+      (records-out (c .caller) t s r (ok-waits s c (task s (c .caller)) (r .each (c .caller)) a d))
     where
       t : Task
       t = waits (c .target) (c .ticks) (c .side) (kept (hub s (c .target)) c) (task s (c .caller))
@@ -265,15 +266,15 @@ module _ (key : ℕ → ℕ) where
       s₁ : State
       s₁ = setTask (c .caller) t (leave (c .caller) s)
 
-  records-settle : (v : Verdict) (s : State) (c : Call) → Records s → Asked s c → Records (settle key v s c)
+  records-settle : (v : Verdict) (s : State) (c : Call) → Records s → Asked s c → (v ≡ notNow → (c .side ≡ 1) ⊎ (c .side ≡ 2)) → Records (settle key v s c)
   unfolding hold setHub settle
-  records-settle (met n ws x ms) s c r a =
+  records-settle (met n ws x ms) s c r a d =
       records-meetAll ms _ (records-answer (c .caller) 1 x _ (records-hold (c .target) n ws s r) (a .run) (omega arith) (λ q. absurd (q refl)))
-  records-settle notNow s c r a =
+  records-settle notNow s c r a d =
       condCase Records (eqb (c .mode) 2) _ _
       (λ _. records-answer (c .caller) 2 0 s r (a .run) (omega arith) (λ _. refl))
-      (λ _. records-wait s c r a)
-  records-settle fail s c r a = records-answer (c .caller) 2 0 s r (a .run) (omega arith) (λ _. refl)
+      (λ _. records-wait s c r a (d refl))
+  records-settle fail s c r a d = records-answer (c .caller) 2 0 s r (a .run) (omega arith) (λ _. refl)
 
 -- what is granted leaves the caller ready
 records-grant : (b : Bool) (s′ s : State) (c : Call) → (b ≡ true → Records s′ × (task s′ (c .caller) .state ≡ 2)) → Records s
@@ -319,7 +320,8 @@ pub records-serve : (key : ℕ → ℕ) (v : Service) (s : State) (c : Call) →
 unfolding onTask refusalFor serve
 records-serve key Blank s c l r e = records-blank
 records-serve key HubRequest s c l r e =
-    records-settle key (verdict s c) s c r (request-tests s l c e)
+    let a = request-tests s l c e in
+    records-settle key (verdict s c) s c r a (later-asked s c a)
 records-serve key Start s c l r e =
     let run = by-running s l c _ e .0 in
     records-grant _ _ s c (λ b. (records-start key (c .target) s r, start-ready key (c .target) (c .caller) s run)) r run

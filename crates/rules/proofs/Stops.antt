@@ -12,7 +12,7 @@ use Rattle.rules.proofs.Valid.{GetWaits, MayWait, PutWaits}
 use Rattle.rules.proofs.Waiting.{Good, stop-passed}
 use Rattle.rules.specs.Calls.{deactivate, heir, stop}
 use Rattle.rules.specs.Lists.{leave, queued, readied, unqueue}
-use Rattle.rules.specs.Table.{Get, Hub, NoSide, Put, Resource, Side, State, Task, hub, inactive, owns, setTask, task}
+use Rattle.rules.specs.Table.{Get, Hub, NoSide, Put, Resource, Side, State, Task, Wipe, hub, inactive, owns, setTask, task}
 use Rattle.rules.specs.WellFormed.{waitsFor}
 use borrow.Author.Tests.{ne-eqb}
 use lib.ListN.{length}
@@ -29,6 +29,7 @@ unfolding GetWaits MayWait PutWaits
 never-waits NoSide x i e m = m
 never-waits Put x i e m = m
 never-waits Get x i e m = m .1 e
+never-waits Wipe x i e m = m
 
 module _ (i : ℕ) (s : State) (g : Good s) where
   pub owner-elsewhere : (h : ℕ) → owns i (hub s h) ≡ true → waitsFor s h i ≡ false

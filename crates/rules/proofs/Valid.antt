@@ -3,7 +3,7 @@
 -- Not here: that a test says its statement (Tests.antt), that calls keep it (Kept.antt). Assumes nothing.
 use Prim.Native.Nat.{_<_, _≤_, pred, suc, ℕ}
 use Rattle.lists.specs.Lists.{bit, occ}
-use Rattle.rules.specs.Table.{Event, Fifo, Get, Hub, Inactive, Kind, NoKind, NoSide, NoStage, Port, Put, Ready, Resource, Semaphore, Side, Sleeping, Stage, State, Task, Waiting, hub, kindOf, owns, sideOf, stageOf, task}
+use Rattle.rules.specs.Table.{Board, Event, Fifo, Get, Hub, Inactive, Kind, NoKind, NoSide, NoStage, Port, Put, Ready, Resource, Semaphore, Side, Sleeping, Stage, State, Task, Waiting, Wipe, hub, kindOf, owns, sideOf, stageOf, task}
 use Rattle.rules.specs.WellFormed.{bearsWord, isReady, urgency, waitsFor}
 use lib.ListN.{length}
 use mathlib.Core.Bool.{true}
@@ -40,6 +40,7 @@ GetWaits Semaphore h i = h .count ≡ 0
 GetWaits Port h i = Unit {0}
 GetWaits Fifo h i = h .count ≡ 0
 GetWaits Resource h i = (h .count ≡ 0 → ⊥) × (h .count ≡ suc i → ⊥)
+GetWaits Board h i = h .count ≡ 0
 
 unfoldable pub PutWaits : Kind → Hub → Type 0
 PutWaits NoKind h = ⊥
@@ -48,11 +49,13 @@ PutWaits Semaphore h = h .count ≡ h .limit
 PutWaits Port h = Unit {0}
 PutWaits Fifo h = h .count ≡ h .limit
 PutWaits Resource h = ⊥
+PutWaits Board h = ⊥
 
 unfoldable pub MayWait : Side → Kind → Hub → ℕ → Type 0
 MayWait NoSide k h i = ⊥
 MayWait Put k h i = PutWaits k h
 MayWait Get k h i = GetWaits k h i
+MayWait Wipe k h i = ⊥
 
 pub record Waits (s : State) : Type 0 where
   pub may : (h i : ℕ) → waitsFor s h i ≡ true → MayWait (sideOf (task s i .side)) (kindOf (hub s h .kind)) (hub s h) i
@@ -67,8 +70,9 @@ Range Semaphore T h = (h .count ≤ h .limit) × (1 ≤ h .limit) × (h .limit �
 Range Port T h = (h .count ≡ 0) × (h .limit ≡ 0) × (h .start ≡ 0)
 Range Fifo T h = (h .count ≤ h .limit) × (1 ≤ h .limit) × (h .limit ≤ 8) × (h .start ≡ 0)
 Range Resource T h = (h .count ≤ T) × (h .limit ≡ 1) × (h .start ≡ 0)
+Range Board T h = (h .count ≤ 1) × (h .limit ≡ 1) × (h .start ≡ 0)
 
--- a FIFO's count is how many words it holds; other hubs hold none
+-- a FIFO's count is how many words it holds, and a Board's; other hubs hold none
 unfoldable pub Held : Kind → Hub → Type 0
 Held NoKind h = h .held ≡ []
 Held Event h = h .held ≡ []
@@ -76,6 +80,7 @@ Held Semaphore h = h .held ≡ []
 Held Port h = h .held ≡ []
 Held Fifo h = h .count ≡ length (h .held)
 Held Resource h = h .held ≡ []
+Held Board h = h .count ≡ length (h .held)
 
 pub record Ranges (s : State) : Type 0 where
   pub range : (h : ℕ) → h < length (s .hubs) → Range (kindOf (hub s h .kind)) (length (s .tasks)) (hub s h)

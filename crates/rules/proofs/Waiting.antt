@@ -11,7 +11,7 @@ use Rattle.rules.proofs.Lengths.{length-serve, tasks-grow}
 use Rattle.rules.proofs.Listed.{listed-answer, listed-blank, listed-deactivate, listed-pass, listed-serve}
 use Rattle.rules.proofs.Passing.{length-pass}
 use Rattle.rules.proofs.Quiet.{Moved, Other, Quiet, isAddTask, isResume, isSleep, isStart, isSuspend, isTick, isUnknown, isYield, quiet-answer, quiet-deactivate, quiet-refl, quiet-same, quiet-serve, stays, stopped, timed}
-use Rattle.rules.proofs.Settled.{Partners, caller-in, length-answer, length-settle, met-other, met-waiting, partners, quiet-told, wait-caller, wait-other}
+use Rattle.rules.proofs.Settled.{Partners, caller-in, later-asked, length-answer, length-settle, met-other, met-waiting, partners, quiet-told, wait-caller, wait-other}
 use Rattle.rules.proofs.Standing.{first-waits, listed-waiting, listed-waits, none-waits, waiting-listed, waiting-used}
 use Rattle.rules.proofs.Valid.{GetWaits, Held, Listed, MayWait, PutWaits, Range, Ranges, Valid, Waits}
 use Rattle.rules.proofs.Verdicts.{Apart, Each, JoinLaw, across, after-kind, held-side, hubAfter, join-side, pass-held, pass-range, pass-wait, range-side, side-get, wait-side, waitersMet}
@@ -19,7 +19,7 @@ use Rattle.rules.specs.Calls.{AddHub, AddTask, Blank, HubRequest, Resume
 use Rattle.rules.specs.HubTable.{Verdict, fail, met, notNow, pass, verdict}
 use Rattle.rules.specs.Lists.{answer, firstWaiting, leave, queued, waits}
 use Rattle.rules.specs.Refusals.{goodHub, refusalFor}
-use Rattle.rules.specs.Table.{Event, Fifo, Get, Hub, Kind, NoKind, NoSide, Port, Put, Resource, Semaphore, Side, State, Task, hub, inactive, kindOf, owns, sideOf, task}
+use Rattle.rules.specs.Table.{Board, Event, Fifo, Get, Hub, Kind, NoKind, NoSide, Port, Put, Resource, Semaphore, Side, State, Task, Wipe, hub, inactive, kindOf, owns, sideOf, task}
 use Rattle.rules.specs.WellFormed.{waitsFor, within}
 use Rattle.rules.specs.declared.Call.{Call}
 use borrow.Author.Tests.{eq-eqb, eqb-true, leb-true, lt-ltb, ltb-false, ltb-true}
@@ -47,12 +47,15 @@ may-queued Put Semaphore x l j m = m
 may-queued Put Port x l j m = m
 may-queued Put Fifo x l j m = m
 may-queued Put Resource x l j m = m
+may-queued Put Board x l j m = m
 may-queued Get NoKind x l j m = m
 may-queued Get Event x l j m = m
 may-queued Get Semaphore x l j m = m
 may-queued Get Port x l j m = m
 may-queued Get Fifo x l j m = m
 may-queued Get Resource x l j m = m
+may-queued Get Board x l j m = m
+may-queued Wipe k x l j m = m
 
 -- the same side and kind, read from equal numbers
 may-move : (d d′ : ℕ) (x x′ : Hub) (j : ℕ) → d′ ≡ d → core x′ ≡ core x → MayWait (sideOf d) (kindOf (x .kind)) x j
@@ -69,6 +72,7 @@ range-queued Semaphore T x l r = r
 range-queued Port T x l r = r
 range-queued Fifo T x l r = r
 range-queued Resource T x l r = r
+range-queued Board T x l r = r
 
 range-move : (T : ℕ) (x x′ : Hub) → core x′ ≡ core x → Range (kindOf (x .kind)) T x → Range (kindOf (x′ .kind)) T x′
 unfolding queued
@@ -82,6 +86,7 @@ held-queued Semaphore x l e = e
 held-queued Port x l e = e
 held-queued Fifo x l e = e
 held-queued Resource x l e = e
+held-queued Board x l e = e
 
 held-move : (x x′ : Hub) → core x′ ≡ core x → Held (kindOf (x .kind)) x → Held (kindOf (x′ .kind)) x′
 unfolding queued
@@ -96,6 +101,7 @@ range-more Semaphore T T′ x h r = r
 range-more Port T T′ x h r = r
 range-more Fifo T T′ x h r = r
 range-more Resource T T′ x h r = (omega (arith, h, r .0), r .1, r .2)
+range-more Board T T′ x h r = r
 
 -- ---- calls that meet no request
 
@@ -169,7 +175,8 @@ unfolding MayWait sideOf
 may-side zero k x j m = absurd m
 may-side (suc zero) k x j m = inl refl
 may-side (suc (suc zero)) k x j m = inr refl
-may-side (suc (suc (suc n))) k x j m = absurd m
+may-side (suc (suc (suc zero))) k x j m = absurd m
+may-side (suc (suc (suc (suc n)))) k x j m = absurd m
 
 -- two sides, of which one is not across from the other
 same-side : (n d : ℕ) → (n ≡ 1) ⊎ (n ≡ 2) → (d ≡ 1) ⊎ (d ≡ 2) → n ≢ across (sideOf d) → n ≡ d
@@ -229,7 +236,8 @@ module _ (key : ℕ → ℕ) (s : State) (l : Listed s) (m : Waits s) (r : Range
 
   goes-on : (i : ℕ) → waitsFor s (c .target) i ≡ true → Apart (waitersMet v) i → MayWait (sideOf (task s i .side)) k (hubAfter x v) i
   unfolding verdict
-  goes-on i w n = wait-side (sideOf (c .side)) (task s i .side) T s x c i range held (m .may (c .target) i w) (nobody-across i w) n
+  goes-on i w n =
+      wait-side (sideOf (c .side)) (task s i .side) T s x c i range held (m .may (c .target) i w) (waiting-listed s l (c .target) i w) refl (nobody-across i w) n
 
   -- told "not now": the caller may wait, and all who wait are on its side
   join-law : v ≡ notNow → MayWait (sideOf (c .side)) k x (c .caller) × ((i : ℕ) → waitsFor s (c .target) i ≡ true → task s i .side ≡ c .side)
@@ -239,7 +247,7 @@ module _ (key : ℕ → ℕ) (s : State) (l : Listed s) (m : Waits s) (r : Range
       let j : JoinLaw k (sideOf (c .side)) x (c .caller) f v = join-side (sideOf (c .side)) T s x c range held first-may in
       let p : MayWait (sideOf (c .side)) k x (c .caller) × (f ≡ none) = rw q at j in (
         p .0,
-        λ i w. same-side (task s i .side) (c .side) (may-side (task s i .side) k x i (m .may (c .target) i w)) (a .side) (nobody-across i w (p .1)),
+        λ i w. same-side (task s i .side) (c .side) (may-side (task s i .side) k x i (m .may (c .target) i w)) (later-asked s c a q) (nobody-across i w (p .1)),
       )
 
   may-after : (h i : ℕ) → After s c v s′ h i → MayWait (sideOf (task s′ i .side)) (kindOf (hub s′ h .kind)) (hub s′ h) i
@@ -304,6 +312,8 @@ new-range Fifo c T e =
     (omega (arith, d), w .0, w .1, d)
 new-range Resource c T e =
     let b : c .word ≡ 0 = eqb-true _ 0 (and-r (eqb (c .ticks) 1) _ e) in (omega (arith, b), eqb-true _ 1 (and-l _ _ e), b)
+new-range Board c T e =
+    let b : c .word ≡ 0 = eqb-true _ 0 (and-r (eqb (c .ticks) 1) _ e) in (omega (arith, b), eqb-true _ 1 (and-l _ _ e), b)
 
 -- it holds nothing: a FIFO's count is its start, and that is 0
 new-held : (k : Kind) (c : Call) → goodHub k (c .ticks) (c .word) ≡ true → Held k (newHub c)
@@ -314,6 +324,7 @@ new-held Semaphore c e = refl
 new-held Port c e = refl
 new-held Fifo c e = eqb-true _ 0 (and-r (within 1 8 (c .ticks)) _ e)
 new-held Resource c e = refl
+new-held Board c e = eqb-true _ 0 (and-r (eqb (c .ticks) 1) _ e)
 
 -- ---- by service
 

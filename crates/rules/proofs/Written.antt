@@ -11,7 +11,7 @@ use Rattle.rules.proofs.Reading.{length-tab, read-hub, read-hubs, read-
 use Rattle.rules.proofs.Rows.{rows-none}
 use Rattle.rules.proofs.Tests.{t-below-all, t-hubs}
 use Rattle.rules.proofs.Valid.{Fits, Held, Range}
-use Rattle.rules.specs.Table.{Event, Fifo, Hub, Kind, Layout, NoKind, Port, Resource, Semaphore, Task, contents, heldIn, hub, hubAt, hubWordAt, hubWords, hubsAt, kindOf, one, part, read, readyAt, rows, size, storeFrom, storeOf, storePart, storeSize, storeWords, storesAt, tab, taskAt, taskFrom, taskSize, taskWords, tasksAt, waitPart, waitWords, waitsAt, words}
+use Rattle.rules.specs.Table.{Board, Event, Fifo, Hub, Kind, Layout, NoKind, Port, Resource, Semaphore, Task, contents, heldIn, hub, hubAt, hubWordAt, hubWords, hubsAt, kindOf, one, part, read, readyAt, rows, size, storeFrom, storeOf, storePart, storeSize, storeWords, storesAt, tab, taskAt, taskFrom, taskSize, taskWords, tasksAt, waitPart, waitWords, waitsAt, words}
 use Rattle.rules.specs.WellFormed.{contentsRight, hubsRight, listsPacked, storeRight, storesRight, unusedZero, valid, written, zeroFrom}
 use borrow.Author.Tests.{eqb-true, leb-true, ltb-false, ltb-true}
 use lib.Dec.{ltb}
@@ -232,6 +232,7 @@ module _ {ts : ℕ} {L : Layout} (y : Laid ts L) (ok : ℕ → Type 0) (none : o
   store-words Port n h lt e = none-words h lt e
   store-words Fifo n h lt e = messages-words n h lt e
   store-words Resource n h lt e = none-words h lt e
+  store-words Board n h lt e = messages-words n h lt e
 
   -- the six bodies, one after the other
   bodies : t ≡ take 8 t ++ (part tasksAt (16 * taskSize L) t ++ (part (hubsAt L) (16 * 4) t ++ (part (readyAt L) 16 t ++ (part (waitsAt L) (16 * 16) t ++ part (storesAt L) (16 * storeSize L) t))))
@@ -310,6 +311,7 @@ holds L Semaphore T x l e r = e
 holds L Port T x l e r = e
 holds L Fifo T x l e r = sym (ap length e ∙ length-tab (λ j. L .messageFrom (λ k. getD l (j * L .width + k) 0)) (x .count) 0)
 holds L Resource T x l e r = e
+holds L Board T x l e r = sym (ap length e ∙ length-tab (λ j. L .messageFrom (λ k. getD l (j * L .width + k) 0)) (x .count) 0)
 
 pub read-fits : (L : Layout) (t : List ℕ) → written L t ≡ true → valid (read L t) ≡ true → Fits (read L t)
 unfolding hubAt valid

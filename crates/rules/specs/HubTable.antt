@@ -1,8 +1,8 @@
--- The hub table: what a hub says of a put or a get, by its kind; a row of the paper for each definition. What a verdict does
+-- The hub table: what a hub says of a put, a get or a wipe, by its kind; a row of the paper for each definition. What a verdict does
 -- to the table is in Calls.antt.
 use Prim.Native.Nat.{pred, suc, ℕ}
 use Rattle.rules.specs.Lists.{firstWaiting}
-use Rattle.rules.specs.Table.{Event, Fifo, Get, Hub, Kind, NoKind, NoSide, Port, Put, Resource, Semaphore, Side, State, hub, kindOf, sideOf, task}
+use Rattle.rules.specs.Table.{Board, Event, Fifo, Get, Hub, Kind, NoKind, NoSide, Port, Put, Resource, Semaphore, Side, State, Wipe, hub, kindOf, sideOf, task}
 use Rattle.rules.specs.declared.Call.{Call}
 use lib.Dec.{eqb, ltb}
 use mathlib.Core.Bool.{cond}
@@ -59,6 +59,14 @@ pass none h = alone 0 (h .held) 0
 unfoldable pub putResource : Option ℕ → Hub → ℕ → Verdict
 putResource f h caller = cond (eqb (h .count) (suc caller)) (pass f h) fail
 
+-- Board (M-103): "always OK, and every waiting reader is met with the word, in list order"
+unfoldable pub readers : State → List ℕ → ℕ → List Meeting
+readers s [] x = []
+readers s (t ∷ ts) x = cond (eqb (task s t .side) 2) (record { waiter = t; word = x } ∷ readers s ts x) (readers s ts x)
+
+unfoldable pub putBoard : State → Hub → ℕ → Verdict
+putBoard s h x = met 1 (x ∷ []) 0 (readers s (h .waiters) x)
+
 -- ---- get: by the first putter that waits, and the hub
 
 -- "count 1: a putter waits, the first is met and count stays 1; else becomes 0. Count 0: not now"
@@ -87,15 +95,32 @@ unfoldable pub getResource : Hub → ℕ → Verdict
 getResource h caller =
     cond (eqb (h .count) 0) (alone (suc caller) (h .held) 0) (cond (eqb (h .count) (suc caller)) fail notNow)
 
+-- Board (M-103): "reads without taking, its word the board's; on an unwritten board it is 'not now'"
+unfoldable pub getBoard : List ℕ → Hub → Verdict
+getBoard [] h = notNow
+getBoard (x ∷ xs) h = alone (h .count) (h .held) x
+
+-- ---- wipe, side 3: of a Board (M-103) "always OK, and store and count become 0"; of any other kind it is refused before
+
+unfoldable pub onWipe : Kind → Verdict
+onWipe NoKind = fail
+onWipe Event = fail
+onWipe Semaphore = fail
+onWipe Port = fail
+onWipe Fifo = fail
+onWipe Resource = fail
+onWipe Board = alone 0 [] 0
+
 -- ---- by kind, and by side; a kind or side that no table in use has fails
 
-unfoldable pub onPut : Kind → Option ℕ → Hub → ℕ → ℕ → Verdict
-onPut NoKind f h caller x = fail
-onPut Event f h caller x = putEvent f h
-onPut Semaphore f h caller x = putSemaphore f h
-onPut Port f h caller x = putPort f h x
-onPut Fifo f h caller x = putFifo f h x
-onPut Resource f h caller x = putResource f h caller
+unfoldable pub onPut : Kind → State → Option ℕ → Hub → ℕ → ℕ → Verdict
+onPut NoKind s f h caller x = fail
+onPut Event s f h caller x = putEvent f h
+onPut Semaphore s f h caller x = putSemaphore f h
+onPut Port s f h caller x = putPort f h x
+onPut Fifo s f h caller x = putFifo f h x
+onPut Resource s f h caller x = putResource f h caller
+onPut Board s f h caller x = putBoard s h x
 
 unfoldable pub onGet : Kind → State → Option ℕ → Hub → ℕ → Verdict
 onGet NoKind s f h caller = fail
@@ -104,11 +129,13 @@ onGet Semaphore s f h caller = getSemaphore f h
 onGet Port s f h caller = getPort s f h
 onGet Fifo s f h caller = getFifo s (h .held) f h
 onGet Resource s f h caller = getResource h caller
+onGet Board s f h caller = getBoard (h .held) h
 
 unfoldable pub onSide : Side → State → Hub → Call → Verdict
 onSide NoSide s h c = fail
-onSide Put s h c = onPut (kindOf (h .kind)) (firstWaiting s 2 (h .waiters)) h (c .caller) (c .word)
+onSide Put s h c = onPut (kindOf (h .kind)) s (firstWaiting s 2 (h .waiters)) h (c .caller) (c .word)
 onSide Get s h c = onGet (kindOf (h .kind)) s (firstWaiting s 1 (h .waiters)) h (c .caller)
+onSide Wipe s h c = onWipe (kindOf (h .kind))
 
 unfoldable pub verdict : State → Call → Verdict
 verdict s c = onSide (sideOf (c .side)) s (hub s (c .target)) c

@@ -2,7 +2,7 @@
 use Prim.Native.Nat.{suc, ℕ}
 use Rattle.rules.specs.Calls.{AddHub, AddTask, Blank, HubRequest, Resume, Service, Sleep, Start, Stop, Suspend, Tick, Unknown, Yield, serviceOf}
 use Rattle.rules.specs.Lists.{next}
-use Rattle.rules.specs.Table.{Event, Fifo, Kind, Layout, NoKind, Port, Resource, Semaphore, State, kindOf, one, read, size}
+use Rattle.rules.specs.Table.{Board, Event, Fifo, Kind, Layout, NoKind, Port, Resource, Semaphore, State, hub, kindOf, one, read, size}
 use Rattle.rules.specs.WellFormed.{wellFormedIn, within}
 use Rattle.rules.specs.declared.Call.{Call}
 use lib.Dec.{eqb, leb, ltb}
@@ -41,11 +41,21 @@ goodWait W ticks = eqb ticks 0
 goodWait NW ticks = eqb ticks 0
 goodWait WT ticks = within 1 1000000 ticks
 
--- "side not 1 or 2", and the mode with its ticks
-abbrev pub goodRequest : Call → Bool
-goodRequest c = within 1 2 (c .side) && goodWait (modeOf (c .mode)) (c .ticks)
+-- "side not 1 or 2"; "Side 3 on any other kind stays refusal 6" than a Board (M-103)
+unfoldable pub lastSide : Kind → ℕ
+lastSide NoKind = 2
+lastSide Event = 2
+lastSide Semaphore = 2
+lastSide Port = 2
+lastSide Fifo = 2
+lastSide Resource = 2
+lastSide Board = 3
 
--- "kind not 1 to 5, limit or start outside the kinds table"
+-- the side, at a hub of this kind, and the mode with its ticks
+abbrev pub goodRequest : Kind → Call → Bool
+goodRequest k c = within 1 (lastSide k) (c .side) && goodWait (modeOf (c .mode)) (c .ticks)
+
+-- "kind not 1 to 5" (6 with M-103), "limit or start outside the kinds table"
 unfoldable pub goodHub : Kind → ℕ → ℕ → Bool
 goodHub NoKind limit start = false
 goodHub Event limit start = eqb limit 1 && eqb start 0
@@ -53,12 +63,13 @@ goodHub Semaphore limit start = within 1 65535 limit && leb start limit
 goodHub Port limit start = eqb limit 0 && eqb start 0
 goodHub Fifo limit start = within 1 8 limit && eqb start 0
 goodHub Resource limit start = eqb limit 1 && eqb start 0
+goodHub Board limit start = eqb limit 1 && eqb start 0
 
 -- ---- by service, each row's tests in the order of their numbers; 3 "service above 10"; 7 "service 9 or 10 with 16 already"
 
 unfoldable pub refusalFor : Service → State → Call → ℕ
 refusalFor Blank s c = 0
-refusalFor HubRequest s c = byRunning s c (need (ltb (c .target) (length (s .hubs))) 5 (need (goodRequest c) 6 0))
+refusalFor HubRequest s c = byRunning s c (need (ltb (c .target) (length (s .hubs))) 5 (need (goodRequest (kindOf (hub s (c .target) .kind)) c) 6 0))
 refusalFor Start s c = onTask s c
 refusalFor Stop s c = onTask s c
 refusalFor Suspend s c = onTask s c

@@ -40,11 +40,11 @@ abbrev pub isSuspended : Task → Bool
 isSuspended t = not (eqb (t .suspended) 0)
 
 pub data Side : Type 0 where
-  NoSide Put Get : Side
+  NoSide Put Get Wipe : Side
 
--- 0 none, 1 put, 2 get
+-- 0 none, 1 put, 2 get; of a call also 3 wipe (M-103)
 unfoldable pub sideOf : ℕ → Side
-sideOf n = getD (NoSide ∷ Put ∷ Get ∷ []) n NoSide
+sideOf n = getD (NoSide ∷ Put ∷ Get ∷ Wipe ∷ []) n NoSide
 
 -- ---- "Hub record: kind, count, limit, start"
 
@@ -58,11 +58,11 @@ pub record Hub : Type 0 where
   pub held : List ℕ
 
 pub data Kind : Type 0 where
-  NoKind Event Semaphore Port Fifo Resource : Kind
+  NoKind Event Semaphore Port Fifo Resource Board : Kind
 
--- 1 Event, 2 Semaphore, 3 Port, 4 FIFO, 5 Resource
+-- 1 Event, 2 Semaphore, 3 Port, 4 FIFO, 5 Resource, 6 Board (M-103)
 unfoldable pub kindOf : ℕ → Kind
-kindOf n = getD (NoKind ∷ Event ∷ Semaphore ∷ Port ∷ Fifo ∷ Resource ∷ []) n NoKind
+kindOf n = getD (NoKind ∷ Event ∷ Semaphore ∷ Port ∷ Fifo ∷ Resource ∷ Board ∷ []) n NoKind
 
 unfoldable pub isResource : Kind → Bool
 isResource NoKind = false
@@ -71,6 +71,7 @@ isResource Semaphore = false
 isResource Port = false
 isResource Fifo = false
 isResource Resource = true
+isResource Board = false
 
 -- whether task i owns hub h: a Resource's count is "0 free, else owner plus 1"
 unfoldable pub owns : ℕ → Hub → Bool
@@ -236,7 +237,8 @@ storePart L t h = part (storesAt L + h * storeSize L) (storeSize L) t
 abbrev pub storeFrom : Layout → ℕ → List ℕ → List ℕ
 storeFrom L n store = tab n 0 (λ j. L .messageFrom (λ k. getD store (j * L .width + k) 0))
 
--- "A FIFO's store holds its words, oldest first": its count says how many. Other stores hold none.
+-- "A FIFO's store holds its words, oldest first": its count says how many. A Board's holds "the word in its store's first place"
+-- when it is written, count 1. Other stores hold none.
 unfoldable pub heldIn : Layout → Kind → ℕ → List ℕ → List ℕ
 heldIn L NoKind count store = []
 heldIn L Event count store = []
@@ -244,6 +246,7 @@ heldIn L Semaphore count store = []
 heldIn L Port count store = []
 heldIn L Fifo count store = storeFrom L count store
 heldIn L Resource count store = []
+heldIn L Board count store = storeFrom L count store
 
 unfoldable pub hubAt : Layout → List ℕ → ℕ → Hub
 hubAt L t h = record {

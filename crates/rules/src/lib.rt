@@ -53,10 +53,15 @@ pub const FIFO: u32 = 4;
 
 pub const RESOURCE: u32 = 5;
 
+pub const BOARD: u32 = 6;
+
 // The sides of a hub request.
 pub const PUT: u32 = 1;
 
 pub const GET: u32 = 2;
+
+// of a Board alone (M-103)
+pub const WIPE: u32 = 3;
 
 // Its modes: wait, no wait, wait at most so many ticks.
 pub const W: u32 = 1;

@@ -8,15 +8,15 @@ use Rattle.rules.proofs.Numbers.{resource-number}
 use Rattle.rules.proofs.Reading.{read-hub, read-tasks}
 use Rattle.rules.proofs.Tests.{t-kind}
 use Rattle.rules.proofs.Valid.{Range}
-use Rattle.rules.specs.Table.{Fifo, Hub, Layout, hub, hubAt, hubsAt, inactive, kindOf, read, storeSize, storesAt, task, waitPart, waitsAt}
+use Rattle.rules.specs.Table.{Board, Fifo, Hub, Layout, hub, hubAt, hubsAt, inactive, kindOf, read, storeSize, storesAt, task, waitPart, waitsAt}
 use Rattle.rules.specs.WellFormed.{forAll, kindRight, ownerRight, storeRight}
 use Rattle.wellformed.proofs.Parts.{so-many}
 use Rattle.wellformed.proofs.Turns.{entry-side, entry-state, forAll-fail, forAll-none, forAll-step, numbers-end, occ-le}
 use Rattle.wellformed.specs.Walks.{Marked, Marks, Used, hubRight, kindTest, may, metAt, ownerOf, ownerTest, queueRight, queueTest, storeTest, waitsOf, walks}
-use borrow.Author.Tests.{eq-eqb, le-leb, lt-leb, ne-eqb}
+use borrow.Author.Tests.{eq-eqb, eqb-true, le-leb, lt-leb, ne-eqb}
 use lib.Dec.{eqb}
 use lib.ListN.{List·getD-eq-default, drop, getD, length, length-take, take}
-use mathlib.Core.Bool.{Bool, _&&_, false, false≢true, not, true}
+use mathlib.Core.Bool.{Bool, _&&_, _||_, cond, false, false≢true, not, true}
 use mathlib.Core.List.{List}
 use mathlib.Core.Path.{_∙_, _≡_, ap, refl, sym}
 use native.Mathlib.Nat.{add-zero}
@@ -38,22 +38,29 @@ module _ {test : Bool} {met : ℕ → ℕ} {m : List ℕ} where
   marked-as : {other : Bool} {with : ℕ → ℕ} {r : Bool} {n : List ℕ} → other ≡ test → ((j : ℕ) → with j ≡ met j) → Marked r other with m n → Marked r test met m n
   marked-as e q w = record { right = w .right ∙ e; long = w .long; marks = λ f j. rw (q j) at (w .marks f j) }
 
--- ---- a store by the number of its hub's kind: a FIFO's, and any other
+-- ---- a store by the number of its hub's kind: a FIFO's or a Board's, and any other
+
+abbrev stores : ℕ → Bool
+stores n = eqb n 4 || eqb n 6
 
 module _ (L : Layout) where
-  pub store-fifo : (n count w : ℕ) (store : List ℕ) → n ≡ 4 → w ≡ L .width → storeRight L (kindOf n) count store ≡ allZero (drop (count * w) store)
+  store-by : (n count : ℕ) (store : List ℕ) → storeRight L (kindOf n) count store ≡ cond (stores n) (allZero (drop (count * L .width) store)) (allZero store)
   unfolding kindOf storeRight
-  store-fifo n count w store e f = rw (e, f)
+  store-by zero count store = refl
+  store-by (suc zero) count store = refl
+  store-by (suc (suc zero)) count store = refl
+  store-by (suc (suc (suc zero))) count store = refl
+  store-by (suc (suc (suc (suc zero)))) count store = refl
+  store-by (suc (suc (suc (suc (suc zero))))) count store = refl
+  store-by (suc (suc (suc (suc (suc (suc zero)))))) count store = refl
+  store-by (suc (suc (suc (suc (suc (suc (suc n))))))) count store =
+      let m : ℕ = suc (suc (suc (suc (suc (suc (suc n)))))) in rw (ne-eqb m 4 (λ e. omega arith), ne-eqb m 6 (λ e. omega arith))
 
-  pub store-other : (n count : ℕ) (store : List ℕ) → (n ≡ 4 → ⊥) → storeRight L (kindOf n) count store ≡ allZero store
-  unfolding kindOf storeRight
-  store-other zero count store d = refl
-  store-other (suc zero) count store d = refl
-  store-other (suc (suc zero)) count store d = refl
-  store-other (suc (suc (suc zero))) count store d = refl
-  store-other (suc (suc (suc (suc zero)))) count store d = absurd (d refl)
-  store-other (suc (suc (suc (suc (suc zero))))) count store d = refl
-  store-other (suc (suc (suc (suc (suc (suc n)))))) count store d = refl
+  pub store-held : (n count w : ℕ) (store : List ℕ) → stores n ≡ true → w ≡ L .width → storeRight L (kindOf n) count store ≡ allZero (drop (count * w) store)
+  store-held n count w store e f = store-by n count store ∙ rw (e, f)
+
+  pub store-other : (n count : ℕ) (store : List ℕ) → stores n ≡ false → storeRight L (kindOf n) count store ≡ allZero store
+  store-other n count store e = store-by n count store ∙ rw e
 
 module _ (L : Layout) (t : List ℕ) (h : ℕ) (u : h < getD t 2 0) where
   pub wait-words : hub (read L t) h .waiters ≡ numbers (waitPart L t h)
@@ -84,10 +91,12 @@ module _ (L : Layout) (t : List ℕ) (h : ℕ) (u : h < getD t 2 0) where
 
     -- ---- its store, which starts at word a
 
-    pub fifo-fits : kindTest L t h ≡ true → getD t b 0 ≡ 4 → getD t (b + 1) 0 ≤ 8
+    pub held-fits : kindTest L t h ≡ true → stores (getD t b 0) ≡ true → getD t (b + 1) 0 ≤ 8
     unfolding Range kindOf
-    fifo-fits a e =
-        let q = t-kind Fifo (getD t 1 0) here .yes (sym (kind-arm 4 e) ∙ a) in omega (arith, q .0, q .2)
+    held-fits a e =
+        boolCase (eqb (getD t b 0) 4)
+        (λ f. let q = t-kind Fifo (getD t 1 0) here .yes (sym (kind-arm 4 (eqb-true _ 4 f)) ∙ a) in omega (arith, q .0, q .2))
+        (λ f. let q = t-kind Board (getD t 1 0) here .yes (sym (kind-arm 6 (eqb-true _ 6 (rw f at e))) ∙ a) in omega (arith, q .0))
 
     pub store-as : (a n : ℕ) → a ≡ storesAt L + h * storeSize L → n ≡ storeSize L → storeTest L t h ≡ storeRight L (kindOf (getD t b 0)) (getD t (b + 1) 0) (take (a + n - a) (drop a t))
     unfolding storeTest

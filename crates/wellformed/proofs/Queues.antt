@@ -90,21 +90,24 @@ eqb-swap m n = boolCase (eqb n m) (λ b. rw (b, eq-eqb m n (sym (eqb-true n m b)
 pub may-wait : (d k T i : ℕ) (h : Hub) → Range (kindOf k) T h → mayWait (sideOf d) (kindOf k) h i ≡ (may d k (h .count) (h .limit) && not (eqb (suc i) (ownerOf k (h .count))))
 unfolding Range kindOf mayWait sideOf
 may-wait zero k T i h r = refl
-may-wait (suc (suc (suc d))) k T i h r = rw (ne-eqb (suc (suc (suc d))) 1 (λ e. omega arith), ne-eqb (suc (suc (suc d))) 2 (λ e. omega arith))
+may-wait (suc (suc (suc zero))) k T i h r = refl
+may-wait (suc (suc (suc (suc d)))) k T i h r = rw (ne-eqb (suc (suc (suc (suc d)))) 1 (λ e. omega arith), ne-eqb (suc (suc (suc (suc d)))) 2 (λ e. omega arith))
 may-wait (suc zero) zero T i h r = absurd r
 may-wait (suc zero) (suc zero) T i h r = simp (eqb·suc-zero, or-false, and-true)
 may-wait (suc zero) (suc (suc zero)) T i h r = simp (eqb·suc-zero, or-false, and-true)
 may-wait (suc zero) (suc (suc (suc zero))) T i h r = rw (r .0, r .1, eqb·suc-zero)
 may-wait (suc zero) (suc (suc (suc (suc zero)))) T i h r = simp (eqb·suc-zero, or-false, and-true)
 may-wait (suc zero) (suc (suc (suc (suc (suc zero))))) T i h r = refl
-may-wait (suc zero) (suc (suc (suc (suc (suc (suc k)))))) T i h r = absurd r
+may-wait (suc zero) (suc (suc (suc (suc (suc (suc zero)))))) T i h r = refl
+may-wait (suc zero) (suc (suc (suc (suc (suc (suc (suc k))))))) T i h r = absurd r
 may-wait (suc (suc zero)) zero T i h r = absurd r
 may-wait (suc (suc zero)) (suc zero) T i h r = simp (eqb·suc-zero, and-true)
 may-wait (suc (suc zero)) (suc (suc zero)) T i h r = simp (eqb·suc-zero, and-true)
 may-wait (suc (suc zero)) (suc (suc (suc zero))) T i h r = rw (r .0, eqb·suc-zero)
 may-wait (suc (suc zero)) (suc (suc (suc (suc zero)))) T i h r = simp (eqb·suc-zero, and-true)
 may-wait (suc (suc zero)) (suc (suc (suc (suc (suc zero))))) T i h r = rw (eqb-swap (suc i) (h .count), or-false)
-may-wait (suc (suc zero)) (suc (suc (suc (suc (suc (suc k)))))) T i h r = absurd r
+may-wait (suc (suc zero)) (suc (suc (suc (suc (suc (suc zero)))))) T i h r = simp (eqb·suc-zero, and-true)
+may-wait (suc (suc zero)) (suc (suc (suc (suc (suc (suc (suc k))))))) T i h r = absurd r
 
 -- ---- a hub's list
 

@@ -47,10 +47,11 @@ pub record Marked (r test : Bool) (met : ℕ → ℕ) (before after : List ℕ) 
 
 -- ---- a hub
 
--- who may wait, but for a Resource's owner, where the hub's ranges are right: a Port's count and limit are 0
+-- who may wait, but for a Resource's owner, where the hub's ranges are right: a Port's count and limit are 0. At a Board only
+-- readers, and only while it is unwritten.
 abbrev pub may : ℕ → ℕ → ℕ → ℕ → Bool
 may side kind count limit =
-    (eqb side 1 && (not (eqb kind 5) && eqb count limit))
+    (eqb side 1 && ((not (eqb kind 5) && not (eqb kind 6)) && eqb count limit))
     || (eqb side 2 && ((eqb kind 5 && not (eqb count 0)) || (not (eqb kind 5) && eqb count 0)))
 
 -- a Resource's owner plus 1, else 0

@@ -142,11 +142,13 @@ fn kind_right(t: &[u32], ts: usize, h: usize) -> bool
         rules::FIFO => (count <= limit)
             & (((1 <= limit) & (limit <= rules::MOST_HELD)) & (start == 0)),
         rules::RESOURCE => (count <= t[TASKS]) & ((limit == 1) & (start == 0)),
+        rules::BOARD => (count <= 1) & ((limit == 1) & (start == 0)),
         _ => false,
     }
 }
 
-// "A FIFO's store holds its words, oldest first, then zeros. Other stores are 0."
+// "A FIFO's store holds its words, oldest first, then zeros. Other stores are 0." A Board's: "the word in its store's first
+// place", else 0.
 fn store_right(t: &[u32], ts: usize, h: usize) -> bool
     requires { ⌜ Used ts (now t) ⌝ }
     requires { ⌜ h < getD (now t) 2 0 ⌝ }
@@ -156,7 +158,8 @@ fn store_right(t: &[u32], ts: usize, h: usize) -> bool
     let at = records::store_at(ts, HubNo(h));
     let store = &t[at..at + records::store_size(ts)];
     let b = records::hubs_at(ts) + h * HUB_SIZE;
-    if t[b] == rules::FIFO {
+    let kind = t[b];
+    if (kind == rules::FIFO) | (kind == rules::BOARD) {
         let n = t[b + COUNT] as usize;
         lists::zeros(&store[n * records::width_of(ts)..])
     } else {
@@ -164,11 +167,13 @@ fn store_right(t: &[u32], ts: usize, h: usize) -> bool
     }
 }
 
-// Who may wait on a side of a hub, but for a Resource's owner. A Port's count and limit are 0, so either side may.
+// Who may wait on a side of a hub, but for a Resource's owner. A Port's count and limit are 0, so either side may. Only
+// readers wait at a Board, and only while it is unwritten.
 fn may_wait(side: u32, kind: u32, count: u32, limit: u32) -> bool
     ensures { λ r. ⌜ r ≡ may side kind count limit ⌝ }
 {
-    ((side == rules::PUT) & ((kind != rules::RESOURCE) & (count == limit)))
+    ((side == rules::PUT)
+        & (((kind != rules::RESOURCE) & (kind != rules::BOARD)) & (count == limit)))
         | ((side == rules::GET)
             & (((kind == rules::RESOURCE) & (count != 0))
                 | ((kind != rules::RESOURCE) & (count == 0))))
@@ -296,7 +301,8 @@ fn sleeping_right(hub: u32, ticks: u32, side: u32, word: u64, answer: u32) -> bo
     (hub == 0) & ((side == 0) & ((word == 0) & ((answer == 0) & (1 <= ticks))))
 }
 
-// "Waiting: hub in use, side 1 or 2, answer 0, word 0 unless it puts to a Port or FIFO."
+// "Waiting: hub in use, side 1 or 2, answer 0, word 0 unless it puts to a Port or FIFO." A put to a Board bears a word too,
+// but its list refuses it: nobody waits to put there.
 fn waiting_right(t: &[u32], ts: usize, hub: u32, side: u32, word: u64, answer: u32) -> bool
     requires { ⌜ Used ts (now t) ⌝ }
     ensures { λ r. ⌜ ((L : Layout) (x : Task) → Laid ts L
@@ -313,7 +319,8 @@ fn waiting_right(t: &[u32], ts: usize, hub: u32, side: u32, word: u64, answer: u
     let kind = t[records::hubs_at(ts) - HUB_SIZE + (hub as usize) * HUB_SIZE];
     ((rules::PUT <= side) & (side <= rules::GET))
         & ((answer == 0)
-            & (((side == rules::PUT) & ((kind == rules::PORT) | (kind == rules::FIFO)))
+            & (((side == rules::PUT)
+                & ((kind == rules::PORT) | ((kind == rules::FIFO) | (kind == rules::BOARD))))
                 | (word == 0)))
 }
 

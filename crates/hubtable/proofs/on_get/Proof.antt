@@ -19,6 +19,9 @@ get-fifo-requires c κs = search needs
 get-resource-requires : tie.Need-get-resource-requires
 get-resource-requires c κs = search needs
 
+get-board-requires : tie.Need-get-board-requires
+get-board-requires c κs = search needs
+
 get-counted-requires : tie.Need-get-counted-requires
 get-counted-requires c κs = search needs
 
@@ -40,25 +43,34 @@ unfolding kindOf onGet
 returns-3 c = ((λ x s T e r held its oldest. rw (ap kindOf (sym (e .kind) ∙ c .before .match .keys3)) (c .get-resource .ensures .0 x e)), λ b z its oldest. c .get-resource .ensures .1 b z)
 
 returns-4 : tie.Need-returns-4
+unfolding Held kindOf onGet
 returns-4 c = (
+  (λ x s T e r held its oldest.
+      let board = ap kindOf (sym (e .kind) ∙ c .before .match .keys4) in
+      rw board (c .get-board .ensures .0 x e (rw board at held) oldest)),
+  λ b z its oldest. c .get-board .ensures .1 b oldest,
+)
+
+returns-5 : tie.Need-returns-5
+returns-5 c = (
   (λ x s T e r held its oldest.
       c .get-counted .ensures .0 x e
       ∙ counted-get _ x T _ s (x .kind) (omega arith) (omega arith) r),
   λ b z its oldest. c .get-counted .ensures .1 b z,
 )
 
-returns-5 : tie.Need-returns-5
+returns-6 : tie.Need-returns-6
 unfolding Below kindOf onGet says
-returns-5 c = (
+returns-6 c = (
   (λ x s T e r held its oldest.
       let unused : x .kind ≡ 0 = omega arith in
       rw (ap kindOf unused)),
   λ b z its oldest. tt,
 )
 
-returns-6 : tie.Need-returns-6
+returns-7 : tie.Need-returns-7
 unfolding Below onGet says
-returns-6 c = ((λ x s T e r held its oldest. rw (no-kind (x .kind) (omega arith))), λ b z its oldest. tt)
+returns-7 c = ((λ x s T e r held its oldest. rw (no-kind (x .kind) (omega arith))), λ b z its oldest. tt)
 
 pub on-get-spec : {M : Type 1} → statement M
 on-get-spec =
@@ -67,10 +79,12 @@ on-get-spec =
     get-port-requires
     get-fifo-requires
     get-resource-requires
+    get-board-requires
     get-counted-requires
     returns
     returns-2
     returns-3
     returns-4
     returns-5
-    returns-6)
+    returns-6
+    returns-7)

@@ -1,6 +1,6 @@
 -- `refusals::for_caller` meets its contract: `is_running` decides the rules' first test, and the service's own function the
 -- rest of its row. Assumes nothing.
-use Rattle.refusals.proofs.Numbers.{asks-running, asks-task}
+use Rattle.refusals.proofs.Numbers.{asks-running, asks-task, kind-asked}
 use Rattle.refusals.proofs.for_caller.Statement.{statement}
 use Rattle.refusals.proofs.for_caller.Tie as tie
 use Rattle.rules.proofs.Places.{hubs-word, tasks-word}
@@ -42,6 +42,7 @@ returns-2 c low high L s y room listed e =
       e,
       hubs-word L s,
     )
+    (kind-asked L s y (room .hubs) (b .before .before .before .args .c))
 
 returns-3 : tie.Need-returns-3
 unfolding byRunning need refusal refusalFor serviceOf

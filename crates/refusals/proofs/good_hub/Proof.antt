@@ -25,13 +25,17 @@ unfolding goodHub kindOf
 returns-4 c = rw (c .match .keys4)
 
 returns-5 : tie.Need-returns-5
+unfolding goodHub kindOf
+returns-5 c = rw (c .match .keys5)
+
+returns-6 : tie.Need-returns-6
 unfolding goodHub
-returns-5 c =
+returns-6 c =
     let n = c .match .rest in
     let kind = c .before .args .kind in
-    let not-event : kind ≡ 1 → ⊥ = λ k. n .0 .0 .0 .1 (inl k) in
-    let not-resource : kind ≡ 5 → ⊥ = λ k. n .0 .0 .0 .1 (inr k) in
-    rw (no-kind kind (λ h. omega (arith, n .0 .0 .1, n .0 .1, n .1)))
+    let not-event : kind ≡ 1 → ⊥ = λ k. n .0 .0 .0 .0 .1 (inl k) in
+    let not-resource : kind ≡ 5 → ⊥ = λ k. n .0 .0 .0 .0 .1 (inr k) in
+    rw (no-kind kind (λ h. omega (arith, n .0 .0 .0 .1, n .0 .0 .1, n .0 .1, n .1)))
 
 pub good-hub-spec : {M : Type 1} → statement M
-good-hub-spec = tie.close (tie.spec returns returns-2 returns-3 returns-4 returns-5)
+good-hub-spec = tie.close (tie.spec returns returns-2 returns-3 returns-4 returns-5 returns-6)

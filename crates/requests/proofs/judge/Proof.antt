@@ -17,6 +17,21 @@ cast-t10 c = search needs
 hub-at-requires : tie.Need-hub-at-requires
 hub-at-requires c κs = search needs
 
+on-wipe-requires : tie.Need-on-wipe-requires
+on-wipe-requires c κs = search needs
+
+returns : tie.Need-returns
+unfolding onSide sideOf verdict
+returns c = (
+  c .on-wipe .ensures .1 _ (omega arith),
+  λ L s y g a n e.
+      let k = c .before .before .before .before .before .before .args .c in
+      let q = asked s g k a in
+      let r = c .before .before .before .hub-at .ensures L s y (g .hubs) (q .named) e in
+      c .on-wipe .ensures .0 (hub s (k .target)) (length (s .tasks)) r (g .ranges .range (k .target) (q .named)) (g .ranges .held (k .target) (q .named))
+      ∙ rw (c .before .if1 .taken) refl,
+)
+
 first-waiter-requires : tie.Need-first-waiter-requires
 first-waiter-requires c κs = search needs
 
@@ -26,18 +41,19 @@ cast-on-put c = search needs
 on-put-requires : tie.Need-on-put-requires
 on-put-requires c κs = search needs
 
-returns : tie.Need-returns
+returns-2 : tie.Need-returns-2
 unfolding onSide sideOf verdict
-returns c = (
+returns-2 c = (
   c .on-put .ensures .1 _ (omega arith) (omega arith),
-  λ L s y g a e.
-      let k = c .before .before .before .before .before .before .before .before .args .c in
+  λ L s y g a n e.
+      let k = c .before .before .before .before .before .before .before .before .before .before .args .c in
       let q = asked s g k a in
       let x = hub s (k .target) in
-      let r = c .before .before .before .before .before .hub-at .ensures L s y (g .hubs) (q .named) e in
+      let r = c .before .before .before .before .before .before .before .hub-at .ensures L s y (g .hubs) (q .named) e in
       let w = c .before .before .first-waiter .ensures L s y (valid-sound s g) (g .waits) (q .named) e in
-      c .on-put .ensures .0 x (length (s .tasks)) r (g .ranges .range (k .target) (q .named))
-      ∙ rw (w, c .before .before .before .if1 .taken) refl,
+      let put = c .before .before .before .if2 .taken in
+      c .on-put .ensures .0 x s (length (s .tasks)) r (g .ranges .range (k .target) (q .named)) (λ b. n b put)
+      ∙ rw (w, put) refl,
 )
 
 first-waiter-requires-2 : tie.Need-first-waiter-requires-2
@@ -52,17 +68,17 @@ oldest-of-requires c κs = search needs
 on-get-requires : tie.Need-on-get-requires
 on-get-requires c κs = search needs
 
-returns-2 : tie.Need-returns-2
+returns-3 : tie.Need-returns-3
 unfolding onSide sideOf verdict
-returns-2 c = (
+returns-3 c = (
   c .on-get .ensures .1 _ (omega arith) (c .before .before .word-of .ensures .0) (c .before .oldest-of .ensures .0),
-  λ L s y g a e.
-      let k = c .before .before .before .before .before .before .before .before .before .args .c in
+  λ L s y g a n e.
+      let k = c .before .before .before .before .before .before .before .before .before .before .before .args .c in
       let q = asked s g k a in
       let x = hub s (k .target) in
-      let r = c .before .before .before .before .before .before .hub-at .ensures L s y (g .hubs) (q .named) e in
+      let r = c .before .before .before .before .before .before .before .before .hub-at .ensures L s y (g .hubs) (q .named) e in
       let w = c .before .before .before .first-waiter2 .ensures L s y (valid-sound s g) (g .waits) (q .named) e in
-      let get : k .side ≡ 2 = ⊎-elim (λ p. absurd (c .before .before .before .before .if1 .left p)) (λ p. p) (q .side) in
+      let get : k .side ≡ 2 = ⊎-elim (λ p. absurd (c .before .before .before .before .if2 .left p)) (λ z. ⊎-elim (λ p. p) (λ p. absurd (c .before .before .before .before .before .before .if1 .left (p .0))) z) (q .side) in
       c .on-get .ensures .0 x s (length (s .tasks)) r (g .ranges .range (k .target) (q .named)) (g .ranges .held (k .target) (q .named))
       (λ i p. c .before .before .word-of .ensures .1 L s i y (g .tasks) e p (putter-used s g k a i (sym w ∙ p))) (c .before .oldest-of .ensures .1 L s y (q .named) e)
       ∙ rw (w, get) refl,
@@ -74,12 +90,14 @@ judge-spec =
     (tie.spec
     cast-t10
     hub-at-requires
+    on-wipe-requires
+    returns
     first-waiter-requires
     cast-on-put
     on-put-requires
-    returns
+    returns-2
     first-waiter-requires-2
     word-of-requires
     oldest-of-requires
     on-get-requires
-    returns-2)
+    returns-3)

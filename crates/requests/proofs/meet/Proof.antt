@@ -3,7 +3,7 @@ use Prim.Native.Nat.{_-_, pred}
 use Rattle.records.proofs.Laws.{first-none, first-some}
 use Rattle.hubtable.specs.Says.{Below, metWith, storeAfter}
 use Rattle.moves.specs.Moves.{keyOf}
-use Rattle.requests.proofs.Laws.{asked, caller-used, meeting-fits, met-sound, met-state, told-in, waiter-used}
+use Rattle.requests.proofs.Laws.{asked, caller-used, meeting-fits, met-state, told-in, told-sound, waiter-used}
 use Rattle.requests.proofs.meet.Statement.{statement}
 use Rattle.requests.proofs.meet.Tie as tie
 use Rattle.rules.specs.Calls.{hold, meetAll}
@@ -47,7 +47,7 @@ returns c = λ L s y g r v e.
     let held = c .before .before .before .before .before .before .before .before .before .before .before .before .hold-hub .ensures L s y (g .hubs) (q .named) (meeting-fits s g k r m v) e in
     let caller = caller-used s g k r in
     let said = c .before .before .before .before .before .before .before .before .give-answer .ensures L (hold (k .target) (m .count) (storeAfter (m .store) (hub s (k .target) .held)) s) y (g .tasks) caller held in
-    let sound = met-sound s g k r m v in
+    let sound = told-sound s g k r (m .count) (m .word) (storeAfter (m .store) (hub s (k .target) .held)) in
     let is = first-some (m .waiter) (λ z. omega (arith, z, c .before .before .before .before .before .if1 .taken)) in
     let w = waiter-used s g k r m v _ is in
     let same : m .waiter - 1 ≡ pred (m .waiter) = sub-one (m .waiter) in

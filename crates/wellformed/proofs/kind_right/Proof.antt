@@ -92,13 +92,20 @@ returns-5 c L y =
     sym (kind-arm L (b .args .t .now) (b .args .h) (b .pre .1) (p .result + b .args .h * 4) (omega arith) 5 (c .before .match .keys5))
 
 returns-6 : tie.Need-returns-6
-unfolding kindRight
+unfolding kindOf kindRight
 returns-6 c L y =
+    let b = c .before .before .before .before .before .before .before in
+    let p = c .before .before .before .before .before .hubs-at in
+    sym (kind-arm L (b .args .t .now) (b .args .h) (b .pre .1) (p .result + b .args .h * 4) (omega arith) 6 (c .match .keys6))
+
+returns-7 : tie.Need-returns-7
+unfolding kindRight
+returns-7 c L y =
     let b = c .before .before .before .before .before .before .before in
     let p = c .before .before .before .before .before .hubs-at in
     let n = c .match .rest in
     sym (kind-arm L (b .args .t .now) (b .args .h) (b .pre .1) (p .result + b .args .h * 4) (omega (arith, p .ensures)) _ refl
-    ∙ rw (no-kind (getD (b .args .t .now) (p .result + b .args .h * 4) 0) (λ h. omega (arith, n .0 .0 .0 .0 .1, n .0 .0 .0 .1, n .0 .0 .1, n .0 .1, n .1))))
+    ∙ rw (no-kind (getD (b .args .t .now) (p .result + b .args .h * 4) 0) (λ h. omega (arith, n .0 .0 .0 .0 .0 .1, n .0 .0 .0 .0 .1, n .0 .0 .0 .1, n .0 .0 .1, n .0 .1, n .1))))
 
 pub kind-right-spec : {M : Type 1} → statement M
 kind-right-spec =
@@ -124,4 +131,5 @@ kind-right-spec =
     returns-3
     returns-4
     returns-5
-    returns-6)
+    returns-6
+    returns-7)

@@ -1,9 +1,9 @@
--- `wellformed::store_right` meets its contract: a FIFO's store from behind its messages on, and other stores whole.
--- Assumes nothing.
+-- `wellformed::store_right` meets its contract: the store of a FIFO or a Board from behind its messages on, and other stores
+-- whole. Assumes nothing.
 use Prim.Native.Nat.{_*_, _+_, _-_, _≤_, ℕ}
 use Rattle.lists.specs.Lists.{allZero}
 use Rattle.rules.proofs.Layouts.{in-some, store-place, wide}
-use Rattle.wellformed.proofs.Hubs.{fifo-fits, store-as, store-fifo, store-other}
+use Rattle.wellformed.proofs.Hubs.{held-fits, store-as, store-held, store-other}
 use Rattle.wellformed.proofs.Parts.{lent-long, to-end}
 use Rattle.wellformed.proofs.store_right.Statement.{statement}
 use Rattle.wellformed.proofs.store_right.Tie as tie
@@ -44,11 +44,11 @@ mul-b c = search needs
 add-b : tie.Need-add-b
 add-b c = search needs
 
-mul-if1 : tie.Need-mul-if1
-mul-if1 c = search needs
+mul-kind : tie.Need-mul-kind
+mul-kind c = search needs
 
-shared-slice-read-if1 : tie.Need-shared-slice-read-if1
-shared-slice-read-if1 c = search needs
+shared-slice-read-kind : tie.Need-shared-slice-read-kind
+shared-slice-read-kind c = search needs
 
 add-n : tie.Need-add-n
 add-n c = search needs
@@ -59,13 +59,13 @@ mul-n c = search needs
 shared-slice-read-n : tie.Need-shared-slice-read-n
 shared-slice-read-n c = search needs
 
--- a FIFO holds 8 messages at most
+-- a FIFO holds 8 messages at most, a Board 1
 few : (c : tie.After-shared-slice-known3) → getD (c .before .before .before .before .before .before .before .before .args .t .now) (c .before .before .before .hubs-at .result + c .before .before .before .before .before .before .before .before .args .h * 4 + 1) 0 ≤ 8
 few c =
     let b = c .before .before .before .before .before .before .before .before in
     let p = c .before .before .before .hubs-at in
     in-some (b .args .ts) (b .pre .0 .low) (b .pre .0 .high)
-    (λ L y. fifo-fits L (b .args .t .now) (b .args .h) (b .pre .1 .0) (p .result + b .args .h * 4) (omega arith) (b .pre .1 .1 L y) (c .before .if1 .taken))
+    (λ L y. held-fits L (b .args .t .now) (b .args .h) (b .pre .1 .0) (p .result + b .args .h * 4) (omega arith) (b .pre .1 .1 L y) (c .before .if1 .taken))
 
 cast-n : tie.Need-cast-n
 cast-n c = omega (arith, few c)
@@ -114,7 +114,7 @@ returns c L y =
     let s = c .before .before .before .before .before .before .before .before .before .store-at in
     let n = c .before .before .before .before .before .before .before .before .store-size in
     c .zeros .ensures ∙ ap allZero (to-end (held (c .before .before)) (store (c .before .before)))
-    ∙ sym (store-as L (b .args .t .now) (b .args .h) (b .pre .1 .0) (p .result + b .args .h * 4) (omega arith) (s .result) (n .result) (s .ensures .place ∙ store-place y (b .args .h)) (omega arith) ∙ store-fifo L _ _ _ _ (c .before .before .before .before .if1 .taken) (c .before .before .width-of .ensures ∙ wide y))
+    ∙ sym (store-as L (b .args .t .now) (b .args .h) (b .pre .1 .0) (p .result + b .args .h * 4) (omega arith) (s .result) (n .result) (s .ensures .place ∙ store-place y (b .args .h)) (omega arith) ∙ store-held L _ _ _ _ (c .before .before .before .before .if1 .taken) (c .before .before .width-of .ensures ∙ wide y))
 
 returns-2 : tie.Need-returns-2
 returns-2 c L y =
@@ -139,8 +139,8 @@ store-right-spec =
     hubs-at-requires
     mul-b
     add-b
-    mul-if1
-    shared-slice-read-if1
+    mul-kind
+    shared-slice-read-kind
     add-n
     mul-n
     shared-slice-read-n
