@@ -28,9 +28,18 @@
  * nothing between calls: no globals, no allocation, no system call. Two tables are two
  * kernels; calls on different tables may run at the same time in different threads.
  *
- * A CALL gives back refusal, answer and next, and the bytes afterwards are the words
- * after the call, all four bytes of each. A refused call has answer 0 and next 0, and
- * writes no byte. `next` is the running task plus 1, or 0 if no task can run.
+ * A CALL gives back refusal, answer, next and ahead, and the bytes afterwards are the
+ * words after the call, all four bytes of each. A refused call has answer 0, next 0 and
+ * ahead 0, and writes no byte. `next` is the running task plus 1, or 0 if no task can run.
+ *
+ * `ahead` tells a caller that has to wait at a hub how many requests stand before it in
+ * that hub's waiting list, as the list is after the call: those of its own or a more
+ * urgent priority that were there already, suspended or not, with ticks or without limit.
+ * It is 0 where nobody does, so a waiting caller with ahead 0 is the first of the list,
+ * and 0 in every other case: a call that is refused, a request that is met or failed, a
+ * Sleep, and every other service. At most 15, and 14 at a Resource, whose owner doesn't
+ * wait. It is said once, by the call that joined; a later request of a more urgent task
+ * goes in front.
  *
  *   no. service        caller  target    side           mode  ticks       word
  *   0   Blank
@@ -251,6 +260,7 @@ typedef struct hub_kernel_reply {
     uint32_t refusal; /* 0 accepted, else 1 to 7 */
     uint32_t answer;  /* 0 nothing yet, 1 OK, 2 FAIL */
     uint32_t next;    /* the running task plus 1, or 0 */
+    uint32_t ahead;   /* the caller has to wait at a hub: how many stand before it; else 0 */
 } hub_kernel_reply;
 
 /* One call on the table of `bytes` bytes. */

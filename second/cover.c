@@ -15,8 +15,8 @@ typedef enum {
 } hub_outcome;
 
 /* Rows that stand alone, wipes among them. Those above them are products: services,
- * kind by side by outcome, kind by side; those below are the families of damaged
- * tables. */
+ * kind by side by outcome, kind by side, kind by side by how many are ahead; those below
+ * are the families of damaged tables. */
 #define SINGLE_ROWS(ROW)                                                        \
     ROW(MEETS_SUSPENDED, "request: meets a suspended waiter")                   \
     ROW(MEETS_URGENT, "request: meets a more urgent waiter, who runs next")     \
@@ -29,6 +29,31 @@ typedef enum {
     ROW(WORD_0_PASSED, "request: word 0 received")                              \
     ROW(WAITS_MAX, "request: waits with 1000000 ticks")                         \
     ROW(WAITS_1, "request: waits with 1 tick")                                  \
+    ROW(AHEAD_W, "ahead: some, under W")                                        \
+    ROW(AHEAD_WT, "ahead: some, under WT")                                      \
+    ROW(AHEAD_NO_LIMIT, "ahead: one without limit among them")                  \
+    ROW(AHEAD_TICKS, "ahead: one with ticks left among them")                   \
+    ROW(AHEAD_SUSPENDED, "ahead: a suspended one among them")                   \
+    ROW(AHEAD_ALL_SUSPENDED, "ahead: all of them suspended")                    \
+    ROW(AHEAD_EQUAL, "ahead: an equal among them")                              \
+    ROW(AHEAD_ALL_EQUAL, "ahead: 2 and more, all equals")                       \
+    ROW(AHEAD_URGENT, "ahead: a more urgent one among them")                    \
+    ROW(AHEAD_URGENT_AND_EQUAL, "ahead: a more urgent one and an equal")        \
+    ROW(AHEAD_AND_BEHIND, "ahead: some, and a less urgent one behind")          \
+    ROW(AHEAD_NONE_BEHIND, "ahead: none, a less urgent one behind")             \
+    ROW(AHEAD_NONE_ALONE, "ahead: none, nobody else waits there")               \
+    ROW(AHEAD_ELSEWHERE, "ahead: some, and another number at hub 0")            \
+    ROW(AHEAD_NOBODY_RUNS, "ahead: some, and nobody runs next")                 \
+    ROW(NOT_AHEAD_MET, "ahead 0: met, others go on waiting there")              \
+    ROW(NOT_AHEAD_NW, "ahead 0: not now under NW, others wait there")           \
+    ROW(NOT_AHEAD_FAIL, "ahead 0: a Resource FAILs, others wait for it")        \
+    ROW(NOT_AHEAD_SLEEP, "ahead 0: Sleep, others sleep and wait")               \
+    ROW(NOT_AHEAD_SUSPEND, "ahead 0: Suspend of a waiter with some before it")  \
+    ROW(NOT_AHEAD_RESUME, "ahead 0: Resume of a waiter with some before it")    \
+    ROW(NOT_AHEAD_STOP, "ahead 0: Stop of a waiter with some before it")        \
+    ROW(NOT_AHEAD_TICK, "ahead 0: Tick, some go on waiting")                    \
+    ROW(NOT_AHEAD_4, "ahead 0: refusal 4, it waits there behind some")          \
+    ROW(NOT_AHEAD_6, "ahead 0: refusal 6, others wait there")                   \
     ROW(UPDATE_W, "update: under W")                                            \
     ROW(UPDATE_NW, "update: under NW")                                          \
     ROW(UPDATE_WT, "update: under WT")                                          \
@@ -269,7 +294,8 @@ enum {
     REQUEST_ROWS = SERVICE_ROWS + ADD_HUB + 1,
     TIMEOUT_ROWS = REQUEST_ROWS + BOARD * GET * OUTCOMES,
     WITHDRAWN_ROWS = TIMEOUT_ROWS + BOARD * GET,
-    BEFORE_SINGLE_ROWS = WITHDRAWN_ROWS + BOARD * GET - 1,
+    AHEAD_ROWS = WITHDRAWN_ROWS + BOARD * GET,
+    BEFORE_SINGLE_ROWS = AHEAD_ROWS + BOARD * GET * TASKS - 1,
 #define ROW(symbol, name) symbol,
     SINGLE_ROWS(ROW)
 #undef ROW
@@ -292,6 +318,12 @@ static void hit_if(cover *seen, int condition, size_t row) { seen->hits[row] += 
 static size_t kind_side(uint32_t kind, uint32_t side)
 {
     return (kind - EVENT) * (size_t)GET + (side - PUT);
+}
+
+/* At most 15 are ahead: all tasks but the caller. */
+static size_t ahead_row(uint32_t kind, uint32_t side, uint32_t ahead)
+{
+    return AHEAD_ROWS + kind_side(kind, side) * TASKS + ahead;
 }
 
 static size_t request_row(uint32_t kind, uint32_t side, hub_outcome outcome)
@@ -325,8 +357,11 @@ static int row_reachable(size_t row)
         return request_reachable((uint32_t)(pair / GET + EVENT), (uint32_t)(pair % GET + PUT),
                                  (hub_outcome)(at % OUTCOMES));
     }
-    if (row >= TIMEOUT_ROWS && row <= BEFORE_SINGLE_ROWS)
+    if (row >= TIMEOUT_ROWS && row < AHEAD_ROWS)
         return putters_wait((row - TIMEOUT_ROWS) % (BOARD * GET));
+    if (row >= AHEAD_ROWS && row <= BEFORE_SINGLE_ROWS) /* a Resource's owner doesn't wait */
+        return putters_wait((row - AHEAD_ROWS) / TASKS) &&
+               row != ahead_row(RESOURCE, GET, TASKS - 1);
     return 1;
 }
 
@@ -348,9 +383,13 @@ static void row_name(size_t row, char *name, size_t size)
     } else if (row < WITHDRAWN_ROWS) {
         size_t pair = row - TIMEOUT_ROWS;
         snprintf(name, size, "Tick: %s %s times out", kinds[pair / GET], sides[pair % GET]);
-    } else if (row <= BEFORE_SINGLE_ROWS) {
+    } else if (row < AHEAD_ROWS) {
         size_t pair = row - WITHDRAWN_ROWS;
         snprintf(name, size, "Stop: %s %s withdrawn", kinds[pair / GET], sides[pair % GET]);
+    } else if (row <= BEFORE_SINGLE_ROWS) {
+        size_t at = row - AHEAD_ROWS, pair = at / TASKS;
+        snprintf(name, size, "ahead: %s %s, %zu", kinds[pair / GET], sides[pair % GET],
+                 at % TASKS);
     } else if (row < DAMAGE_ROWS) {
         snprintf(name, size, "%s", single_names[row - BEFORE_SINGLE_ROWS - 1]);
     } else {
@@ -388,6 +427,89 @@ static int somebody_runs(const uint32_t *table)
 }
 
 /* ---- Accepted calls ---------------------------------------------------- */
+
+/* How many of the first entries have this in that field. */
+static uint32_t entries_with(const uint32_t *table, const uint32_t *list, uint32_t entries,
+                             size_t field, uint32_t value)
+{
+    uint32_t with = 0;
+
+    for (uint32_t i = 0; i < entries; i++)
+        with += task_word(table, list[i] - 1, field) == value;
+    return with;
+}
+
+/* Who they are that stand ahead of the caller, and behind it. */
+static void cover_ahead(cover *seen, const uint32_t *call, second_reply reply,
+                        const uint32_t *after)
+{
+    const uint32_t *list = after + list_place(call[C_TARGET]);
+    uint32_t ahead = reply.ahead, behind = length_of(list) - ahead - 1;
+    uint32_t own = task_word(after, call[C_CALLER], T_PRIORITY);
+    uint32_t equals = entries_with(after, list, ahead, T_PRIORITY, own);
+    uint32_t suspended = entries_with(after, list, ahead, T_SUSPENDED, 1);
+    uint32_t unlimited = entries_with(after, list, ahead, T_TICKS, 0);
+
+    hit(seen, ahead_row(after[hub_place(call[C_TARGET]) + H_KIND], call[C_SIDE], ahead));
+    if (ahead == 0) {
+        hit(seen, behind > 0 ? AHEAD_NONE_BEHIND : AHEAD_NONE_ALONE);
+        return;
+    }
+    hit(seen, call[C_MODE] == W ? AHEAD_W : AHEAD_WT);
+    hit_if(seen, unlimited > 0, AHEAD_NO_LIMIT);
+    hit_if(seen, unlimited < ahead, AHEAD_TICKS);
+    hit_if(seen, suspended > 0, AHEAD_SUSPENDED);
+    hit_if(seen, suspended == ahead, AHEAD_ALL_SUSPENDED);
+    hit_if(seen, equals > 0, AHEAD_EQUAL);
+    hit_if(seen, ahead > 1 && equals == ahead, AHEAD_ALL_EQUAL);
+    hit_if(seen, equals < ahead, AHEAD_URGENT);
+    hit_if(seen, equals > 0 && equals < ahead, AHEAD_URGENT_AND_EQUAL);
+    hit_if(seen, behind > 0, AHEAD_AND_BEHIND);
+    hit_if(seen, call[C_TARGET] != 0 && length_of(after + list_place(0)) != ahead,
+           AHEAD_ELSEWHERE);
+    hit_if(seen, reply.next == 0, AHEAD_NOBODY_RUNS);
+}
+
+/* Some stand before the task in the list where it waits. */
+static int waits_behind(const uint32_t *table, uint32_t task)
+{
+    return task_word(table, task, T_STATE) == WAITING &&
+           table[list_place(task_word(table, task, T_HUB) - 1)] != task + 1;
+}
+
+static int somebody_in(const uint32_t *table, uint32_t state)
+{
+    for (uint32_t task = 0; task < table[TASKS_IN_USE_AT]; task++)
+        if (task_word(table, task, T_STATE) == state)
+            return 1;
+    return 0;
+}
+
+/* Services that have nobody ahead, though there are some whom one might count. */
+static void cover_not_ahead(cover *seen, const uint32_t *before, const uint32_t *call,
+                            second_reply reply, const uint32_t *after)
+{
+    uint32_t target = call[C_TARGET];
+
+    switch (call[C_SERVICE]) {
+    case SLEEP:
+        hit_if(seen, somebody_in(before, SLEEPING) && somebody_in(before, WAITING),
+               NOT_AHEAD_SLEEP);
+        break;
+    case SUSPEND:
+        hit_if(seen, reply.answer == OK && waits_behind(before, target), NOT_AHEAD_SUSPEND);
+        break;
+    case RESUME:
+        hit_if(seen, reply.answer == OK && waits_behind(before, target), NOT_AHEAD_RESUME);
+        break;
+    case STOP:
+        hit_if(seen, reply.answer == OK && waits_behind(before, target), NOT_AHEAD_STOP);
+        break;
+    case TICK:
+        hit_if(seen, somebody_in(after, WAITING), NOT_AHEAD_TICK);
+        break;
+    }
+}
 
 static void cover_waits(cover *seen, const uint32_t *call, const uint32_t *after)
 {
@@ -500,8 +622,14 @@ static void cover_request(cover *seen, const uint32_t *before, const uint32_t *c
         outcome = mode == W ? NOT_NOW_W : mode == NW ? NOT_NOW_NW : NOT_NOW_WT;
     hit(seen, request_row(kind, side, outcome));
 
-    if (outcome == NOT_NOW_W || outcome == NOT_NOW_WT)
+    if (outcome == NOT_NOW_W || outcome == NOT_NOW_WT) {
         cover_waits(seen, call, after);
+        cover_ahead(seen, call, reply, after);
+    } else if (after[list_place(call[C_TARGET])] != 0) {
+        hit(seen, reply.answer == OK      ? NOT_AHEAD_MET
+                  : outcome == NOT_NOW_NW ? NOT_AHEAD_NW
+                                          : NOT_AHEAD_FAIL);
+    }
     if (outcome == MET_WITH_WAITER)
         cover_met_waiter(seen, first - 1, kind, reply, after);
     hit_if(seen, reply.answer == OK && kind == FIFO && side == PUT && count == 7 && first == 0,
@@ -702,6 +830,7 @@ static void cover_accepted(cover *seen, const uint32_t *before, const uint32_t *
 {
     hit(seen, SERVICE_ROWS + call[C_SERVICE]);
     hit_if(seen, reply.next != 0 && reply.next != after[READY_AT], NEXT_NOT_FIRST);
+    cover_not_ahead(seen, before, call, reply, after);
     switch (call[C_SERVICE]) {
     case HUB_REQUEST:
         cover_request(seen, before, call, reply, after);
@@ -840,6 +969,9 @@ static void cover_not_running(cover *seen, const uint32_t *table, const uint32_t
         hit(seen, CALLER_NO_TASK);
     } else {
         hit(seen, CALLER_REQUEST + call[C_SERVICE] - HUB_REQUEST);
+        hit_if(seen, call[C_SERVICE] == HUB_REQUEST && waits_behind(table, call[C_CALLER]) &&
+                         task_word(table, call[C_CALLER], T_HUB) - 1 == call[C_TARGET],
+               NOT_AHEAD_4);
     }
     hit_if(seen, target_missing(table, call), CALLER_AND_5);
     hit_if(seen, argument_cause(table, call) != NO_CAUSE, CALLER_AND_6);
@@ -865,6 +997,8 @@ static void cover_refused(cover *seen, const uint32_t *table, const uint32_t *ca
         break;
     case BAD_ARGUMENT:
         hit(seen, argument_cause(table, call));
+        hit_if(seen, call[C_SERVICE] == HUB_REQUEST && table[list_place(call[C_TARGET])] != 0,
+               NOT_AHEAD_6);
         hit_if(seen, call[C_SERVICE] == HUB_REQUEST && call[C_SIDE] == WIPE &&
                          table[hub_place(call[C_TARGET]) + H_KIND] == BOARD,
                WIPE_ARGUMENT);

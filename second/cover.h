@@ -8,7 +8,7 @@
 
 #include "second.h"
 
-enum { COVER_LEAST = 100, COVER_ROWS_MAX = 640 };
+enum { COVER_LEAST = 100, COVER_ROWS_MAX = 896 };
 
 typedef struct {
     uint64_t hits[COVER_ROWS_MAX];

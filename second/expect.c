@@ -1,4 +1,4 @@
-/* The tests' own working-out of document 01 and requests M-100, M-101 and M-103;
+/* The tests' own working-out of document 01 and requests M-100, M-101, M-103 and M-104;
  * expect.h says how it differs. */
 #include "expect.h"
 
@@ -486,9 +486,21 @@ static void serve(world *w, const uint32_t *call)
     }
 }
 
+/* "How many requests stand before it in that list": those who wait at the same hub and
+ * stand before it, wherever their records are. */
+static uint32_t ahead_of(const world *w, const thing_task *waiter)
+{
+    uint32_t ahead = 0;
+
+    for (uint32_t i = 0; i < w->tasks; i++)
+        ahead += w->task[i].state == WAITING && w->task[i].hub == waiter->hub &&
+                 stands_before(&w->task[i], waiter);
+    return ahead;
+}
+
 second_reply expect_call(uint32_t table[600], const uint32_t call[7])
 {
-    second_reply reply = {expect_refusal(table, call), 0, 0};
+    second_reply reply = {expect_refusal(table, call), 0, 0, 0};
     world w;
 
     if (reply.refusal != 0)
@@ -503,6 +515,8 @@ second_reply expect_call(uint32_t table[600], const uint32_t call[7])
     if (call[0] >= 1 && call[0] <= 7)
         reply.answer = w.task[call[1]].answer;
     reply.next = next_of(&w);
+    if (call[0] == HUB_REQUEST && w.task[call[1]].state == WAITING)
+        reply.ahead = ahead_of(&w, &w.task[call[1]]);
     return reply;
 }
 

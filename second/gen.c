@@ -723,6 +723,56 @@ void gen_board(gen_random *random, uint32_t table[600], uint32_t call[7])
     }
 }
 
+/* ---- Requests to hubs at which many wait ------------------------------- */
+
+void gen_ask(gen_random *random, const uint32_t *table, uint32_t hub, uint32_t call[7])
+{
+    uint32_t caller = running_task(table), side = side_at(table, hub, caller);
+
+    draw_ignored(random, call);
+    call[C_SERVICE] = caller == NOBODY ? TICK : HUB_REQUEST;
+    call[C_CALLER] = gen_chance(random, 5) ? gen_below(random, tasks_in_use(table)) : caller;
+    call[C_TARGET] = hub;
+    call[C_SIDE] = side != NO_SIDE ? side : (uint32_t)GET;
+    call[C_MODE] = ONE_OF(random, W, W, W, WT, WT, WT, WT, NW);
+    call[C_TICKS] = call[C_MODE] == WT ? ONE_OF(random, 1, 2, 3, TICKS_MAX) : 0;
+    call[C_WORD] = any_word(random);
+}
+
+/* So many percent wait at the hub, all numbers alike since every percentage is; the
+ * caller is often less urgent than all of them, else it would seldom have many ahead. */
+static uint32_t build_queue(gen_random *random, uint32_t *table)
+{
+    uint32_t hub = gen_below(random, hubs_in_use(table));
+    uint32_t caller = gen_below(random, tasks_in_use(table));
+    uint32_t waits = gen_chance(random, 25) ? 100 : gen_below(random, 101);
+
+    build_priorities(random, table, ONE_OF(random, 1, 2, 4, PRIORITY_MAX + 1));
+    if (gen_chance(random, 50))
+        table[task_place(caller) + T_PRIORITY] = PRIORITY_MAX;
+    for (uint32_t number = 0; number < hubs_in_use(table); number++)
+        build_hub(random, table, number, from_to(random, EVENT, BOARD));
+    for (uint32_t task = 0; task < tasks_in_use(table); task++)
+        build_task(random, table, task, waits, hub);
+    build_caller(table, caller);
+    build_lists(random, table);
+    return hub;
+}
+
+/* Anew until the running task finds a hub at which it has to wait. */
+void gen_queue(gen_random *random, uint32_t table[600], uint32_t call[7])
+{
+    uint32_t hub;
+
+    do {
+        uint32_t tasks = gen_chance(random, 75) ? TASKS : from_to(random, 1, TASKS);
+        uint32_t hubs = gen_chance(random, 20) ? HUBS : from_to(random, 1, 6);
+        build_contents(table, tasks, hubs);
+        hub = build_queue(random, table);
+    } while (side_at(table, hub, running_task(table)) == NO_SIDE);
+    gen_ask(random, table, hub, call);
+}
+
 /* ---- Set-ups ----------------------------------------------------------- */
 
 /* Every count of digits alike; least and most of them often. */

@@ -12,6 +12,7 @@
  *      in one number
  *   f  Stops of owners (M-101): gen_stop
  *   g  requests to Boards that readers wait at (M-103): gen_board
+ *   h  requests to hubs at which many wait (M-104): gen_queue, then gen_ask
  */
 #ifndef GEN_H
 #define GEN_H
@@ -63,6 +64,13 @@ void gen_stop(gen_random *random, uint32_t table[600], uint32_t call[7]);
  * written, and a request of the running task to it, mostly an update: what gen_call
  * comes upon seldom, up to 15 readers met in one call. One of ten is a wipe of any hub. */
 void gen_board(gen_random *random, uint32_t table[600], uint32_t call[7]);
+
+/* A well-formed table with a hub at which none to 15 tasks wait, and a request of the
+ * running task to it, mostly one that has to wait too: what gen_call comes upon seldom,
+ * up to 15 ahead of the caller. gen_ask draws the next such request to that hub, or a
+ * Tick where nobody runs. One of twenty comes from another task than the running one. */
+void gen_queue(gen_random *random, uint32_t table[600], uint32_t call[7]);
+void gen_ask(gen_random *random, const uint32_t *table, uint32_t hub, uint32_t call[7]);
 
 /* Well formed as well, with a set-up of every size, none and 16 often, whose
  * numbers have every count of digits. */

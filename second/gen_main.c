@@ -18,7 +18,8 @@ enum { LINES_PER_TURN = 64, LINES_PER_RUN = 2000 };
 static void print_reply(uint64_t number, int good, second_reply reply)
 {
     if (good)
-        printf("%" PRIu32 " %" PRIu32 " %" PRIu32 "\n", reply.refusal, reply.answer, reply.next);
+        printf("%" PRIu32 " %" PRIu32 " %" PRIu32 " %" PRIu32 "\n", reply.refusal, reply.answer,
+               reply.next, reply.ahead);
     else
         printf("line %" PRIu64 " bad\n", number);
 }
@@ -27,7 +28,7 @@ static void print_lines(uint64_t seed, uint64_t count, int expected)
 {
     uint32_t table[WORDS] = {0}, call[CALL_NUMBERS];
     uint8_t line[GEN_LINE_MAX];
-    second_reply reply = {0, 0, 0};
+    second_reply reply = {0, 0, 0, 0};
     gen_random random;
     gen_mood mood;
     int good;

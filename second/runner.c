@@ -53,8 +53,9 @@ static void end_line(runner *run)
     run->number++;
     if (read_call(run->line, run->length, call)) {
         second_reply reply = second_call(run->table, WORDS, call);
-        fprintf(run->out, "%lu %lu %lu\n", (unsigned long)reply.refusal,
-                (unsigned long)reply.answer, (unsigned long)reply.next);
+        fprintf(run->out, "%lu %lu %lu %lu\n", (unsigned long)reply.refusal,
+                (unsigned long)reply.answer, (unsigned long)reply.next,
+                (unsigned long)reply.ahead);
     } else {
         fprintf(run->out, "line %llu bad\n", (unsigned long long)run->number);
     }

@@ -1,5 +1,5 @@
-/* The hub kernel of document 01 with M-100, M-101 and M-103, from the papers alone: well
- * formed, lists, hubs, services, refusals, the listing, edges, in that order. The
+/* The hub kernel of document 01 with M-100, M-101, M-103 and M-104, from the papers alone:
+ * well formed, lists, hubs, services, refusals, the listing, edges, in that order. The
  * contract is second.h.
  *
  * Everything after refusal_of() relies on a well-formed table; that is why the
@@ -247,6 +247,16 @@ static void join(uint32_t *table, size_t list, uint32_t task)
     }
 }
 
+/* How many entries stand before the task in a list that it has joined. */
+static uint32_t entries_before(const uint32_t *table, size_t list, uint32_t task)
+{
+    uint32_t before = 0;
+
+    while (table[list + before] != task + 1)
+        before++;
+    return before;
+}
+
 static void leave(uint32_t *table, size_t list, uint32_t task)
 {
     uint32_t *entry = table + list, *last = entry + LIST_WORDS - 1;
@@ -479,7 +489,8 @@ static void blank(uint32_t *table)
     memcpy(table, blank_contents, sizeof blank_contents);
 }
 
-static void wait_at_hub(uint32_t *table, const uint32_t *call)
+/* Gives how many are ahead of the caller. */
+static uint32_t wait_at_hub(uint32_t *table, const uint32_t *call)
 {
     uint32_t *caller = table + task_place(call[C_CALLER]), hub = call[C_TARGET];
     int keeps_word = call[C_SIDE] == PUT && carries_words(table[hub_place(hub) + H_KIND]);
@@ -492,9 +503,11 @@ static void wait_at_hub(uint32_t *table, const uint32_t *call)
     caller[T_WORD] = keeps_word ? call[C_WORD] : 0;
     caller[T_ANSWER] = NO_ANSWER;
     join(table, list_place(hub), call[C_CALLER]);
+    return entries_before(table, list_place(hub), call[C_CALLER]);
 }
 
-static void hub_request(uint32_t *table, const uint32_t *call)
+/* Gives how many are ahead of the caller; a request that doesn't wait has nobody ahead. */
+static uint32_t hub_request(uint32_t *table, const uint32_t *call)
 {
     uint32_t *caller = table + task_place(call[C_CALLER]), received = 0;
     outcome out = call[C_SIDE] == PUT
@@ -503,12 +516,11 @@ static void hub_request(uint32_t *table, const uint32_t *call)
                       ? get(table, call[C_TARGET], call[C_CALLER], &received)
                       : board_wipe(table, call[C_TARGET]); /* no other kind knows side 3 */
 
-    if (out == NOT_NOW && call[C_MODE] != NW) {
-        wait_at_hub(table, call);
-    } else {
-        caller[T_ANSWER] = out == MET ? OK : FAIL;
-        caller[T_WORD] = received;
-    }
+    if (out == NOT_NOW && call[C_MODE] != NW)
+        return wait_at_hub(table, call);
+    caller[T_ANSWER] = out == MET ? OK : FAIL;
+    caller[T_WORD] = received;
+    return 0;
 }
 
 static int start(uint32_t *table, uint32_t target)
@@ -733,14 +745,17 @@ static uint32_t refusal_of(const uint32_t *table, size_t words, const uint32_t *
     return ACCEPTED;
 }
 
-static void serve(uint32_t *table, const uint32_t *call)
+/* Gives how many are ahead of the caller: none but in a hub request. */
+static uint32_t serve(uint32_t *table, const uint32_t *call)
 {
+    uint32_t ahead = 0;
+
     switch (call[C_SERVICE]) {
     case BLANK:
         blank(table);
         break;
     case HUB_REQUEST:
-        hub_request(table, call);
+        ahead = hub_request(table, call);
         break;
     case SLEEP:
         sleep(table, call);
@@ -758,6 +773,7 @@ static void serve(uint32_t *table, const uint32_t *call)
         task_service(table, call);
         break;
     }
+    return ahead;
 }
 
 /* ---- The listing ------------------------------------------------------- */
@@ -822,11 +838,11 @@ static void write_set_up(writer *to, const uint32_t *table)
 
 second_reply second_call(uint32_t *table, size_t words, const uint32_t call[7])
 {
-    second_reply reply = {refusal_of(table, words, call), 0, 0};
+    second_reply reply = {refusal_of(table, words, call), 0, 0, 0};
 
     if (reply.refusal != ACCEPTED)
         return reply;
-    serve(table, call);
+    reply.ahead = serve(table, call);
     if (has_caller(call[C_SERVICE]))
         reply.answer = table[task_place(call[C_CALLER]) + T_ANSWER];
     reply.next = running(table);
@@ -890,7 +906,7 @@ second_reply second_call_bytes(uint8_t *bytes, size_t length, const uint32_t cal
     uint32_t table[WORDS];
 
     if (length != BYTES)
-        return (second_reply){BAD_LENGTH, 0, 0};
+        return (second_reply){BAD_LENGTH, 0, 0, 0};
     words_from_bytes(table, bytes);
     second_reply reply = second_call(table, WORDS, call);
     if (reply.refusal == ACCEPTED)

@@ -1,6 +1,6 @@
 /* The second program: the hub kernel of document 01 again, with requests M-100,
- * M-101 and M-103, in C11, written from the papers alone. It is what the proved kernel
- * is compared with.
+ * M-101, M-103 and M-104, in C11, written from the papers alone. It is what the proved
+ * kernel is compared with.
  *
  * Ownership: the caller owns the table and lends it for one call. No globals,
  * no allocation, nothing kept between calls.
@@ -9,7 +9,7 @@
  * bytes. A call is seven numbers: service, caller, target, side, mode, ticks,
  * word. numbers.h has the places and the names of all values.
  *
- * Refusals, tested in this order; a refused call answers 0, next 0 (mask 0,
+ * Refusals, tested in this order; a refused call answers 0, next 0, ahead 0 (mask 0,
  * count 0; length 0) and writes nothing:
  *   1  length isn't 600 words (2,400 bytes)
  *   2  table not well formed (never for Blank); so is, since M-101, one in which
@@ -31,6 +31,8 @@ typedef struct {
     uint32_t refusal; /* 0 accepted, else 1 to 7 */
     uint32_t answer;  /* 0 nothing yet, 1 OK, 2 FAIL */
     uint32_t next;    /* the running task plus 1, or 0 */
+    uint32_t ahead;   /* the caller waits at a hub now: how many stand before it in that
+                       * list (M-104); in every other case 0 */
 } second_reply;
 
 typedef struct {

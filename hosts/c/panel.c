@@ -1,6 +1,7 @@
 /* A small panel: a fan reversal by checklist, with two tasks and four hubs. It
  * prints of each step which of met, failed and timed out it was: a step that
- * came back is not a step that was met.
+ * came back is not a step that was met. Then crews that all want the fan: whoever
+ * has to wait is told how many are ahead.
  *
  * The host owns the table and acts for the task that `next` names. When no task
  * can run it lets a tick pass. A task that waited finds what became of its
@@ -15,6 +16,7 @@ enum { CHECKLIST, DRIVE, TASKS };                /* the tasks, in the order they
 enum { FAN, ORDERS, STOPPED, REVERSED };         /* the hubs likewise */
 enum { STOP = 1, REVERSE = 2, FULL_SPEED = 3 };  /* orders to the drive */
 enum { TIMEOUT = 4 };                            /* ticks that the checklist waits for the drive */
+enum { WORK = 3 };                               /* ticks that a crew needs the fan */
 
 typedef struct {
     const char *what; /* NULL ends the steps */
@@ -65,7 +67,7 @@ typedef struct {
 /* ---- The kernel -------------------------------------------------------- */
 
 /* Nothing that this host asks for is ever refused: if it is, the host is wrong. */
-static uint32_t ask(panel *of, uint32_t caller, step call)
+static hub_kernel_reply ask(panel *of, uint32_t caller, step call)
 {
     hub_kernel_reply reply = hub_kernel_call(of->table, sizeof of->table, call.service, caller,
                                              call.target, call.side, call.mode, call.ticks,
@@ -75,7 +77,13 @@ static uint32_t ask(panel *of, uint32_t caller, step call)
         exit(1);
     }
     of->next = reply.next;
-    return reply.answer;
+    return reply;
+}
+
+static void pass_tick(panel *of)
+{
+    ask(of, 0, (step){"", HUB_KERNEL_TICK, 0, 0, 0, 0, 0});
+    of->ticks++;
 }
 
 static uint32_t word_at(const panel *of, size_t place)
@@ -132,6 +140,12 @@ static const char *class_of(uint32_t answer)
     }
 }
 
+/* The request has to wait: the reply says how many stand before it at that hub. */
+static void print_wait(int number, const step *asked, hub_kernel_reply reply)
+{
+    printf("step %d  %-24s waits, %" PRIu32 " ahead of you\n", number, asked->what, reply.ahead);
+}
+
 static void print_step(const panel *of, int number, const step *done, uint32_t answer,
                        uint32_t ticks)
 {
@@ -159,8 +173,7 @@ static void walk(const char *name, const step *drive)
         uint32_t task = it.next - 1, answer = HUB_KERNEL_NOTHING_YET;
 
         if (it.next == 0) {
-            ask(&it, 0, (step){"", HUB_KERNEL_TICK, 0, 0, 0, 0, 0});
-            it.ticks++;
+            pass_tick(&it);
             continue;
         }
         if (open[task]) {
@@ -170,7 +183,10 @@ static void walk(const char *name, const step *drive)
         } else {
             since[task] = it.ticks;
             open[task] = 1;
-            answer = ask(&it, task, *at[task]);
+            hub_kernel_reply reply = ask(&it, task, *at[task]);
+            answer = reply.answer;
+            if (task == CHECKLIST && answer == HUB_KERNEL_NOTHING_YET)
+                print_wait((int)(at[task] - checklist) + 1, at[task], reply);
         }
         if (answer == HUB_KERNEL_NOTHING_YET)
             continue;
@@ -189,9 +205,83 @@ static void walk(const char *name, const step *drive)
            classes[HUB_KERNEL_FAIL] + classes[HUB_KERNEL_TO] == 0 ? "done" : "NOT done");
 }
 
+/* ---- The queue --------------------------------------------------------- */
+
+static const struct {
+    const char *name;
+    uint32_t priority;
+} crews[] = {
+    {"maintenance", 30}, {"day crew", 20}, {"night crew", 20}, {"fire crew", 5}, {"cleaners", 40},
+};
+enum { CREWS = sizeof crews / sizeof *crews };
+
+typedef enum { WAITS, WORKS, GONE } stage;
+
+/* The crew is added and asks at once: the others wait or work, so it is the one that
+ * runs. */
+static stage come(panel *to, uint32_t crew)
+{
+    add_task(to, crews[crew].priority);
+    hub_kernel_reply reply = ask(to, crew, (step){"", GET(FAN, HUB_KERNEL_W)});
+
+    printf("%-12s asks for the fan: ", crews[crew].name);
+    if (reply.answer == HUB_KERNEL_NOTHING_YET) {
+        printf("waits, %" PRIu32 " ahead of you\n", reply.ahead);
+        return WAITS;
+    }
+    printf("%s\n", class_of(reply.answer));
+    ask(to, crew, (step){"", SLEEP(WORK)});
+    return WORKS;
+}
+
+/* What the crew that runs does next: it has got the fan, and works; it has worked, and
+ * gives the fan back; or it has nothing left to do. */
+static stage go_on(panel *at, uint32_t crew, stage was)
+{
+    switch (was) {
+    case WAITS:
+        printf("%-12s %s after %" PRIu32 " ticks\n", crews[crew].name,
+               class_of(answer_of(at, crew)), at->ticks);
+        ask(at, crew, (step){"", SLEEP(WORK)});
+        return WORKS;
+    case WORKS:
+        ask(at, crew, (step){"", PUT(FAN, HUB_KERNEL_W, 0)});
+        return GONE;
+    default:
+        ask(at, crew, (step){"", SLEEP(HUB_KERNEL_TICKS_MAX)});
+        return GONE;
+    }
+}
+
+/* They come one after the other. Ends when all are gone. */
+static void queue_for_the_fan(void)
+{
+    stage now[CREWS];
+    uint32_t gone = 0;
+    panel it;
+
+    printf("%d crews want the fan\n", (int)CREWS);
+    it.ticks = 0;
+    ask(&it, 0, (step){"", HUB_KERNEL_BLANK, 0, 0, 0, 0, 0});
+    add_hub(&it, HUB_KERNEL_RESOURCE, 1); /* FAN */
+    for (uint32_t crew = 0; crew < CREWS; crew++)
+        now[crew] = come(&it, crew);
+    while (gone < CREWS) {
+        uint32_t crew = it.next - 1;
+
+        if (it.next == 0) {
+            pass_tick(&it);
+            continue;
+        }
+        gone += now[crew] == WORKS;
+        now[crew] = go_on(&it, crew, now[crew]);
+    }
+}
+
 int main(void)
 {
     walk("the drive answers", prompt_drive);
     walk("the drive hangs", stuck_drive);
+    queue_for_the_fan();
     return 0;
 }

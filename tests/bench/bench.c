@@ -158,8 +158,9 @@ static uint32_t kernel_calls(const load *it, uint8_t *bytes, uint32_t *words)
     (void)words;
     for (uint32_t i = 0; i < it->count; i++) {
         const uint32_t *call = it->calls[i];
-        sum += hub_kernel_call(bytes, BYTES, call[0], call[1], call[2], call[3], call[4], call[5],
-                               call[6]).next;
+        hub_kernel_reply reply = hub_kernel_call(bytes, BYTES, call[0], call[1], call[2], call[3],
+                                                 call[4], call[5], call[6]);
+        sum += reply.next + reply.ahead;
     }
     return sum;
 }
@@ -169,8 +170,10 @@ static uint32_t second_byte_calls(const load *it, uint8_t *bytes, uint32_t *word
     uint32_t sum = 0;
 
     (void)words;
-    for (uint32_t i = 0; i < it->count; i++)
-        sum += second_call_bytes(bytes, BYTES, it->calls[i]).next;
+    for (uint32_t i = 0; i < it->count; i++) {
+        second_reply reply = second_call_bytes(bytes, BYTES, it->calls[i]);
+        sum += reply.next + reply.ahead;
+    }
     return sum;
 }
 
@@ -179,8 +182,10 @@ static uint32_t second_word_calls(const load *it, uint8_t *bytes, uint32_t *word
     uint32_t sum = 0;
 
     (void)bytes;
-    for (uint32_t i = 0; i < it->count; i++)
-        sum += second_call(words, WORDS, it->calls[i]).next;
+    for (uint32_t i = 0; i < it->count; i++) {
+        second_reply reply = second_call(words, WORDS, it->calls[i]);
+        sum += reply.next + reply.ahead;
+    }
     return sum;
 }
 

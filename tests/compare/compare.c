@@ -1,7 +1,7 @@
 /* The proved kernel, through hub_kernel_call, hub_kernel_summary and
- * hub_kernel_listing, against the second program: after every call the reply and
- * every byte of the table, and the summary of a hub; of listings the reply and
- * every byte of the buffer. `compare SIZE` runs all parts, one line each; the
+ * hub_kernel_listing, against the second program: after every call the reply's four
+ * numbers and every byte of the table, and the summary of a hub; of listings the reply
+ * and every byte of the buffer. `compare SIZE` runs all parts, one line each; the
  * first difference ends the program.
  *
  * Each side keeps its own table through a run, so a difference can't be mended
@@ -28,6 +28,7 @@ typedef struct {
     uint32_t tables, table_calls; /* well-formed tables that no run need reach */
     uint32_t stops;               /* the same, and a Stop of an owner first */
     uint32_t boards;              /* the same, and a request to a Board first */
+    uint32_t queues;              /* the same, with a hub at which many wait, and who asks it */
     uint32_t damages;             /* tables of each family of damage */
     uint32_t flips;               /* tables with a few words changed at random */
     uint32_t lengths;             /* tables of each odd length */
@@ -37,12 +38,12 @@ typedef struct {
 } scale;
 
 static const scale scales[] = {
-    {"quick", 60, 300, 1500, 8, 400, 400, 2, 3000, 100, 500, 10, 30000, 300},
-    {"gate", 1200, 400, 40000, 8, 10000, 10000, 40, 150000, 1500, 15000, 100, 1000000, 600},
-    {"long", 20000, 1000, 1000000, 8, 300000, 300000, 800, 4000000, 20000, 400000, 3000, 30000000,
-     14400},
-    {"campaign", 65000, 1000, 3200000, 8, 1000000, 1000000, 2600, 13000000, 65000, 1300000, 10000,
-     100000000, 14400},
+    {"quick", 60, 300, 1500, 8, 400, 400, 400, 2, 3000, 100, 500, 10, 30000, 300},
+    {"gate", 1200, 400, 40000, 8, 10000, 10000, 20000, 40, 150000, 1500, 15000, 100, 1000000, 600},
+    {"long", 20000, 1000, 1000000, 8, 300000, 300000, 300000, 800, 4000000, 20000, 400000, 3000,
+     30000000, 14400},
+    {"campaign", 65000, 1000, 3200000, 8, 1000000, 1000000, 1000000, 2600, 13000000, 65000, 1300000,
+     10000, 100000000, 14400},
 };
 
 static const size_t odd_lengths[] = {0, 1, 4, 2396, 2399, 2401, 2404};
@@ -50,8 +51,9 @@ static const size_t odd_lengths[] = {0, 1, 4, 2396, 2399, 2401, 2404};
 enum { LONGEST = BYTES + 4, AROUND = 64, PLACES = 16, WATCHED = 0xA5 };
 enum { PAST = 24, ROOM_MOST = LISTING_MOST + PAST };
 enum {
-    MET_MOST = TASKS - 2,    /* by one Stop: neither the caller nor the target waits for it */
-    READERS_MOST = TASKS - 1 /* by one update: the caller doesn't wait */
+    MET_MOST = TASKS - 2,     /* by one Stop: neither the caller nor the target waits for it */
+    READERS_MOST = TASKS - 1, /* by one update: the caller doesn't wait */
+    AHEAD_MOST = TASKS - 1    /* of one caller */
 };
 
 typedef struct {
@@ -60,6 +62,7 @@ typedef struct {
     uint64_t calls;
     uint64_t refusals[8], answers[3], waiters;
     uint64_t met_by_stop[MET_MOST + 1], met_by_update[READERS_MOST + 1];
+    uint64_t ahead[AHEAD_MOST + 1]; /* of requests that have to wait */
     uint64_t listings, listing_refusals[SHORT_BUFFER + 1], longest;
     gen_random random; /* the calls and tables */
     gen_random other;  /* places and hubs: the draws of the calls stay the generator's own */
@@ -93,15 +96,17 @@ static void differ_in(const comparison *at, const uint32_t *call, const uint8_t 
     differ(at, call, what);
 }
 
+/* Of a reply with fewer than four numbers the others are 0. */
 static void differ_by(const comparison *at, const uint32_t *call, const char *name,
-                      const uint32_t kernel[3], const uint32_t second[3])
+                      const uint32_t kernel[4], const uint32_t second[4])
 {
     char what[160];
 
     snprintf(what, sizeof what,
-             "%s is %" PRIu32 " %" PRIu32 " %" PRIu32 ", the second program's %" PRIu32 " %" PRIu32
-             " %" PRIu32,
-             name, kernel[0], kernel[1], kernel[2], second[0], second[1], second[2]);
+             "%s is %" PRIu32 " %" PRIu32 " %" PRIu32 " %" PRIu32 ", the second program's %" PRIu32
+             " %" PRIu32 " %" PRIu32 " %" PRIu32,
+             name, kernel[0], kernel[1], kernel[2], kernel[3], second[0], second[1], second[2],
+             second[3]);
     differ(at, call, what);
 }
 
@@ -162,12 +167,15 @@ static void check_reply(comparison *at, const uint32_t *call, hub_kernel_reply k
                         second_reply second)
 {
     if (kernel.refusal != second.refusal || kernel.answer != second.answer ||
-        kernel.next != second.next)
-        differ_by(at, call, "the reply", (uint32_t[]){kernel.refusal, kernel.answer, kernel.next},
-                  (uint32_t[]){second.refusal, second.answer, second.next});
+        kernel.next != second.next || kernel.ahead != second.ahead)
+        differ_by(at, call, "the reply",
+                  (uint32_t[]){kernel.refusal, kernel.answer, kernel.next, kernel.ahead},
+                  (uint32_t[]){second.refusal, second.answer, second.next, second.ahead});
     at->refusals[kernel.refusal]++;
     if (kernel.refusal == ACCEPTED)
         at->answers[kernel.answer]++;
+    if (kernel.refusal == ACCEPTED && call[C_SERVICE] == HUB_REQUEST && kernel.answer == NO_ANSWER)
+        at->ahead[kernel.ahead]++;
 }
 
 static void check_summary(comparison *at, uint32_t hub, second_summary_reply second)
@@ -176,8 +184,8 @@ static void check_summary(comparison *at, uint32_t hub, second_summary_reply sec
 
     if (kernel.refusal != second.refusal || kernel.mask != second.mask ||
         kernel.count != second.count)
-        differ_by(at, NULL, "the summary", (uint32_t[]){kernel.refusal, kernel.mask, kernel.count},
-                  (uint32_t[]){second.refusal, second.mask, second.count});
+        differ_by(at, NULL, "the summary", (uint32_t[4]){kernel.refusal, kernel.mask, kernel.count},
+                  (uint32_t[4]){second.refusal, second.mask, second.count});
     at->waiters += kernel.count;
 }
 
@@ -216,8 +224,8 @@ static void check_listing(comparison *at, const uint8_t *bytes, size_t room)
                                                          at->text_room + place, room);
     second_listing_reply second = second_listing_bytes(bytes, at->length, expected + place, room);
     if (kernel.refusal != second.refusal || kernel.length != second.length)
-        differ_by(at, NULL, "the listing's reply", (uint32_t[]){kernel.refusal, kernel.length, 0},
-                  (uint32_t[]){second.refusal, second.length, 0});
+        differ_by(at, NULL, "the listing's reply", (uint32_t[4]){kernel.refusal, kernel.length},
+                  (uint32_t[4]){second.refusal, second.length});
     if (memcmp(at->text_room, expected, sizeof expected) != 0)
         differ_in_text(at, place, room, expected);
     if (memcmp(at->table, bytes, at->length) != 0)
@@ -390,6 +398,22 @@ static void part_boards(comparison *at, const scale *to)
     }
 }
 
+/* One after the other asks a hub at which none to 15 wait, so its list grows. */
+static void part_queues(comparison *at, const scale *to)
+{
+    uint32_t words[WORDS], call[CALL_NUMBERS];
+
+    for (uint32_t i = 0; i < to->queues; i++) {
+        begin(at, "queues", i);
+        gen_queue(&at->random, words, call);
+        lay_words(at, words);
+        for (int j = 0; j < 4; j++) {
+            compare(at, words, call);
+            gen_ask(&at->random, words, call[C_TARGET], call);
+        }
+    }
+}
+
 /* Tables that no run need reach, every second one with numbers of every length:
  * none, one byte too few, just enough, more; and some into every room. */
 static void part_listings(comparison *at, const scale *to)
@@ -516,15 +540,15 @@ static void part(comparison *at, const scale *to, const char *name,
     fflush(stdout);
 }
 
-/* How many calls met none, one, and so on up to the most there can be; whether none,
+/* How many calls had none, one, and so on up to the most there can be; whether none,
  * one and the most came up. */
-static int check_met(const char *calls, const uint64_t *met, int most)
+static int check_numbers(const char *calls, const uint64_t *had, int most)
 {
-    printf("%s that met 0 to %d:", calls, most);
+    printf("%s 0 to %d:", calls, most);
     for (int i = 0; i <= most; i++)
-        printf(" %" PRIu64, met[i]);
+        printf(" %" PRIu64, had[i]);
     printf("\n");
-    return met[0] > 0 && met[1] > 0 && met[most] > 0;
+    return had[0] > 0 && had[1] > 0 && had[most] > 0;
 }
 
 /* A comparison in which an answer or a refusal never came up shows little. */
@@ -543,8 +567,9 @@ static int check_seen(const comparison *at)
         fine = fine && at->answers[i] > 0;
     }
     printf("; waiters in summaries: %" PRIu64 "\n", at->waiters);
-    fine = check_met("Stops", at->met_by_stop, MET_MOST) && fine;
-    fine = check_met("updates of a Board", at->met_by_update, READERS_MOST) && fine;
+    fine = check_numbers("Stops that met", at->met_by_stop, MET_MOST) && fine;
+    fine = check_numbers("updates of a Board that met", at->met_by_update, READERS_MOST) && fine;
+    fine = check_numbers("requests that wait, ahead of them", at->ahead, AHEAD_MOST) && fine;
     printf("listings: accepted, refused with 1, 2, 8:");
     for (uint32_t i = 0; i <= SHORT_BUFFER; i++) {
         if (i > NOT_WELL_FORMED && i < SHORT_BUFFER)
@@ -569,6 +594,7 @@ int main(int count, char **words)
         part(&at, &scales[i], "tables", part_tables);
         part(&at, &scales[i], "stops", part_stops);
         part(&at, &scales[i], "boards", part_boards);
+        part(&at, &scales[i], "queues", part_queues);
         part(&at, &scales[i], "damaged", part_damaged);
         part(&at, &scales[i], "flips", part_flips);
         part(&at, &scales[i], "lengths", part_lengths);

@@ -29,7 +29,7 @@ static void compare(replay *at, const uint32_t *c)
     second_reply want = second_call_bytes(at->second, BYTES, c);
 
     at->calls++;
-    if (got.refusal != want.refusal || got.answer != want.answer || got.next != want.next)
+    if (got.refusal != want.refusal || got.answer != want.answer || got.next != want.next || got.ahead != want.ahead)
         differ(at, "the reply");
     if (memcmp(at->kernel, at->second, BYTES) != 0)
         differ(at, "the table");

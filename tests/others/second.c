@@ -1,5 +1,5 @@
 /* Makes the calls of standard input through the second program, on one array,
- * and prints refusal, answer and next of each. A line is the number of words
+ * and prints refusal, answer, next and ahead of each. A line is the number of words
  * that the call is lent, then its seven numbers. */
 #include <stdio.h>
 
@@ -16,8 +16,8 @@ int main(void)
         for (int i = 0; i < 7; i++)
             call[i] = (uint32_t)n[i];
         second_reply reply = second_call(table, words, call);
-        printf("%lu %lu %lu\n", (unsigned long)reply.refusal, (unsigned long)reply.answer,
-               (unsigned long)reply.next);
+        printf("%lu %lu %lu %lu\n", (unsigned long)reply.refusal, (unsigned long)reply.answer,
+               (unsigned long)reply.next, (unsigned long)reply.ahead);
     }
     return 0;
 }

@@ -2,7 +2,7 @@
 -- a table, test by test; what an accepted call knows of the table and of its numbers; the reply.
 -- Not here: what each service does (the crates below). Assumes nothing.
 use Prim.Native.Nat.{_<_, _≤_, suc, zero, ℕ}
-use Rattle.kernel.specs.Promise.{CalledIn}
+use Rattle.kernel.specs.Promise.{CalledIn, ServedIn}
 use Rattle.lists.proofs.Laws.{boolCase}
 use Rattle.moves.specs.Moves.{keyOf}
 use Rattle.records.specs.Records.{Table}
@@ -23,6 +23,7 @@ use Rattle.rules.specs.declared.Answer.the-variants.{Accepted, Refused}
 use Rattle.rules.specs.declared.Call.{Call}
 use Rattle.rules.specs.declared.Outcome.the-variants.{NothingYet}
 use Rattle.rules.specs.declared.Outcome.{Outcome}
+use Rattle.rules.specs.declared.Served.{Served}
 use borrow.Author.Tests.{eq-eqb, leb-false, leb-true, ne-eqb}
 use lib.Dec.{leb}
 use lib.ListN.{List·getD-eq-default, getD, length}
@@ -175,15 +176,15 @@ outcome-other (suc (suc zero)) p q = absurd (q refl)
 outcome-other (suc (suc (suc a))) p q = refl
 
 module _ (L : Layout) (t : List ℕ) (c : Call) where
-  pub called-refused : (r : ℕ) → r ≡ refusalIn L t c → (r ≡ 0 → ⊥) → CalledIn L t c (record { answer = Refused r; next = 0 }) t
+  pub called-refused : (r : ℕ) → r ≡ refusalIn L t c → (r ≡ 0 → ⊥) → CalledIn L t c (record { answer = Refused r; next = 0; ahead = 0 }) t
   called-refused r e n = go r e n
     where
-      go : (m : ℕ) → m ≡ refusalIn L t c → (m ≡ 0 → ⊥) → CalledIn L t c (record { answer = Refused m; next = 0 }) t
+      go : (m : ℕ) → m ≡ refusalIn L t c → (m ≡ 0 → ⊥) → CalledIn L t c (record { answer = Refused m; next = 0; ahead = 0 }) t
       go zero e n = absurd (n refl)
       go (suc m) e n = record { reply = unfold replyIn replyBy in rw (← e) refl; table = unfold tableIn tableBy in rw (← e) refl }
 
-  pub called-accepted : refusalIn L t c ≡ 0 → (o : Outcome) (n : ℕ) (t′ : List ℕ) → o ≡ outcome (served (read L t) c) c → n ≡ next (served (read L t) c) → t′ ≡ words L (served (read L t) c) → CalledIn L t c (record { answer = Accepted o; next = n }) t′
-  called-accepted a o n t′ eo en et = record {
-    reply = unfold replyIn replyBy in rw (a, eo, en) refl;
-    table = unfold tableIn tableBy in rw a et;
+  pub called-accepted : refusalIn L t c ≡ 0 → (o : Outcome) (n : ℕ) (r : Served) (t′ : List ℕ) → o ≡ outcome (served (read L t) c) c → n ≡ next (served (read L t) c) → ServedIn L (served (read L t) c) c r t′ → CalledIn L t c (record { answer = Accepted o; next = n; ahead = r .ahead }) t′
+  called-accepted a o n r t′ eo en e = record {
+    reply = unfold replyIn replyBy in rw (a, eo, en, e .ahead) refl;
+    table = unfold tableIn tableBy in rw a (e .table);
   }

@@ -3,10 +3,11 @@
 use Prim.Native.Nat.{ℕ}
 use Rattle.rules.proofs.Layouts.{Edition}
 use Rattle.rules.specs.Refusals.{refusalIn}
-use Rattle.rules.specs.Reply.{replyIn, replyTo, tableAfter, tableIn}
-use Rattle.rules.specs.Table.{Layout}
+use Rattle.rules.specs.Reply.{ahead, replyIn, replyTo, tableAfter, tableIn}
+use Rattle.rules.specs.Table.{Layout, State, words}
 use Rattle.rules.specs.declared.Call.{Call}
 use Rattle.rules.specs.declared.Reply.{Reply}
+use Rattle.rules.specs.declared.Served.{Served}
 use mathlib.Core.List.{List}
 use mathlib.Core.Path.{_≡_}
 
@@ -17,6 +18,11 @@ pub record Called (before : List ℕ) (c : Call) (r : Reply) (after : List ℕ) 
 pub record CalledIn (L : Layout) (before : List ℕ) (c : Call) (r : Reply) (after : List ℕ) : Type 0 where
   pub reply : r ≡ replyIn L before c
   pub table : after ≡ tableIn L before c
+
+-- an accepted call has left this state in the table, and hands up how many are ahead of the caller in it
+pub record ServedIn (L : Layout) (s′ : State) (c : Call) (r : Served) (after : List ℕ) : Type 0 where
+  pub table : after ≡ words L s′
+  pub ahead : r .ahead ≡ ahead s′ c
 
 -- a table whose task records have ts words takes the call, in the edition of that size
 pub record Accepts (ts : ℕ) (t : List ℕ) (c : Call) : Type 0 where

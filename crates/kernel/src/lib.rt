@@ -6,9 +6,10 @@ use rules::Answer;
 use rules::Call;
 use rules::Outcome;
 use rules::Reply;
+use rules::Served;
 use rules::Summary;
 ghost use Prim.Native.Nat.{_<_, _≤_, ℕ};
-ghost use Rattle.kernel.specs.Promise.{Accepts, Called, CalledIn};
+ghost use Rattle.kernel.specs.Promise.{Accepts, Called, CalledIn, ServedIn};
 ghost use Rattle.moves.specs.Moves.{keyOf};
 ghost use Rattle.records.specs.Records.{Table};
 ghost use Rattle.rules.proofs.Layouts.{Laid};
@@ -38,19 +39,18 @@ fn refusal_of(t: &[u32], ts: usize, c: Call) -> u32
     refusals::for_service(t, ts, c)
 }
 
-// Services 1 to 5 name a hub or a task.
+// Services 2 to 5 name a task.
 fn serve_target(t: &mut [u32], ts: usize, keys: &[u32], c: Call)
     requires { ⌜ Table ts (now t) ⌝ }
     requires { ⌜ c .caller < 16 ⌝ }
     requires { ⌜ c .target < 16 ⌝ }
     requires { ⌜ getD (now t) 2 0 ≤ 16 ⌝ }
-    ensures { λ _. ⌜ ((L : Layout) (s : State) → Laid ts L → Valid s → refusal s c ≡ 0 → 1 ≤ c .service → c .service ≤ 5
+    ensures { λ _. ⌜ ((L : Layout) (s : State) → Laid ts L → Valid s → refusal s c ≡ 0 → 2 ≤ c .service → c .service ≤ 5
         → now (t .entry) ≡ words L s
         → now (t .exit) ≡ words L (serve (keyOf (now (keys .entry))) (serviceOf (c .service)) s c)) ⌝ }
 {
     let service = c.service;
     match service {
-        rules::HUB_REQUEST => requests::request(t, ts, keys, c),
         rules::START => tasks::start_task(t, ts, keys, c),
         rules::STOP => tasks::stop_task(t, ts, keys, c),
         rules::SUSPEND => tasks::suspend_task(t, ts, c),
@@ -102,11 +102,12 @@ fn serve_add_task(t: &mut [u32], ts: usize, c: Call)
     }
 }
 
-// One accepted call's service. Blank looks at nothing; any other fixes each task's key before it does anything.
-fn serve_call(t: &mut [u32], ts: usize, c: Call)
+// One accepted call's service, but for a hub request. Blank looks at nothing; any other fixes each task's key before it does anything.
+fn serve_other(t: &mut [u32], ts: usize, c: Call)
     requires { ⌜ 8 ≤ ts ⌝ }
     requires { ⌜ ts ≤ 9 ⌝ }
     requires { ⌜ Accepts ts (now t) c ⌝ }
+    requires { ⌜ (c .service ≡ 1 → ⊥) ⌝ }
     ensures { λ _. ⌜ ((L : Layout) → Laid ts L → refusalIn L (now (t .entry)) c ≡ 0
         → now (t .exit) ≡ words L (served (read L (now (t .entry))) c)) ⌝ }
 {
@@ -133,6 +134,22 @@ fn serve_call(t: &mut [u32], ts: usize, c: Call)
         return;
     }
     setup::add_hub(t, ts, c.target, c.ticks, c.word);
+}
+
+// One accepted call's service, and what it hands up: only a hub request has any ahead.
+fn serve_call(t: &mut [u32], ts: usize, c: Call) -> Served
+    requires { ⌜ 8 ≤ ts ⌝ }
+    requires { ⌜ ts ≤ 9 ⌝ }
+    requires { ⌜ Accepts ts (now t) c ⌝ }
+    ensures { λ r. ⌜ ((L : Layout) → Laid ts L → refusalIn L (now (t .entry)) c ≡ 0
+        → ServedIn L (served (read L (now (t .entry))) c) c r (now (t .exit))) ⌝ }
+{
+    if c.service == rules::HUB_REQUEST {
+        let keys = setup::keys(&*t, ts);
+        return requests::request(t, ts, &keys, c);
+    }
+    serve_other(t, ts, c);
+    Served { ahead: 0 }
 }
 
 // "For services 1 to 7 the answer is the caller's answer word after the call; for 0, 8, 9 and 10 it is 0."
@@ -168,12 +185,14 @@ fn call_in(t: &mut [u32], ts: usize, c: Call) -> Reply
         return Reply {
             answer: Answer::Refused(refused),
             next: 0,
+            ahead: 0,
         };
     }
-    serve_call(t, ts, c);
+    let served = serve_call(t, ts, c);
     Reply {
         answer: Answer::Accepted(outcome_of(&*t, ts, c)),
         next: refusals::running(&*t, ts),
+        ahead: served.ahead,
     }
 }
 

@@ -1,6 +1,5 @@
--- Laws of a text put into a buffer. In order: a byte; one text behind another, and the buffer's length; a text
--- fits; three
--- texts; five bytes; a number; the room that a number takes; the texts of printed lines as they are put.
+-- Laws of a text put into a buffer. In order: a byte; one text behind another, and the buffer's length; a text fits; three
+-- texts, and four; five bytes; a number; the room that a number takes; the texts of printed lines as they are put.
 use Prim.Native.Nat.{_%_, _+_, _/_, _<_, _^_, _≤_, suc, ℕ}
 use Rattle.lines.proofs.Decimal.{decimal-more, decimal-small, length-decimal, length-more}
 use Rattle.lines.specs.Lines.{Put, badText, decimal, joined, newline, printRoom, printed, space, spaced, zeroDigit}
@@ -62,6 +61,13 @@ put-three : (l : List ℕ) (at : ℕ) (x y z : List ℕ) (e₁ : ℕ) (l₁ : Li
 put-three l at x y z e₁ l₁ e₂ l₂ e₃ l₃ h p q r =
     put-append l at (x ++ y) e₂ l₂ (put-append l at x e₁ l₁ p (omega arith) y e₂ l₂ q) (omega (arith, length-append x y)) z e₃ l₃ r
 
+put-four : (l : List ℕ) (at : ℕ) (x y z w : List ℕ) (e₁ : ℕ) (l₁ : List ℕ) (e₂ : ℕ) (l₂ : List ℕ) (e₃ : ℕ) (l₃ : List ℕ) (e₄ : ℕ) (l₄ : List ℕ)
+    → at + (length x + length y + length z) ≤ length l → Put l at x e₁ l₁ → Put l₁ e₁ y e₂ l₂ → Put l₂ e₂ z e₃ l₃ → Put l₃ e₃ w e₄ l₄
+    → Put l at (x ++ y ++ z ++ w) e₄ l₄
+put-four l at x y z w e₁ l₁ e₂ l₂ e₃ l₃ e₄ l₄ h p q r t =
+    put-append l at (x ++ y ++ z) e₃ l₃ (put-three l at x y z e₁ l₁ e₂ l₂ e₃ l₃ (omega arith) p q r)
+    (omega (arith, length-append (x ++ y) z, length-append x y)) w e₄ l₄ t
+
 pub put-five : (l : List ℕ) (at a b c d e : ℕ) → at + 5 ≤ length l
     → Put l at (a ∷ b ∷ c ∷ d ∷ e ∷ []) (at + 5) (set (set (set (set (set l at a) (at + 1) b) (at + 2) c) (at + 3) d) (at + 4) e)
 put-five l at a b c d e h =
@@ -111,18 +117,20 @@ length-field n b h = omega (arith, length-append (decimal n) (b ∷ []), short n
 pub field-end : (l : List ℕ) (at n b end : ℕ) (m : List ℕ) → n < 2 ^ 32 → Put l at (decimal n ++ b ∷ []) end m → end ≤ at + 11
 field-end l at n b end m h p = omega (arith, length-field n b h, p .place)
 
-printed-three : (a b c : ℕ)
-    → printed (a ∷ b ∷ c ∷ []) ≡ (decimal a ++ space ∷ []) ++ (decimal b ++ space ∷ []) ++ (decimal c ++ newline ∷ [])
+printed-four : (a b c d : ℕ)
+    → printed (a ∷ b ∷ c ∷ d ∷ [])
+    ≡ (decimal a ++ space ∷ []) ++ (decimal b ++ space ∷ []) ++ (decimal c ++ space ∷ []) ++ (decimal d ++ newline ∷ [])
 unfolding joined printed spaced
-printed-three a b c = simp append-assoc
+printed-four a b c d = simp append-assoc
 
 module _ (l : List ℕ) (at : ℕ) (room : at + printRoom ≤ length l) (e₁ : ℕ) (l₁ : List ℕ) (e₂ : ℕ) (l₂ : List ℕ) (e₃ : ℕ) (l₃ : List ℕ) where
-  pub put-reply : (a b c : ℕ) → a < 2 ^ 32 → b < 2 ^ 32 → Put l at (decimal a ++ space ∷ []) e₁ l₁ → Put l₁ e₁ (decimal b ++ space ∷ []) e₂ l₂
-      → Put l₂ e₂ (decimal c ++ newline ∷ []) e₃ l₃ → Put l at (printed (a ∷ b ∷ c ∷ [])) e₃ l₃
-  put-reply a b c ha hb p q r =
-      rw (printed-three a b c)
-      (put-three l at (decimal a ++ space ∷ []) (decimal b ++ space ∷ []) (decimal c ++ newline ∷ []) e₁ l₁ e₂ l₂ e₃ l₃
-      (omega (arith, length-field a space ha, length-field b space hb)) p q r)
+  pub put-reply : (e₄ : ℕ) (l₄ : List ℕ) (a b c d : ℕ) → a < 2 ^ 32 → b < 2 ^ 32 → c < 2 ^ 32 → Put l at (decimal a ++ space ∷ []) e₁ l₁
+      → Put l₁ e₁ (decimal b ++ space ∷ []) e₂ l₂ → Put l₂ e₂ (decimal c ++ space ∷ []) e₃ l₃ → Put l₃ e₃ (decimal d ++ newline ∷ []) e₄ l₄
+      → Put l at (printed (a ∷ b ∷ c ∷ d ∷ [])) e₄ l₄
+  put-reply e₄ l₄ a b c d ha hb hc p q r t =
+      rw (printed-four a b c d)
+      (put-four l at (decimal a ++ space ∷ []) (decimal b ++ space ∷ []) (decimal c ++ space ∷ []) (decimal d ++ newline ∷ []) e₁ l₁ e₂ l₂ e₃ l₃ e₄ l₄
+      (omega (arith, length-field a space ha, length-field b space hb, length-field c space hc)) p q r t)
 
   pub put-bad : (n : ℕ) → n < 2 ^ 64 → Put l at (108 ∷ 105 ∷ 110 ∷ 101 ∷ 32 ∷ []) e₁ l₁ → Put l₁ e₁ (decimal n) e₂ l₂
       → Put l₂ e₂ (32 ∷ 98 ∷ 97 ∷ 100 ∷ newline ∷ []) e₃ l₃ → Put l at (badText n) e₃ l₃

@@ -154,7 +154,7 @@ spaced ns = joined space (map decimal ns)
 unfoldable pub textOf : Numbers → List ℕ
 textOf x = spaced (listOf x)
 
--- "It prints refusal, answer and next": numbers on a line of their own
+-- "It prints refusal, answer and next", with M-104 "four numbers per call": numbers on a line of their own
 unfoldable pub printed : List ℕ → List ℕ
 printed ns = spaced ns ++ newline ∷ []
 

@@ -274,13 +274,21 @@ fn put_five(out: &mut [u8], at: usize, a: u8, b: u8, c: u8, d: u8, e: u8) -> usi
 }
 
 // Writes the line of an answered call, newline and all, at `at`, and answers the place behind it.
-pub fn write_reply(out: &mut [u8], at: usize, refusal: u32, answer: u32, next: u32) -> usize
+pub fn write_reply(
+    out: &mut [u8],
+    at: usize,
+    refusal: u32,
+    answer: u32,
+    next: u32,
+    ahead: u32,
+) -> usize
     requires { ⌜ at + printRoom ≤ length (now out) ⌝ }
-    ensures { λ r. ⌜ Put (now (out .entry)) at (printed (refusal ∷ answer ∷ next ∷ [])) r (now (out .exit)) ⌝ }
+    ensures { λ r. ⌜ Put (now (out .entry)) at (printed (refusal ∷ answer ∷ next ∷ ahead ∷ [])) r (now (out .exit)) ⌝ }
 {
     let a = put_number(out, at, refusal as u64, SPACE);
     let b = put_number(out, a, answer as u64, SPACE);
-    put_number(out, b, next as u64, NEWLINE)
+    let c = put_number(out, b, next as u64, SPACE);
+    put_number(out, c, ahead as u64, NEWLINE)
 }
 
 // How many digits n has.

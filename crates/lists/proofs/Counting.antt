@@ -45,7 +45,7 @@ occ-drop i (suc k) [] = omega arith
 occ-drop i (suc k) (x ∷ xs) = omega (arith, occ-drop i k xs)
 
 -- all of a number's occurrences taken out are as many as they were
-length-without : (t : ℕ) (l : List ℕ) → length l ≡ occ t l + length (without t l)
+pub length-without : (t : ℕ) (l : List ℕ) → length l ≡ occ t l + length (without t l)
 unfolding occ without
 length-without t [] = refl
 length-without t (x ∷ xs) = boolCase (eqb x t) (λ b. rw b (omega (arith, length-without t xs))) (λ b. rw b (omega (arith, length-without t xs)))

@@ -181,6 +181,16 @@ entries-some (suc n) [] (suc k) i h e = drop-nil (suc k) ∙ sym (drop-nil k) �
 entries-some (suc n) (x ∷ xs) zero i h e = ap (λ (j : ℕ). j ∷ xs) (ap pred e)
 entries-some (suc n) (x ∷ xs) (suc k) i h e = entries-some n xs k i (le-of-suc-le-suc h) e
 
+-- no place among n words is past them
+pub place-most : (ks : List ℕ) (p n : ℕ) (l : List ℕ) → placeIn ks p (take n l) ≤ n
+unfolding placeIn
+place-most ks p zero l = zero-le
+place-most ks p (suc n) [] = zero-le
+place-most ks p (suc n) (e ∷ es) =
+    boolCase (eqb e 0)
+    (λ b. rw b zero-le)
+    (λ b. boolCase (ltb p (getD ks (pred e) 0)) (λ d. rw (b, d) zero-le) (λ d. rw (b, d) (suc-le-suc (place-most ks p n es))))
+
 -- ---- a number joins: what `place` and `join` say of a list of words is `placeOf` and `insert` of its numbers
 
 module _ (ks : List ℕ) where

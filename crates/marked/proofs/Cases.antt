@@ -4,7 +4,7 @@ use Prim.Native.Nat.{ℕ}
 use Rattle.lines.specs.Lines.{all, areNumbers, badText, decimal, digits, isDecimal, isGood, isNumber, joined, lineOf, linesOf, numbered, numbersOf, piecesFrom, printed, readLines, spaced, valueFrom, withoutEmptyLast}
 use Rattle.lines.specs.declared.Line.the-variants.{Bad, Good}
 use Rattle.lines.specs.declared.Line.{Line}
-use Rattle.lists.specs.Lists.{insert, without}
+use Rattle.lists.specs.Lists.{indexOf, insert, without}
 use Rattle.marked.proofs.States.{on-words, textFrom}
 use Rattle.marked.specs.Marked.{Row, inputOf, outputOf, rows}
 use Rattle.rules.proofs.Kept.{valid-blank}
@@ -14,7 +14,7 @@ use Rattle.rules.specs.Calls.{addHub, addStarted, addTask, blank, hold, kept, m
 use Rattle.rules.specs.HubTable.{getFifo, onGet, onPut, onSide, putFifo, verdict}
 use Rattle.rules.specs.Lists.{answer, answered, counted, firstFree, firstWaiting, holding, joinHub, joinReady, leave, next, queued, readied, unqueue, waits, wake}
 use Rattle.rules.specs.Refusals.{byRunning, goodHub, goodWait, lastSide, modeOf, need, refusal, refusalFor}
-use Rattle.rules.specs.Reply.{bearsAnswer, outcome, outcomeOf, replyBy, replyIn, tableBy, tableIn}
+use Rattle.rules.specs.Reply.{ahead, aheadFor, bearsAnswer, outcome, outcomeOf, replyBy, replyIn, tableBy, tableIn}
 use Rattle.rules.specs.Table.{inactive, kindOf, noHub, one, setHub, setReady, setTask, sideOf, size, words}
 use Rattle.rules.specs.WellFormed.{bearsWord}
 use Rattle.runner.specs.Runner.{callOf, drillText, replyText, textThrough, zeros}
@@ -35,13 +35,13 @@ unfolding zeros
 zeros-long = length-replicate {A = ℕ} (size one) 0
 
 -- a first call that is a Blank
-blanked : (ls : List Line) → textThrough zeros (Good (numbersOf (0 ∷ 0 ∷ 0 ∷ 0 ∷ 0 ∷ 0 ∷ 0 ∷ [])) ∷ ls) ≡ printed (0 ∷ 0 ∷ 0 ∷ []) ++ textThrough (words one blank) ls
-unfolding bearsAnswer blank firstFree next numbersOf outcome replyBy replyIn replyText serve served serviceOf tableBy tableIn textThrough
+blanked : (ls : List Line) → textThrough zeros (Good (numbersOf (0 ∷ 0 ∷ 0 ∷ 0 ∷ 0 ∷ 0 ∷ 0 ∷ [])) ∷ ls) ≡ printed (0 ∷ 0 ∷ 0 ∷ 0 ∷ []) ++ textThrough (words one blank) ls
+unfolding ahead aheadFor bearsAnswer blank firstFree next numbersOf outcome replyBy replyIn replyText serve served serviceOf tableBy tableIn textThrough
 blanked ls = rw (blank-accepted zeros (callOf (numbersOf (0 ∷ 0 ∷ 0 ∷ 0 ∷ 0 ∷ 0 ∷ 0 ∷ []))) zeros-long refl)
 
 answered-all : textThrough zeros (linesFrom rows) ≡ outputOf rows
-unfolding addHub addStarted addTask answer answered badText bearsAnswer bearsWord blank byRunning counted decimal digits firstFree firstWaiting getFifo goodHub goodWait hold holding inactive insert joinHub joinReady joined kept kindOf lastSide leave linesFrom meetAll modeOf need newHub next noHub numbersOf onGet onPut onSide outcome outcomeOf outputOf printed putFifo queued readied refusal refusalFor replyBy replyText rows serve served serviceOf setHub setReady setTask settle sideOf spaced start stateAfter stateBy textFrom tickAll tickBy tickOne unqueue verdict wait waits wake without
-answered-all = blanked _ ∙ ap (λ (t : List ℕ). printed (0 ∷ 0 ∷ 0 ∷ []) ++ t) (on-words blank valid-blank _)
+unfolding addHub addStarted addTask ahead aheadFor answer answered badText bearsAnswer bearsWord blank byRunning counted decimal digits firstFree firstWaiting getFifo goodHub goodWait hold holding inactive indexOf insert joinHub joinReady joined kept kindOf lastSide leave linesFrom meetAll modeOf need newHub next noHub numbersOf onGet onPut onSide outcome outcomeOf outputOf printed putFifo queued readied refusal refusalFor replyBy replyText rows serve served serviceOf setHub setReady setTask settle sideOf spaced start stateAfter stateBy textFrom tickAll tickBy tickOne unqueue verdict wait waits wake without
+answered-all = blanked _ ∙ ap (λ (t : List ℕ). printed (0 ∷ 0 ∷ 0 ∷ 0 ∷ []) ++ t) (on-words blank valid-blank _)
 
 -- the twelve, as one input and one output
 pub marked : drillText (inputOf rows) ≡ outputOf rows

@@ -42,8 +42,9 @@ pub record JoinsReady (ts : ℕ) (ks : List ℕ) (i : ℕ) (t : List ℕ) (k : �
   pub place : (L : Layout) (s : State) → Laid ts L → length (s .ready) ≤ 16 → t ≡ words L s
       → k ≡ placeOf (keyOf ks) (keyOf ks i) (s .ready)
 
--- the same of hub h's list
+-- the same of hub h's list, whatever the table holds a place of its 16 entries or behind them
 pub record JoinsHub (ts : ℕ) (ks : List ℕ) (h i : ℕ) (t : List ℕ) (k : ℕ) (t′ : List ℕ) : Type 0 where
+  pub low : k ≤ 16
   pub table : (L : Layout) (s : State) → Laid ts L → h < length (s .hubs) → t ≡ words L s
       → t′ ≡ words L (joinHub (keyOf ks) h i s)
   pub place : (L : Layout) (s : State) → Laid ts L → h < length (s .hubs) → length (hub s h .waiters) ≤ 16 → t ≡ words L s

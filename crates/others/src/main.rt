@@ -5,7 +5,7 @@ use rules::Call;
 ghost use Prim.Native.Nat.{_≤_};
 ghost use lib.ListN.{length};
 
-// One call, and its refusal, answer and next.
+// One call, and its refusal, answer, next and ahead.
 fn say(
     t: &mut [u32],
     service: u32,
@@ -36,6 +36,7 @@ fn say(
         rules::refusal_number(answer),
         rules::answer_number(answer),
         reply.next,
+        reply.ahead,
     );
     io::write_all(STDOUT_FILENO, &line[..end]);
 }

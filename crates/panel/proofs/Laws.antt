@@ -32,7 +32,7 @@ refused-keeps t c r = refused-keeps-by _ t _ c r
 -- ---- the ways out of a call
 
 module _ (b : List ℕ) where
-  pub called-length : (c : Call) → (length b ≡ tableBytes → ⊥) → Called b c (record { refusal = 1; answer = 0; next = 0 }) b
+  pub called-length : (c : Call) → (length b ≡ tableBytes → ⊥) → Called b c (record { refusal = 1; answer = 0; next = 0; ahead = 0 }) b
   unfolding edgeAfter edgeReply
   called-length c h =
       record {

@@ -24,9 +24,9 @@ abbrev pub callOf : ℕ → ℕ → ℕ → ℕ → ℕ → ℕ → ℕ → Call
 callOf service caller target side mode ticks word =
     record { service = service; caller = caller; target = target; side = side; mode = mode; ticks = ticks; word = word }
 
--- the paper's numbers of a reply
+-- the paper's numbers of a reply, with M-104 four
 abbrev pub numbersOf : Reply → HubKernelReply
-numbersOf r = record { refusal = refusalNumber (r .answer); answer = answerNumber (r .answer); next = r .next }
+numbersOf r = record { refusal = refusalNumber (r .answer); answer = answerNumber (r .answer); next = r .next; ahead = r .ahead }
 
 abbrev pub summaryNumbersOf : Summary → HubKernelSummaryReply
 summaryNumbersOf s = record { refusal = s .refusal; mask = s .mask; count = s .count }
@@ -38,7 +38,7 @@ tableBytes = 2400
 -- ---- "hands the table as 2,400 bytes, words little-endian"; "another byte length is refusal 1"
 
 unfoldable pub edgeReply : List ℕ → Call → HubKernelReply
-edgeReply b c = cond (eqb (length b) tableBytes) (numbersOf (replyTo (wordsFrom b) c)) (record { refusal = 1; answer = 0; next = 0 })
+edgeReply b c = cond (eqb (length b) tableBytes) (numbersOf (replyTo (wordsFrom b) c)) (record { refusal = 1; answer = 0; next = 0; ahead = 0 })
 
 -- "the bytes afterwards are the words after the call"
 unfoldable pub edgeAfter : List ℕ → Call → List ℕ

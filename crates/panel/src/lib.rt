@@ -13,6 +13,7 @@ pub struct HubKernelReply {
     pub refusal: u32,
     pub answer: u32,
     pub next: u32,
+    pub ahead: u32,
 }
 
 #[repr(C)]
@@ -37,6 +38,7 @@ fn numbers_of(r: Reply) -> HubKernelReply
         refusal: rules::refusal_number(a),
         answer: rules::answer_number(a),
         next: r.next,
+        ahead: r.ahead,
     }
 }
 
@@ -59,6 +61,7 @@ pub extern "C" fn hub_kernel_call(
             refusal: rules::WRONG_LENGTH,
             answer: 0,
             next: 0,
+            ahead: 0,
         };
     }
     let mut words = [0u32; records::TABLE_SIZE];

@@ -1,4 +1,4 @@
--- What the lines of a set-up do to a state: each is accepted, adds its task or its hub, and prints 0 0 0. In order: one call; calls in
+-- What the lines of a set-up do to a state: each is accepted, adds its task or its hub, and prints 0 0 0 0. In order: one call; calls in
 -- a row; the tasks; the hubs. Not here: how the lines are read (Reading.antt). Assumes nothing.
 use Prim.Native.Nat.{_+_, _<_, _≤_, suc, zero, ℕ}
 use Rattle.lines.specs.Lines.{numbersOf, printed}
@@ -10,7 +10,7 @@ use Rattle.rules.proofs.Valid.{Valid}
 use Rattle.rules.specs.Calls.{addHub, addTask, newHub, serve, served, serviceOf}
 use Rattle.rules.specs.Lists.{firstFree, next}
 use Rattle.rules.specs.Refusals.{need, refusal, refusalFor}
-use Rattle.rules.specs.Reply.{bearsAnswer, outcome, replyBy, replyTo, tableAfter}
+use Rattle.rules.specs.Reply.{ahead, aheadFor, bearsAnswer, outcome, replyBy, replyTo, tableAfter}
 use Rattle.rules.specs.Table.{State, inactive, one, words}
 use Rattle.rules.specs.declared.Call.{Call}
 use Rattle.runner.proofs.Runs.{table-append}
@@ -24,7 +24,7 @@ use native.Mathlib.Nat.{zero-add}
 use native.Mathlib.Omega.{arith}
 
 abbrev accepted : List ℕ
-accepted = 0 ∷ 0 ∷ 0 ∷ []
+accepted = 0 ∷ 0 ∷ 0 ∷ 0 ∷ []
 
 -- ---- calls in a row, from a state to another
 
@@ -40,7 +40,8 @@ steps-none s v e = record { table = refl; text = refl; valid = v; ready = e }
 
 module _ (s : State) (v : Valid s) (l : List ℕ) (s₁ : State)
     (accept : refusal s (callOf (numbersOf l)) ≡ 0) (served-is : served s (callOf (numbersOf l)) ≡ s₁)
-    (silent : bearsAnswer (serviceOf (callOf (numbersOf l) .service)) ≡ false) (none : s₁ .ready ≡ []) where
+    (silent : bearsAnswer (serviceOf (callOf (numbersOf l) .service)) ≡ false) (alone : ahead s₁ (callOf (numbersOf l)) ≡ 0)
+    (none : s₁ .ready ≡ []) where
   abbrev c : Call
   c = callOf (numbersOf l)
 
@@ -53,7 +54,7 @@ module _ (s : State) (v : Valid s) (l : List ℕ) (s₁ : State)
 
   one-text : replyText (replyTo (words one s) c) ≡ printed accepted
   unfolding firstFree next outcome replyBy replyText
-  one-text = rw (reply-words s v c, accept, served-is, silent, none)
+  one-text = rw (reply-words s v c, accept, served-is, silent, alone, none)
 
   pub step-valid : Valid s₁
   step-valid = subst Valid after (valid-after s v c)
@@ -104,16 +105,16 @@ module _ (s : State) (room : length (s .tasks) < 16) (p : ℕ) (low : p ≤ 255)
   task-served = refl
 
 pub add-tasks : (ps : List ℕ) (s : State) → Valid s → s .ready ≡ [] → length (s .tasks) + length ps ≤ 16 → Every (λ p. p ≤ 255) ps → Steps s (map taskLine ps) (moreTasks ps s)
-unfolding Every addTask bearsAnswer numbersOf serviceOf
+unfolding Every addTask ahead aheadFor bearsAnswer numbersOf serviceOf
 add-tasks [] s v e room low = subst (Steps s []) (rw (append-nil (s .tasks))) (steps-none s v e)
 add-tasks (p ∷ ps) s v e room low =
     let here : length (s .tasks) < 16 = omega arith in
     let s₁ = addTask p s in
     let a = task-accepted s here p (low .0) in
-    let w = step-valid s v (taskLine p) s₁ a (task-served s here p (low .0)) refl e in
+    let w = step-valid s v (taskLine p) s₁ a (task-served s here p (low .0)) refl refl e in
     let rest = add-tasks ps s₁ w e (omega (arith, length-append (s .tasks) (inactive p ∷ []))) (low .1) in
     subst (Steps s (map taskLine (p ∷ ps))) (rw (append-assoc (s .tasks) (inactive p ∷ []) (map inactive ps)))
-    (steps-cons s v (taskLine p) s₁ a (task-served s here p (low .0)) refl e (map taskLine ps) (moreTasks ps s₁) rest)
+    (steps-cons s v (taskLine p) s₁ a (task-served s here p (low .0)) refl refl e (map taskLine ps) (moreTasks ps s₁) rest)
 
 -- ---- the hubs
 
@@ -130,13 +131,13 @@ module _ (s : State) (room : length (s .hubs) < 16) (h : HubSetUp) (fine : GoodH
   hub-served = refl
 
 pub add-hubs : (hs : List HubSetUp) (s : State) → Valid s → s .ready ≡ [] → length (s .hubs) + length hs ≤ 16 → Every GoodHub hs → Steps s (map hubLine hs) (moreHubs hs s)
-unfolding Every addHub bearsAnswer numbersOf serviceOf
+unfolding Every addHub ahead aheadFor bearsAnswer numbersOf serviceOf
 add-hubs [] s v e room fine = subst (Steps s []) (rw (append-nil (s .hubs))) (steps-none s v e)
 add-hubs (h ∷ hs) s v e room fine =
     let here : length (s .hubs) < 16 = omega arith in
     let s₁ = addHub (hubFrom h) s in
     let a = hub-accepted s here h (fine .0) in
-    let w = step-valid s v (hubLine h) s₁ a (hub-served s here h (fine .0)) refl e in
+    let w = step-valid s v (hubLine h) s₁ a (hub-served s here h (fine .0)) refl refl e in
     let rest = add-hubs hs s₁ w e (omega (arith, length-append (s .hubs) (hubFrom h ∷ []))) (fine .1) in
     subst (Steps s (map hubLine (h ∷ hs))) (rw (append-assoc (s .hubs) (hubFrom h ∷ []) (map hubFrom hs)))
-    (steps-cons s v (hubLine h) s₁ a (hub-served s here h (fine .0)) refl e (map hubLine hs) (moreHubs hs s₁) rest)
+    (steps-cons s v (hubLine h) s₁ a (hub-served s here h (fine .0)) refl refl e (map hubLine hs) (moreHubs hs s₁) rest)

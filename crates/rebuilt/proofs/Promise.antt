@@ -20,7 +20,7 @@ use Rattle.rules.proofs.Valid.{Range, Valid}
 use Rattle.rules.specs.Calls.{blank, serve, served, serviceOf}
 use Rattle.rules.specs.Lists.{firstFree, next}
 use Rattle.rules.specs.Refusals.{goodHub}
-use Rattle.rules.specs.Reply.{bearsAnswer, outcome, replyBy, replyIn, tableAfter, tableBy, tableIn}
+use Rattle.rules.specs.Reply.{ahead, aheadFor, bearsAnswer, outcome, replyBy, replyIn, tableAfter, tableBy, tableIn}
 use Rattle.rules.specs.Table.{Board, Event, Fifo, Hub, Kind, NoKind, Port, Resource, Semaphore, State, hub, inactive, kindOf, noHub, one, read, size, words}
 use Rattle.rules.specs.WellFormed.{wellFormed, within as between}
 use Rattle.runner.specs.Runner.{callOf, drillText, replyText, tableThrough, textThrough, zeros}
@@ -155,15 +155,15 @@ module _ (u : SetUp) (a : Acceptable u) where
       let e : tableAfter zeros (callOf (numbersOf blankLine)) ≡ words one blank = rw (blank-accepted zeros (callOf (numbersOf blankLine)) long refl) in
       ap (λ (t : List ℕ). tableThrough t (map good added)) e
 
-  blank-text : textThrough zeros (map good (blankLine ∷ added)) ≡ printed (0 ∷ 0 ∷ 0 ∷ []) ++ textThrough (words one blank) (map good added)
-  unfolding bearsAnswer blank firstFree next numbersOf outcome replyBy replyIn replyText serve served serviceOf tableBy tableIn textThrough
+  blank-text : textThrough zeros (map good (blankLine ∷ added)) ≡ printed (0 ∷ 0 ∷ 0 ∷ 0 ∷ []) ++ textThrough (words one blank) (map good added)
+  unfolding ahead aheadFor bearsAnswer blank firstFree next numbersOf outcome replyBy replyIn replyText serve served serviceOf tableBy tableIn textThrough
   blank-text = rw (blank-accepted zeros (callOf (numbersOf blankLine)) long refl)
 
   pub form-builds : tableThrough zeros (readLines (setUpText u)) ≡ words one (built u)
   unfolding setUpLines setUpText
   form-builds = ap (tableThrough zeros) (text-read (setUpLines u) sevens) ∙ blanked ∙ steps .table
 
-  one-more : (n : ℕ) → printed (0 ∷ 0 ∷ 0 ∷ []) ++ allAccepted n ≡ allAccepted (1 + n)
+  one-more : (n : ℕ) → printed (0 ∷ 0 ∷ 0 ∷ 0 ∷ []) ++ allAccepted n ≡ allAccepted (1 + n)
   unfolding textOfLines
   one-more n = let e : 1 + n ≡ suc n = omega arith in rw e
 
@@ -173,7 +173,7 @@ module _ (u : SetUp) (a : Acceptable u) where
       let many : length added ≡ length (u .priorities) + length (u .hubs) = length-append (map taskLine (u .priorities)) (map hubLine (u .hubs)) ∙ rw (length-map (u .priorities) taskLine, length-map (u .hubs) hubLine) in
       ap (textThrough zeros) (text-read (setUpLines u) sevens)
       ∙ blank-text
-      ∙ ap (λ (r : List ℕ). printed (0 ∷ 0 ∷ 0 ∷ []) ++ r) (steps .text ∙ ap allAccepted many)
+      ∙ ap (λ (r : List ℕ). printed (0 ∷ 0 ∷ 0 ∷ 0 ∷ []) ++ r) (steps .text ∙ ap allAccepted many)
       ∙ one-more (length (u .priorities) + length (u .hubs))
 
   form-read : read one (words one (built u)) ≡ built u

@@ -24,6 +24,6 @@ pub record Acceptable (u : SetUp) : Type 0 where
   pub hubs : length (u .hubs) ≤ 16
   pub kinds : Every GoodHub (u .hubs)
 
--- "each of its lines prints refusal 0": and answer 0 and next 0, since no task is started
+-- "each of its lines prints refusal 0": and answer 0, next 0 and ahead 0, since no task is started
 abbrev pub allAccepted : ℕ → List ℕ
-allAccepted n = textOfLines (replicate n (0 ∷ 0 ∷ 0 ∷ []))
+allAccepted n = textOfLines (replicate n (0 ∷ 0 ∷ 0 ∷ 0 ∷ []))

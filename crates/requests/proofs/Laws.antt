@@ -1,5 +1,6 @@
 -- What the functions of this crate read off a table and write into it, in the terms of the rules. In order: a hub's record;
--- what a met request rests on; the word that is kept; a verdict that meets nobody; whether a request updates a Board.
+-- what a met request rests on; the word that is kept; a verdict that meets nobody; whether a request updates a Board; how many are
+-- ahead of the caller.
 -- Not here: the store (Stores.antt), where a state's parts stand (rules, Places), the moves (moves, Laws). Assumes nothing.
 use Prim.Native.Nat.{_*_, _+_, _<_, _≤_, ℕ}
 use Rattle.hubtable.specs.Says.{RecordOf, metWith, says, storeAfter}
@@ -7,24 +8,29 @@ use Rattle.hubtable.specs.declared.Meeting.{Meeting}
 use Rattle.hubtable.specs.declared.Store.the-variants.{Append, Keep, Take, TakeAppend}
 use Rattle.hubtable.specs.declared.Store.{Store}
 use Rattle.hubtable.specs.declared.Verdict.the-variants.{Met}
+use Rattle.lists.proofs.Counting.{length-without}
+use Rattle.lists.specs.Lists.{without}
 use Rattle.moves.proofs.Laws.{hub-number, waiter-in}
 use Rattle.moves.specs.Moves.{Sound}
 use Rattle.records.specs.Records.{first, hubAt, hubsAt as hubsFrom}
 use Rattle.requests.specs.Requests.{StoreFits}
 use Rattle.rules.proofs.Accepted.{Asked, request-tests}
+use Rattle.rules.proofs.Ahead.{ahead-told}
 use Rattle.rules.proofs.Cases.{and-l, and-r}
-use Rattle.rules.proofs.Changes.{inUse, length-setHub}
+use Rattle.rules.proofs.Changes.{hub-leave, inUse, length-setHub}
 use Rattle.rules.proofs.Layouts.{Laid}
 use Rattle.rules.proofs.Listed.{listed-answer, listed-hold}
 use Rattle.rules.proofs.Numbers.{bears-number}
+use Rattle.rules.proofs.Room.{waiters-room}
 use Rattle.rules.proofs.Settled.{InUse, length-answer, partners, partners-in}
 use Rattle.rules.proofs.Standing.{first-waits}
 use Rattle.rules.proofs.Valid.{Held, Range, Valid}
 use Rattle.rules.proofs.Verdicts.{Each, held-side, hubAfter, range-side, waitersMet}
 use Rattle.rules.specs.Calls.{HubRequest, hold, kept, meetAll, serve, settle, wait}
-use Rattle.rules.specs.HubTable.{Verdict, fail, notNow, verdict}
-use Rattle.rules.specs.Lists.{answer, firstWaiting, holding}
+use Rattle.rules.specs.HubTable.{Verdict, fail, met, notNow, onPut, onSide, putBoard, readers, verdict}
+use Rattle.rules.specs.Lists.{answer, firstWaiting, holding, leave, queued, unqueue}
 use Rattle.rules.specs.Refusals.{refusalFor}
+use Rattle.rules.specs.Reply.{aheadFor}
 use Rattle.rules.specs.Table.{Board, Event, Fifo, Hub, Kind, Layout, NoKind, Port, Resource, Semaphore, State, hub, hubWords, kindOf, setHub, setTask, sideOf, words}
 use Rattle.rules.specs.declared.Call.{Call}
 use borrow.Author.Tests.{eq-eqb, eqb-true, ne-eqb}
@@ -192,3 +198,38 @@ module _ (k d : ℕ) where
 
   pub not-update : (eqb k 6 && eqb d 1) ≡ false → k ≡ 6 → d ≡ 1 → ⊥
   not-update n e f = false≢true (sym n ∙ rw (e, f) refl)
+
+-- ---- how many are ahead of the caller
+
+-- nobody, where it need not wait
+module _ (key : ℕ → ℕ) (s : State) (g : Valid s) (c : Call) (a : refusalFor HubRequest s c ≡ 0) where
+  nobody : (verdict s c ≡ notNow → c .mode ≡ 2) → 0 ≡ aheadFor HubRequest (serve key HubRequest s c) c
+  nobody w = sym (ahead-told key s (g .listed) c (asked s g c a .run) w)
+
+  pub met-ahead : (m : Meeting) → says (hub s (c .target) .held) (Met m) ≡ verdict s c → 0 ≡ aheadFor HubRequest (serve key HubRequest s c) c
+  unfolding says
+  met-ahead m e = nobody (λ q. absurd (false≢true cc))
+
+  pub failed-ahead : fail ≡ verdict s c → 0 ≡ aheadFor HubRequest (serve key HubRequest s c) c
+  failed-ahead e = nobody (λ q. absurd (false≢true cc))
+
+  pub refused-ahead : c .mode ≡ 2 → 0 ≡ aheadFor HubRequest (serve key HubRequest s c) c
+  refused-ahead m = nobody (λ q. m)
+
+  update-met : hub s (c .target) .kind ≡ 6 → c .side ≡ 1 → verdict s c ≡ met 1 (c .word ∷ []) 0 (readers s (hub s (c .target) .waiters) (c .word))
+  unfolding kindOf onPut onSide putBoard sideOf verdict
+  update-met k d = rw (d, k) refl
+
+  pub update-ahead : hub s (c .target) .kind ≡ 6 → c .side ≡ 1 → 0 ≡ aheadFor HubRequest (serve key HubRequest s c) c
+  update-ahead k d = nobody (λ q. absurd (let e = update-met k d in false≢true cc))
+
+-- the others in the list that it joins, where it waits
+module _ (s : State) (i h : ℕ) where
+  pub left-list : hub (leave i s) h .waiters ≡ without i (hub s h .waiters)
+  unfolding queued unqueue
+  left-list = ap (λ (x : Hub). x .waiters) (hub-leave i s h)
+
+  pub left-room : Sound s → length (hub (leave i s) h .waiters) ≤ 16
+  left-room sound =
+      rw left-list
+      (omega (arith, length-without i (hub s h .waiters), waiters-room s (sound .listed) h, sound .tasks))

@@ -1,6 +1,7 @@
 // Service 1, a put or a get at a hub or the wipe of a Board, on a table that holds a valid state: what the hub says is read off
 // the table (`judge`), and then carried out (`meet`, `wait_there`). The update of a Board (`update`) meets all its readers.
-// Not here: the hub table itself (crate hubtable), when a call is refused, and what it gives back.
+// What comes back is how many are ahead of the caller: the place that joining promised, or 0.
+// Not here: the hub table itself (crate hubtable), when a call is refused, and the rest of what it gives back.
 use hubtable::Meeting;
 use hubtable::Store;
 use hubtable::Verdict;
@@ -9,13 +10,14 @@ use records::HubRecord;
 use records::TaskNo;
 use records::TaskRecord;
 use rules::Call;
+use rules::Served;
 ghost use Prim.Native.Nat.{_<_, _≤_, pred, ℕ};
 ghost use Rattle.hubtable.specs.Says.{Below, RecordOf, StoreBelow, says, storeAfter};
 ghost use Rattle.hubtable.specs.declared.Verdict.the-variants.{Met};
 ghost use Rattle.messages.specs.Messages.{messages};
 ghost use Rattle.moves.specs.Moves.{Sound, keyOf};
 ghost use Rattle.records.specs.Records.{Table, first, width};
-ghost use Rattle.requests.specs.Requests.{StoreFits, meetOne, meetings};
+ghost use Rattle.requests.specs.Requests.{Leaves, StoreFits, meetOne, meetings};
 ghost use Rattle.rules.proofs.Layouts.{Laid};
 ghost use Rattle.rules.proofs.Valid.{Valid};
 ghost use Rattle.rules.specs.Calls.{HubRequest, hold, kept, meetAll, serve, wait};
@@ -289,13 +291,14 @@ fn make_waiting(t: &mut [u32], ts: usize, c: Call, word: u64)
 }
 
 // "the caller leaves the ready list, ... and joins the hub's list behind all entries of its own or a more urgent priority"
-fn wait_there(t: &mut [u32], ts: usize, keys: &[u32], c: Call)
+// The place at which it joins is how many stand before it.
+fn wait_there(t: &mut [u32], ts: usize, keys: &[u32], c: Call) -> u32
     requires { ⌜ Table ts (now t) ⌝ }
     requires { ⌜ c .caller < 16 ⌝ }
     requires { ⌜ c .target < 16 ⌝ }
-    ensures { λ _. ⌜ ((L : Layout) (s : State) → Laid ts L → Sound s → c .caller < length (s .tasks)
+    ensures { λ r. ⌜ ((L : Layout) (s : State) → Laid ts L → Sound s → c .caller < length (s .tasks)
         → c .target < length (s .hubs)
-        → now (t .entry) ≡ words L s → now (t .exit) ≡ words L (wait (keyOf (now (keys .entry))) s c)) ⌝ }
+        → now (t .entry) ≡ words L s → Leaves L (wait (keyOf (now (keys .entry))) s c) c r (now (t .exit))) ⌝ }
 {
     let caller = TaskNo(c.caller as usize);
     let h = HubNo(c.target as usize);
@@ -303,46 +306,55 @@ fn wait_there(t: &mut [u32], ts: usize, keys: &[u32], c: Call)
     let word = kept_word(x.kind, c.side, c.word as u64);
     moves::leave_list(t, ts, caller);
     make_waiting(t, ts, c, word);
-    moves::join_hub(t, ts, keys, h, caller);
+    moves::join_hub(t, ts, keys, h, caller) as u32
 }
 
 // Any request but the update of a Board: met, failed, or not now, which under NW fails and under W and WT waits.
-fn settle(t: &mut [u32], ts: usize, keys: &[u32], c: Call)
+fn settle(t: &mut [u32], ts: usize, keys: &[u32], c: Call) -> u32
     requires { ⌜ Table ts (now t) ⌝ }
     requires { ⌜ c .caller < 16 ⌝ }
     requires { ⌜ c .target < 16 ⌝ }
-    ensures { λ _. ⌜ ((L : Layout) (s : State) → Laid ts L → Valid s → refusalFor HubRequest s c ≡ 0
+    ensures { λ r. ⌜ ((L : Layout) (s : State) → Laid ts L → Valid s → refusalFor HubRequest s c ≡ 0
         → (hub s (c .target) .kind ≡ 6 → c .side ≡ 1 → ⊥) → now (t .entry) ≡ words L s
-        → now (t .exit) ≡ words L (serve (keyOf (now (keys .entry))) HubRequest s c)) ⌝ }
+        → Leaves L (serve (keyOf (now (keys .entry))) HubRequest s c) c r (now (t .exit))) ⌝ }
 {
     let caller = TaskNo(c.caller as usize);
     let v = judge(&*t, ts, c);
     match v {
-        Verdict::Met(m) => meet(t, ts, keys, c, m),
-        Verdict::Fail => moves::give_answer(t, ts, caller, rules::FAIL, 0),
+        Verdict::Met(m) => {
+            meet(t, ts, keys, c, m);
+            0
+        }
+        Verdict::Fail => {
+            moves::give_answer(t, ts, caller, rules::FAIL, 0);
+            0
+        }
         Verdict::NotNow => {
             if c.mode == rules::NW {
                 moves::give_answer(t, ts, caller, rules::FAIL, 0);
+                0
             } else {
-                wait_there(t, ts, keys, c);
+                wait_there(t, ts, keys, c)
             }
         }
     }
 }
 
 // Service 1, accepted.
-pub fn request(t: &mut [u32], ts: usize, keys: &[u32], c: Call)
+pub fn request(t: &mut [u32], ts: usize, keys: &[u32], c: Call) -> Served
     requires { ⌜ Table ts (now t) ⌝ }
     requires { ⌜ c .caller < 16 ⌝ }
     requires { ⌜ c .target < 16 ⌝ }
-    ensures { λ _. ⌜ ((L : Layout) (s : State) → Laid ts L → Valid s → refusalFor HubRequest s c ≡ 0
+    ensures { λ r. ⌜ ((L : Layout) (s : State) → Laid ts L → Valid s → refusalFor HubRequest s c ≡ 0
         → now (t .entry) ≡ words L s
-        → now (t .exit) ≡ words L (serve (keyOf (now (keys .entry))) HubRequest s c)) ⌝ }
+        → Leaves L (serve (keyOf (now (keys .entry))) HubRequest s c) c (r .ahead) (now (t .exit))) ⌝ }
 {
     let x = hub_at(&*t, ts, HubNo(c.target as usize));
     if (x.kind == rules::BOARD) & (c.side == rules::PUT) {
         update(t, ts, keys, c);
+        Served { ahead: 0 }
     } else {
-        settle(t, ts, keys, c);
+        let ahead = settle(t, ts, keys, c);
+        Served { ahead }
     }
 }

@@ -1,5 +1,6 @@
 pub mod Accepted
 pub mod After
+pub mod Ahead
 pub mod Answers
 pub mod Cases
 pub mod Changes

@@ -37,9 +37,9 @@ refusal-is t c = by (refusalOf t c)
     by zero = refl
     by (suc r) = refl
 
--- "A refused call gives answer 0, next 0, and no word of the table changes."
+-- "A refused call gives answer 0, next 0, and no word of the table changes." (M-104: "in every other case ... 0")
 
-pub refused-leaves : (t : List ℕ) (c : Call) (r : ℕ) → refusalOf t c ≡ suc r → (tableAfter t c ≡ t) × (replyTo t c ≡ record { answer = Refused (suc r); next = 0 })
+pub refused-leaves : (t : List ℕ) (c : Call) (r : ℕ) → refusalOf t c ≡ suc r → (tableAfter t c ≡ t) × (replyTo t c ≡ record { answer = Refused (suc r); next = 0; ahead = 0 })
 unfolding replyBy replyIn tableBy tableIn
 refused-leaves t c r e = (rw e, rw e)
 

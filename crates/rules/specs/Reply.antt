@@ -1,11 +1,12 @@
--- "A call gives back refusal, answer and next": the answer and its numbers, the table after a call, the hub summary.
+-- "A call gives back refusal, answer and next", and with M-104 how many are ahead: the answer and its numbers, the table after a
+-- call, the hub summary.
 -- `replyTo`, `tableAfter` and `summaryOf` are what the public promises name, for any words and any numbers.
 use Prim.Native.Nat.{_*_, _+_, _^_, suc, zero, ℕ}
-use Rattle.lists.specs.Lists.{bit}
+use Rattle.lists.specs.Lists.{bit, indexOf}
 use Rattle.rules.specs.Calls.{AddHub, AddTask, Blank, HubRequest, Resume, Service, Sleep, Start, Stop, Suspend, Tick, Unknown, Yield, served, serviceOf}
 use Rattle.rules.specs.Lists.{next}
 use Rattle.rules.specs.Refusals.{need, refusalIn}
-use Rattle.rules.specs.Table.{Layout, State, one, read, size, task, words}
+use Rattle.rules.specs.Table.{Layout, State, hub, one, read, size, task, words}
 use Rattle.rules.specs.WellFormed.{waitsFor, wellFormedIn}
 use Rattle.rules.specs.declared.Answer.the-variants.{Accepted, Refused}
 use Rattle.rules.specs.declared.Answer.{Answer}
@@ -61,10 +62,31 @@ bearsAnswer Unknown = false
 unfoldable pub outcome : State → Call → Outcome
 outcome s′ c = cond (bearsAnswer (serviceOf (c .service))) (outcomeOf (task s′ (c .caller) .answer)) NothingYet
 
+-- M-104: "When a caller has to wait at a hub, the call shall also say how many requests stand before it in that list. ... In
+-- every other case the new fourth number is 0."
+
+-- the entries before the caller in the list of the hub that it named, where the call left it waiting (state 3)
+unfoldable pub aheadFor : Service → State → Call → ℕ
+aheadFor Blank s′ c = 0
+aheadFor HubRequest s′ c = cond (eqb (task s′ (c .caller) .state) 3) (indexOf (c .caller) (hub s′ (c .target) .waiters)) 0
+aheadFor Start s′ c = 0
+aheadFor Stop s′ c = 0
+aheadFor Suspend s′ c = 0
+aheadFor Resume s′ c = 0
+aheadFor Yield s′ c = 0
+aheadFor Sleep s′ c = 0
+aheadFor Tick s′ c = 0
+aheadFor AddTask s′ c = 0
+aheadFor AddHub s′ c = 0
+aheadFor Unknown s′ c = 0
+
+unfoldable pub ahead : State → Call → ℕ
+ahead s′ c = aheadFor (serviceOf (c .service)) s′ c
+
 -- by the refusal number, and the state after the call where it is accepted
 unfoldable pub replyBy : ℕ → State → Call → Reply
-replyBy zero s′ c = record { answer = Accepted (outcome s′ c); next = next s′ }
-replyBy (suc r) s′ c = record { answer = Refused (suc r); next = 0 }
+replyBy zero s′ c = record { answer = Accepted (outcome s′ c); next = next s′; ahead = ahead s′ c }
+replyBy (suc r) s′ c = record { answer = Refused (suc r); next = 0; ahead = 0 }
 
 unfoldable pub replyIn : Layout → List ℕ → Call → Reply
 replyIn L t c = replyBy (refusalIn L t c) (served (read L t) c) c

@@ -118,10 +118,16 @@ pub enum Answer {
     Refused(u32),
 }
 
-// "Next is the running task plus 1, or 0."
+// "Next is the running task plus 1, or 0." Ahead: how many requests stand before the caller's, where it has to wait at a hub; else 0.
 pub struct Reply {
     pub answer: Answer,
     pub next: u32,
+    pub ahead: u32,
+}
+
+// What an accepted call hands up besides the table.
+pub struct Served {
+    pub ahead: u32,
 }
 
 // The hub summary: "one word with bit i set when task i waits there, and the number of set bits as count".

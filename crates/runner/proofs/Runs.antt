@@ -54,11 +54,11 @@ fed-text cs h = fed-through zeros (startOf 1) cs ∙ ap (textThrough zeros) (rea
 
 -- the numbers of a good line, and its call's reply written out
 pub answered-call : (t out : List ℕ) (at : ℕ) (x : Numbers) (c : Call) (r : Reply) (a b end : ℕ) (t′ out′ : List ℕ) → c ≡ callOf x → Called t c r t′
-    → a ≡ refusalNumber (r .answer) → b ≡ answerNumber (r .answer) → Put out at (printed (a ∷ b ∷ r .next ∷ [])) end out′ → end ≤ length out′
+    → a ≡ refusalNumber (r .answer) → b ≡ answerNumber (r .answer) → Put out at (printed (a ∷ b ∷ r .next ∷ r .ahead ∷ [])) end out′ → end ≤ length out′
     → Lines t (Good x ∷ []) out at end t′ out′
 unfolding replyText tableThrough textThrough
 answered-call t out at x c r a b end t′ out′ e k ea eb p f =
-    let text : printed (a ∷ b ∷ r .next ∷ []) ≡ replyText (replyTo t (callOf x)) =
+    let text : printed (a ∷ b ∷ r .next ∷ r .ahead ∷ []) ≡ replyText (replyTo t (callOf x)) =
     rw (ea, eb) (ap replyText (k .reply ∙ ap (replyTo t) e)) in
     record {
       table = k .table ∙ ap (tableAfter t) e;

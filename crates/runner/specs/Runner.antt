@@ -32,9 +32,9 @@ callOf x =
       word = x .word;
     }
 
--- "It prints refusal, answer and next"
+-- "It prints refusal, answer and next", and M-104: "The drill runner prints four numbers per call."
 unfoldable pub replyText : Reply → List ℕ
-replyText r = printed (refusalNumber (r .answer) ∷ answerNumber (r .answer) ∷ r .next ∷ [])
+replyText r = printed (refusalNumber (r .answer) ∷ answerNumber (r .answer) ∷ r .next ∷ r .ahead ∷ [])
 
 -- "or for any other line `line N bad`"
 abbrev pub textOn : List ℕ → Line → List ℕ

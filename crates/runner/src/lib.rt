@@ -48,6 +48,7 @@ fn answer_call(t: &mut [u32], out: &mut [u8], at: usize, x: Numbers) -> usize
         rules::refusal_number(answer),
         rules::answer_number(answer),
         reply.next,
+        reply.ahead,
     )
 }
 

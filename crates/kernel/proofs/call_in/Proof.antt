@@ -7,7 +7,7 @@ use Rattle.rules.proofs.Layouts.{edition-of}
 use Rattle.rules.proofs.Room.{valid-room}
 use Rattle.rules.specs.Calls.{served}
 use Rattle.rules.specs.Refusals.{refusalIn}
-use Rattle.rules.specs.Table.{read, words}
+use Rattle.rules.specs.Table.{read}
 use borrow.Author.Needs.{needs}
 use mathlib.Core.Path.{_∙_, _≡_, sym}
 
@@ -46,11 +46,11 @@ returns-2 c = λ L y.
     let k = a .c in
     let ok : refusalIn L t k ≡ 0 = sym (c .before .before .before .before .before .before .before .before .before .refusal-of .ensures L y) ∙ c .before .before .before .before .before .before .before .before .if1 .left in
     let s′ = served (read L t) k in
-    let e : _ ≡ words L s′ = c .before .before .before .before .before .before .serve-call .ensures L y ok in
+    let e = c .before .before .before .before .before .before .serve-call .ensures L y ok in
     let g = after-valid L t k ok in
-    called-accepted L t k ok _ _ _
-    (c .before .before .outcome-of .ensures L s′ y (g .tasks) (λ p q. caller-after L t k ok p q) e)
-    (c .running .ensures L s′ y (valid-room s′ g) (g .listed) e)
+    called-accepted L t k ok _ _ _ _
+    (c .before .before .outcome-of .ensures L s′ y (g .tasks) (λ p q. caller-after L t k ok p q) (e .table))
+    (c .running .ensures L s′ y (valid-room s′ g) (g .listed) (e .table))
     e
 
 pub call-in-spec : {M : Type 1} → statement M

@@ -5,14 +5,11 @@ use Rattle.kernel.proofs.serve_target.Tie as tie
 use Rattle.moves.proofs.Laws.{valid-sound}
 use Rattle.moves.specs.Moves.{keyOf}
 use Rattle.rules.proofs.Accepted.{on-task}
-use Rattle.rules.specs.Calls.{HubRequest, Resume, Start, Stop, Suspend, serviceOf}
+use Rattle.rules.specs.Calls.{Resume, Start, Stop, Suspend, serviceOf}
 use Rattle.rules.specs.Refusals.{refusalFor}
 use borrow.Author.Needs.{needs}
 use mathlib.Core.Path.{_∙_, _≡_}
 use native.Mathlib.Omega.{arith}
-
-request-requires : tie.Need-request-requires
-request-requires c κs = search needs
 
 start-task-requires : tie.Need-start-task-requires
 start-task-requires c κs = search needs
@@ -34,9 +31,10 @@ unfolding refusalFor serviceOf
 returns c = λ L s y g a p q e.
     let k = c .before .before .before .before .before .before .before .args .c in
     let key = keyOf (c .before .before .before .before .before .before .before .args .keys .now) in
-    let v = service-is k 1 (c .before .before .before .before .match .keys1) in
-    c .before .before .request .ensures L s y g (task-named s g k a HubRequest v) e
-    ∙ to-service s k HubRequest v L key
+    let v = service-is k 2 (c .before .before .before .before .match .keys1) in
+    let ok = on-task s (g .listed) k (task-named s g k a Start v) in
+    c .before .before .start-task .ensures L s y (valid-sound s g) (caller-in s g k a (omega arith) (omega arith)) (ok .1) e
+    ∙ to-service s k Start v L key
 
 same-length-2 : tie.Need-same-length-2
 same-length-2 c = search needs
@@ -46,10 +44,10 @@ unfolding refusalFor serviceOf
 returns-2 c = λ L s y g a p q e.
     let k = c .before .before .before .before .before .before .before .args .c in
     let key = keyOf (c .before .before .before .before .before .before .before .args .keys .now) in
-    let v = service-is k 2 (c .before .before .before .before .match .keys2) in
-    let ok = on-task s (g .listed) k (task-named s g k a Start v) in
-    c .before .before .start-task .ensures L s y (valid-sound s g) (caller-in s g k a p (omega arith)) (ok .1) e
-    ∙ to-service s k Start v L key
+    let v = service-is k 3 (c .before .before .before .before .match .keys2) in
+    let ok = on-task s (g .listed) k (task-named s g k a Stop v) in
+    c .before .before .stop-task .ensures L s y g (caller-in s g k a (omega arith) (omega arith)) (ok .1) e
+    ∙ to-service s k Stop v L key
 
 same-length-3 : tie.Need-same-length-3
 same-length-3 c = search needs
@@ -59,10 +57,10 @@ unfolding refusalFor serviceOf
 returns-3 c = λ L s y g a p q e.
     let k = c .before .before .before .before .before .before .before .args .c in
     let key = keyOf (c .before .before .before .before .before .before .before .args .keys .now) in
-    let v = service-is k 3 (c .before .before .before .before .match .keys3) in
-    let ok = on-task s (g .listed) k (task-named s g k a Stop v) in
-    c .before .before .stop-task .ensures L s y g (caller-in s g k a p (omega arith)) (ok .1) e
-    ∙ to-service s k Stop v L key
+    let v = service-is k 4 (c .before .before .before .before .match .keys3) in
+    let ok = on-task s (g .listed) k (task-named s g k a Suspend v) in
+    c .before .before .suspend-task .ensures L key s y (valid-sound s g) (caller-in s g k a (omega arith) (omega arith)) (ok .1) e
+    ∙ to-service s k Suspend v L key
 
 same-length-4 : tie.Need-same-length-4
 same-length-4 c = search needs
@@ -72,31 +70,17 @@ unfolding refusalFor serviceOf
 returns-4 c = λ L s y g a p q e.
     let k = c .before .before .before .before .before .before .before .args .c in
     let key = keyOf (c .before .before .before .before .before .before .before .args .keys .now) in
-    let v = service-is k 4 (c .before .before .before .before .match .keys4) in
-    let ok = on-task s (g .listed) k (task-named s g k a Suspend v) in
-    c .before .before .suspend-task .ensures L key s y (valid-sound s g) (caller-in s g k a p (omega arith)) (ok .1) e
-    ∙ to-service s k Suspend v L key
-
-same-length-5 : tie.Need-same-length-5
-same-length-5 c = search needs
-
-returns-5 : tie.Need-returns-5
-unfolding refusalFor serviceOf
-returns-5 c = λ L s y g a p q e.
-    let k = c .before .before .before .before .before .before .before .args .c in
-    let key = keyOf (c .before .before .before .before .before .before .before .args .keys .now) in
     let r = c .before .before .before .before .match .rest in
-    let five : k .service ≡ 5 = omega (arith, p, q, r .0 .0 .0 .1, r .0 .0 .1, r .0 .1, r .1) in
+    let five : k .service ≡ 5 = omega (arith, p, q, r .0 .0 .1, r .0 .1, r .1) in
     let v = service-is k 5 five in
     let ok = on-task s (g .listed) k (task-named s g k a Resume v) in
-    c .before .before .resume-task .ensures L key s y (valid-sound s g) (caller-in s g k a p (omega arith)) (ok .1) e
+    c .before .before .resume-task .ensures L key s y (valid-sound s g) (caller-in s g k a (omega arith) (omega arith)) (ok .1) e
     ∙ to-service s k Resume v L key
 
 pub serve-target-spec : {M : Type 1} → statement M
 serve-target-spec =
     tie.close
     (tie.spec
-    request-requires
     start-task-requires
     stop-task-requires
     suspend-task-requires
@@ -108,6 +92,4 @@ serve-target-spec =
     same-length-3
     returns-3
     same-length-4
-    returns-4
-    same-length-5
-    returns-5)
+    returns-4)

@@ -1,9 +1,11 @@
 -- `moves::join_hub` meets its contract. Assumes nothing.
 use Prim.Native.Nat.{_+_, _-_, ℕ}
+use Rattle.lists.proofs.Laws.{place-most}
 use Rattle.moves.proofs.Laws as Laws
 use Rattle.moves.proofs.join_hub.Statement.{statement}
 use Rattle.moves.proofs.join_hub.Tie as tie
 use borrow.Author.Needs.{needs}
+use lib.ListN.{drop, getD}
 use mathlib.Core.Path.{_∙_, _≡_}
 use native.Mathlib.Omega.{arith}
 
@@ -39,6 +41,7 @@ returns c =
     let many : n ≡ 16 = omega arith in
     let joined = c .before .before .join .ensures in
     record {
+      low = omega (arith, joined .place, many, place-most (a .keys .now) (getD (a .keys .now) (a .i .0) 0) n (drop (r .result) (a .t .now)));
       table = λ L s y used e. Laws.join-hub L s y (a .t .now) _ (r .result) n many e (a .h .0) (omega arith) used (omega (arith, r .ensures, y .size)) (a .keys .now) (a .i .0) (joined .list);
       place = λ L s y used fits e. joined .place ∙ Laws.place-hub L s y (a .t .now) (a .t .now) (r .result) n many e (a .h .0) (omega arith) used (omega (arith, r .ensures, y .size)) (a .keys .now) _ fits;
     }

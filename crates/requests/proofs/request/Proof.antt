@@ -1,12 +1,12 @@
 -- `requests::request` meets its contract. Assumes nothing.
-use Rattle.requests.proofs.Laws.{asked, board-put, not-update}
+use Rattle.requests.proofs.Laws.{asked, board-put, not-update, update-ahead}
 use Rattle.requests.proofs.request.Statement.{statement}
 use Rattle.requests.proofs.request.Tie as tie
 use borrow.Author.Needs.{needs}
 use mathlib.Core.Path.{_∙_, sym}
 
-cast-t8 : tie.Need-cast-t8
-cast-t8 c = search needs
+cast-t9 : tie.Need-cast-t9
+cast-t9 c = search needs
 
 hub-at-requires : tie.Need-hub-at-requires
 hub-at-requires c κs = search needs
@@ -25,7 +25,8 @@ returns c = λ L s y g a e.
     let k = c .before .before .before .before .before .before .before .before .before .before .before .before .args .c in
     let r = c .before .before .before .before .before .before .before .hub-at .ensures L s y (g .hubs) (asked s g k a .named) e in
     let both = board-put _ _ (c .before .before .before .before .if1 .taken) in
-    c .before .before .update .ensures L s y g a (sym (r .kind) ∙ both .0) (both .1) e
+    let board = sym (r .kind) ∙ both .0 in
+    record { table = c .before .before .update .ensures L s y g a board (both .1) e; ahead = update-ahead _ s g k a board (both .1) }
 
 same-length-2 : tie.Need-same-length-2
 same-length-2 c = search needs
@@ -40,7 +41,7 @@ pub request-spec : {M : Type 1} → statement M
 request-spec =
     tie.close
     (tie.spec
-    cast-t8
+    cast-t9
     hub-at-requires
     update-requires
     settle-requires

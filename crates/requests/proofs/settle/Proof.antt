@@ -1,10 +1,12 @@
 -- `requests::settle` meets its contract. Assumes nothing.
 use Rattle.hubtable.specs.Says.{Below, says}
 use Rattle.moves.specs.Moves.{Sound}
-use Rattle.requests.proofs.Laws.{asked, caller-used, failed-state, refused-state, waiting-state}
+use Rattle.requests.proofs.Laws.{asked, caller-used, failed-ahead, failed-state, met-ahead, refused-ahead, refused-state, waiting-state}
 use Rattle.requests.proofs.settle.Statement.{statement}
 use Rattle.requests.proofs.settle.Tie as tie
-use Rattle.rules.specs.Table.{hub, words}
+use Rattle.rules.specs.Calls.{HubRequest}
+use Rattle.rules.specs.Reply.{aheadFor}
+use Rattle.rules.specs.Table.{State, hub, words}
 use borrow.Author.Needs.{needs}
 use mathlib.Core.Path.{_∙_, ap, subst, sym}
 
@@ -43,7 +45,8 @@ returns : tie.Need-returns
 returns c = λ L s y g a n e.
     let told = c .before .before .before .before .before .v .given in
     let j = c .before .before .before .before .before .before .before .judge .ensures .1 L s y g a n e in
-    c .before .before .meet .ensures L s y g a (ap (says _) (sym (told .1)) ∙ j) e
+    let said = ap (says _) (sym (told .1)) ∙ j in
+    record { table = c .before .before .meet .ensures L s y g a said e; ahead = met-ahead _ s g _ a _ said }
 
 same-length-2 : tie.Need-same-length-2
 same-length-2 c = search needs
@@ -53,8 +56,11 @@ unfolding says
 returns-2 c = λ L s y g a n e.
     let k = c .before .before .before .before .before .before .before .before .before .before .before .args .c in
     let j = c .before .before .before .before .before .before .judge .ensures .1 L s y g a n e in
-    c .before .before .give-answer .ensures L s y (g .tasks) (caller-used s g k a) e
-    ∙ ap (words L) (failed-state _ s k (ap (says (hub s (k .target) .held)) (sym (c .before .before .before .before .enum-told .given .1)) ∙ j))
+    let said = ap (says (hub s (k .target) .held)) (sym (c .before .before .before .before .enum-told .given .1)) ∙ j in
+    record {
+      table = c .before .before .give-answer .ensures L s y (g .tasks) (caller-used s g k a) e ∙ ap (words L) (failed-state _ s k said);
+      ahead = failed-ahead _ s g k a said;
+    }
 
 same-length-3 : tie.Need-same-length-3
 same-length-3 c = search needs
@@ -64,8 +70,12 @@ unfolding says
 returns-3 c = λ L s y g a n e.
     let k = c .before .before .before .before .before .before .before .before .before .before .before .before .before .args .c in
     let j = c .before .before .before .before .before .before .before .before .judge .ensures .1 L s y g a n e in
-    c .before .before .give-answer2 .ensures L s y (g .tasks) (caller-used s g k a) e
-    ∙ ap (words L) (refused-state _ s k (ap (says (hub s (k .target) .held)) (sym (c .before .before .before .before .before .before .enum-told2 .given .1)) ∙ j) (c .before .before .before .before .if1 .taken))
+    let said = ap (says (hub s (k .target) .held)) (sym (c .before .before .before .before .before .before .enum-told2 .given .1)) ∙ j in
+    let nw = c .before .before .before .before .if1 .taken in
+    record {
+      table = c .before .before .give-answer2 .ensures L s y (g .tasks) (caller-used s g k a) e ∙ ap (words L) (refused-state _ s k said nw);
+      ahead = refused-ahead _ s g k a nw;
+    }
 
 same-length-4 : tie.Need-same-length-4
 same-length-4 c = search needs
@@ -76,8 +86,10 @@ returns-4 c = λ L s y g a n e.
     let k = c .before .before .before .before .before .before .before .before .before .before .before .before .before .args .c in
     let j = c .before .before .before .before .before .before .before .before .judge .ensures .1 L s y g a n e in
     let sound : Sound s = record { tasks = g .tasks; hubs = g .hubs; listed = g .listed } in
-    c .before .before .wait-there .ensures L s y sound (caller-used s g k a) (asked s g k a .named) e
-    ∙ ap (words L) (waiting-state _ s k (ap (says (hub s (k .target) .held)) (sym (c .before .before .before .before .before .before .enum-told2 .given .1)) ∙ j) (c .before .before .before .before .if1 .left))
+    let said = ap (says (hub s (k .target) .held)) (sym (c .before .before .before .before .before .before .enum-told2 .given .1)) ∙ j in
+    let left = c .before .before .wait-there .ensures L s y sound (caller-used s g k a) (asked s g k a .named) e in
+    let same = waiting-state _ s k said (c .before .before .before .before .if1 .left) in
+    record { table = left .table ∙ ap (words L) same; ahead = left .ahead ∙ ap (λ (z : State). aheadFor HubRequest z k) same }
 
 pub settle-spec : {M : Type 1} → statement M
 settle-spec =

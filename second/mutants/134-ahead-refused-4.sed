@@ -1,0 +1,2 @@
+# Refusal 4 tells a task that waits there how many are ahead of it.
+/^second_reply second_call(/,/^}/s/^        return reply;/        return (second_reply){reply.refusal, 0, 0, reply.refusal == NOT_RUNNING \&\& call[C_SERVICE] == HUB_REQUEST \&\& call[C_CALLER] < table[TASKS_IN_USE_AT] \&\& table[task_place(call[C_CALLER]) + T_STATE] == WAITING ? entries_before(table, list_place(table[task_place(call[C_CALLER]) + T_HUB] - 1), call[C_CALLER]) : 0};/
