@@ -22,7 +22,7 @@ ghost use Rattle.rules.proofs.Layouts.{Laid};
 ghost use Rattle.rules.proofs.Valid.{Valid};
 ghost use Rattle.rules.specs.Calls.{HubRequest, hold, kept, meetAll, serve, wait};
 ghost use Rattle.rules.specs.HubTable.{verdict};
-ghost use Rattle.rules.specs.Lists.{waits};
+ghost use Rattle.rules.specs.Lists.{answer, waits};
 ghost use Rattle.rules.specs.Refusals.{refusalFor};
 ghost use Rattle.rules.specs.Table.{Hub, Layout, State, hub, setTask, task, words};
 ghost use lib.ListN.{drop, getD, length};
@@ -309,6 +309,17 @@ fn wait_there(t: &mut [u32], ts: usize, keys: &[u32], c: Call) -> u32
     moves::join_hub(t, ts, keys, h, caller) as u32
 }
 
+// "FAIL in every mode", and "'not now' under NW answers 2": nothing changes but the caller's answer and word.
+fn fail(t: &mut [u32], ts: usize, caller: TaskNo)
+    requires { ⌜ Table ts (now t) ⌝ }
+    requires { ⌜ caller .0 < 16 ⌝ }
+    ensures { λ _. ⌜ ((L : Layout) (s : State) → Laid ts L → length (s .tasks) ≤ 16 → caller .0 < length (s .tasks)
+        → now (t .entry) ≡ words L s
+        → now (t .exit) ≡ words L (answer (caller .0) 2 0 s)) ⌝ }
+{
+    moves::give_answer(t, ts, caller, rules::FAIL, 0);
+}
+
 // Any request but the update of a Board: met, failed, or not now, which under NW fails and under W and WT waits.
 fn settle(t: &mut [u32], ts: usize, keys: &[u32], c: Call) -> u32
     requires { ⌜ Table ts (now t) ⌝ }
@@ -326,12 +337,12 @@ fn settle(t: &mut [u32], ts: usize, keys: &[u32], c: Call) -> u32
             0
         }
         Verdict::Fail => {
-            moves::give_answer(t, ts, caller, rules::FAIL, 0);
+            fail(t, ts, caller);
             0
         }
         Verdict::NotNow => {
             if c.mode == rules::NW {
-                moves::give_answer(t, ts, caller, rules::FAIL, 0);
+                fail(t, ts, caller);
                 0
             } else {
                 wait_there(t, ts, keys, c)

@@ -26,14 +26,14 @@ meet-requires c κs =
 enum-told : tie.Need-enum-told
 enum-told c = search needs
 
-give-answer-requires : tie.Need-give-answer-requires
-give-answer-requires c κs = search needs
+fail-requires : tie.Need-fail-requires
+fail-requires c κs = search needs
 
 enum-told-2 : tie.Need-enum-told-2
 enum-told-2 c = search needs
 
-give-answer-requires-2 : tie.Need-give-answer-requires-2
-give-answer-requires-2 c κs = search needs
+fail-requires-2 : tie.Need-fail-requires-2
+fail-requires-2 c κs = search needs
 
 wait-there-requires : tie.Need-wait-there-requires
 wait-there-requires c κs = search needs
@@ -58,7 +58,7 @@ returns-2 c = λ L s y g a n e.
     let j = c .before .before .before .before .before .before .judge .ensures .1 L s y g a n e in
     let said = ap (says (hub s (k .target) .held)) (sym (c .before .before .before .before .enum-told .given .1)) ∙ j in
     record {
-      table = c .before .before .give-answer .ensures L s y (g .tasks) (caller-used s g k a) e ∙ ap (words L) (failed-state _ s k said);
+      table = c .before .before .fail .ensures L s y (g .tasks) (caller-used s g k a) e ∙ ap (words L) (failed-state _ s k said);
       ahead = failed-ahead _ s g k a said;
     }
 
@@ -73,7 +73,7 @@ returns-3 c = λ L s y g a n e.
     let said = ap (says (hub s (k .target) .held)) (sym (c .before .before .before .before .before .before .enum-told2 .given .1)) ∙ j in
     let nw = c .before .before .before .before .if1 .taken in
     record {
-      table = c .before .before .give-answer2 .ensures L s y (g .tasks) (caller-used s g k a) e ∙ ap (words L) (refused-state _ s k said nw);
+      table = c .before .before .fail2 .ensures L s y (g .tasks) (caller-used s g k a) e ∙ ap (words L) (refused-state _ s k said nw);
       ahead = refused-ahead _ s g k a nw;
     }
 
@@ -100,9 +100,9 @@ settle-spec =
     enum-known-v
     meet-requires
     enum-told
-    give-answer-requires
+    fail-requires
     enum-told-2
-    give-answer-requires-2
+    fail-requires-2
     wait-there-requires
     same-length
     returns
