@@ -14,9 +14,22 @@ typedef enum {
     OUTCOMES
 } hub_outcome;
 
-/* Rows that stand alone, wipes among them. Those above them are products: services,
- * kind by side by outcome, kind by side, kind by side by how many are ahead; those below
- * are the families of damaged tables. */
+/* M-105: what becomes of a message, or of the one that a call brings though nothing is
+ * sent; and which of its words aren't 0. Edition 1 has the first two classes. */
+typedef enum {
+    PORT_PUT_MEETS, PORT_PUT_WAITS, PORT_GET_MEETS, FIFO_PUT_MEETS, FIFO_PUT_HELD, FIFO_PUT_WAITS,
+    FIFO_GET_ALONE, FIFO_GET_MEETS, FIFO_APPENDS, BOARD_UPDATE, BOARD_MEETS, BOARD_READ,
+    PUT_IGNORED, PUT_IGNORED_WAITS, GET_IGNORED, WIPE_IGNORED, PUTTER_TIMES_OUT,
+    PUTTER_WITHDRAWN, PATHS
+} message_path;
+
+typedef enum { CLASS_0, LOW_ONLY, HIGH_ONLY, BOTH_WORDS, CLASSES } message_class;
+
+/* All rows are there for each edition; the names say what of both.
+ * Rows that stand alone, wipes among them. Those above them are products: services,
+ * kind by side by outcome, kind by side, kind by side by how many are ahead, and those of
+ * M-105: services and kinds with a high word, messages; those below are the families of
+ * damaged tables. Of a move the edition is its source's. */
 #define SINGLE_ROWS(ROW)                                                        \
     ROW(MEETS_SUSPENDED, "request: meets a suspended waiter")                   \
     ROW(MEETS_URGENT, "request: meets a more urgent waiter, who runs next")     \
@@ -164,8 +177,64 @@ typedef enum {
     ROW(LENGTH_0, "refusal 1: 0 words")                                         \
     ROW(LENGTH_599, "refusal 1: 599 words")                                     \
     ROW(LENGTH_601, "refusal 1: 601 words")                                     \
+    ROW(LENGTH_743, "refusal 1: 743 words")                                     \
+    ROW(LENGTH_745, "refusal 1: 745 words")                                     \
+    ROW(BYTES_0, "refusal 1: 0 bytes")                                          \
     ROW(BYTES_2399, "refusal 1: 2399 bytes")                                    \
     ROW(BYTES_2401, "refusal 1: 2401 bytes")                                    \
+    ROW(BYTES_2975, "refusal 1: 2975 bytes")                                    \
+    ROW(BYTES_2977, "refusal 1: 2977 bytes")                                    \
+    ROW(HIGH_AND_2, "refusal 2: a high word as well")                           \
+    ROW(HIGH_AND_3, "refusal 3: a high word as well")                           \
+    ROW(HIGH_AND_4, "refusal 4: Hub request, a high word as well")              \
+    ROW(HIGH_AND_5, "refusal 5: Hub request, a high word as well")              \
+    ROW(HIGH_AND_6, "refusal 6: Hub request, another cause and a high word")    \
+    ROW(HIGH_AND_7, "refusal 7: a high word as well")                           \
+    ROW(HIGH_MAX, "request: high word 4294967295, right or refused")            \
+    ROW(HIGH_1, "request: high word 1, right or refused")                       \
+    ROW(MOVE_DONE, "move: done")                                                \
+    ROW(MOVE_BACK, "move: done, and back again")                                \
+    ROW(MOVE_IN_RUN, "move: in the middle of a run")                            \
+    ROW(MOVE_IN_RUN_WAITING, "move: in a run, requests wait on")                \
+    ROW(MOVE_NO_TASK, "move: no task")                                          \
+    ROW(MOVE_16_TASKS, "move: 16 tasks")                                        \
+    ROW(MOVE_NO_HUB, "move: no hub")                                            \
+    ROW(MOVE_16_HUBS, "move: 16 hubs")                                          \
+    ROW(MOVE_WAITER, "move: somebody waits")                                    \
+    ROW(MOVE_8_WAIT, "move: 8 and more wait at a hub")                          \
+    ROW(MOVE_PORT_PUTTER, "move: a Port's putter waits with its word")          \
+    ROW(MOVE_FIFO_PUTTER, "move: a FIFO's putter waits with its word")          \
+    ROW(MOVE_RECEIVED, "move: a ready task has a word")                         \
+    ROW(MOVE_SLEEPER, "move: somebody sleeps")                                  \
+    ROW(MOVE_SUSPENDED, "move: somebody is suspended")                          \
+    ROW(MOVE_HELD, "move: a FIFO holds words")                                  \
+    ROW(MOVE_HELD_8, "move: a FIFO holds 8 words")                              \
+    ROW(MOVE_BOARD, "move: a Board is written")                                 \
+    ROW(MOVE_OWNED, "move: a Resource is owned")                                \
+    ROW(MOVE_1_SOURCE, "move refusal 1: the source's length alone")             \
+    ROW(MOVE_1_DESTINATION, "move refusal 1: the destination's length alone")   \
+    ROW(MOVE_1_BOTH, "move refusal 1: both lengths")                            \
+    ROW(MOVE_1_SAME, "move refusal 1: both of the source's size")               \
+    ROW(MOVE_1_AND_2, "move refusal 1: a malformed source as well")             \
+    ROW(MOVE_1_AND_9, "move refusal 1: a high word as well")                    \
+    ROW(MOVE_1_BYTES_SOURCE, "move refusal 1: a source of other bytes")         \
+    ROW(MOVE_1_BYTES_TO, "move refusal 1: a destination of other bytes")        \
+    ROW(MOVE_1_BY_1, "move refusal 1: one byte too few or too many")            \
+    ROW(MOVE_2, "move refusal 2")                                               \
+    ROW(MOVE_2_AND_9, "move refusal 2: a high word as well")                    \
+    ROW(MOVE_9, "move refusal 9")                                               \
+    ROW(MOVE_9_READY, "move refusal 9: one high word, received")                \
+    ROW(MOVE_9_PORT, "move refusal 9: one high word, a Port's putter")          \
+    ROW(MOVE_9_FIFO, "move refusal 9: one high word, a FIFO's putter")          \
+    ROW(MOVE_9_BOARD, "move refusal 9: one high word, a Board's")               \
+    ROW(MOVE_9_HELD_1, "move refusal 9: one high word, a FIFO's 1st")           \
+    ROW(MOVE_9_HELD_2, "move refusal 9: one high word, a FIFO's 2nd")           \
+    ROW(MOVE_9_HELD_3, "move refusal 9: one high word, a FIFO's 3rd")           \
+    ROW(MOVE_9_HELD_4, "move refusal 9: one high word, a FIFO's 4th")           \
+    ROW(MOVE_9_HELD_5, "move refusal 9: one high word, a FIFO's 5th")           \
+    ROW(MOVE_9_HELD_6, "move refusal 9: one high word, a FIFO's 6th")           \
+    ROW(MOVE_9_HELD_7, "move refusal 9: one high word, a FIFO's 7th")           \
+    ROW(MOVE_9_HELD_8, "move refusal 9: one high word, a FIFO's 8th")           \
     ROW(DAMAGED_AND_3, "refusal 2: service above 10 as well")                   \
     ROW(SERVICE_11, "refusal 3: service 11")                                    \
     ROW(SERVICE_ABOVE, "refusal 3: service above 11")                           \
@@ -241,7 +310,7 @@ typedef enum {
     ROW(SUMMARY_8, "summary: 8 and more wait")                                  \
     ROW(SUMMARY_SUSPENDED, "summary: a suspended task waits")                   \
     ROW(LISTING_LENGTH, "listing refusal 1")                                    \
-    ROW(LISTING_BYTES, "listing refusal 1: not 2400 bytes")                     \
+    ROW(LISTING_BYTES, "listing refusal 1: neither 2400 nor 2976 bytes")        \
     ROW(LISTING_DAMAGED, "listing refusal 2")                                   \
     ROW(LISTING_DAMAGED_AND_8, "listing refusal 2: no room for a line as well") \
     ROW(LISTING_8, "listing refusal 8")                                         \
@@ -295,12 +364,18 @@ enum {
     TIMEOUT_ROWS = REQUEST_ROWS + BOARD * GET * OUTCOMES,
     WITHDRAWN_ROWS = TIMEOUT_ROWS + BOARD * GET,
     AHEAD_ROWS = WITHDRAWN_ROWS + BOARD * GET,
-    BEFORE_SINGLE_ROWS = AHEAD_ROWS + BOARD * GET * TASKS - 1,
+    HIGH_SERVICE_ROWS = AHEAD_ROWS + BOARD * GET * TASKS,
+    HIGH_REFUSED_ROWS = HIGH_SERVICE_ROWS + ADD_HUB + 1,
+    MESSAGE_ROWS = HIGH_REFUSED_ROWS + BOARD * WIPE,
+    CLEARED_ROWS = MESSAGE_ROWS + PATHS * CLASSES,
+    BEFORE_SINGLE_ROWS = CLEARED_ROWS + SLEEP * CLASSES - 1,
 #define ROW(symbol, name) symbol,
     SINGLE_ROWS(ROW)
 #undef ROW
     DAMAGE_ROWS
 };
+
+_Static_assert(DAMAGE_ROWS + 200 <= COVER_ROWS_MAX, "room for every row and family");
 
 static const char *const single_names[] = {
 #define ROW(symbol, name) name,
@@ -311,9 +386,14 @@ static const char *const single_names[] = {
 static const char *const kinds[] = {"Event", "Semaphore", "Port", "FIFO", "Resource", "Board"};
 static const char *const sides[] = {"put", "get"}; /* at a Board: update, read */
 
-static size_t row_count(void) { return DAMAGE_ROWS + gen_damages(); }
-static void hit(cover *seen, size_t row) { seen->hits[row]++; }
-static void hit_if(cover *seen, int condition, size_t row) { seen->hits[row] += condition != 0; }
+static size_t row_count(uint32_t edition) { return DAMAGE_ROWS + gen_damages(edition); }
+
+static void hit_if(cover *seen, int condition, size_t row)
+{
+    seen->hits[seen->edition - EDITION_1][row] += condition != 0;
+}
+
+static void hit(cover *seen, size_t row) { hit_if(seen, 1, row); }
 
 static size_t kind_side(uint32_t kind, uint32_t side)
 {
@@ -350,8 +430,30 @@ static int putters_wait(size_t pair)
     return pair != kind_side(RESOURCE, PUT) && pair != kind_side(BOARD, PUT);
 }
 
-static int row_reachable(size_t row)
+/* What only edition 2 has: high words in messages, and so refusal 9; what only edition 1
+ * has: a high word that is wrong. */
+static int row_in_edition(uint32_t edition, size_t row)
 {
+    if (row == HIGH_SERVICE_ROWS + HUB_REQUEST)
+        return edition == EDITION_2;
+    if (row >= HIGH_REFUSED_ROWS && row < MESSAGE_ROWS) {
+        size_t at = row - HIGH_REFUSED_ROWS;
+        return edition == EDITION_1 && (at % WIPE < GET || at / WIPE + EVENT == BOARD);
+    }
+    if (row >= MESSAGE_ROWS && row < CLEARED_ROWS)
+        return edition == EDITION_2 || (row - MESSAGE_ROWS) % CLASSES <= LOW_ONLY;
+    if (row >= CLEARED_ROWS && row <= BEFORE_SINGLE_ROWS)
+        return (row - CLEARED_ROWS) % CLASSES != CLASS_0 &&
+               (edition == EDITION_2 || (row - CLEARED_ROWS) % CLASSES == LOW_ONLY);
+    if (row == MOVE_1_AND_9 || (row >= MOVE_2_AND_9 && row <= MOVE_9_HELD_8))
+        return edition == EDITION_2;
+    return 1;
+}
+
+static int row_reachable(uint32_t edition, size_t row)
+{
+    if (!row_in_edition(edition, row))
+        return 0;
     if (row >= REQUEST_ROWS && row < TIMEOUT_ROWS) {
         size_t at = row - REQUEST_ROWS, pair = at / OUTCOMES;
         return request_reachable((uint32_t)(pair / GET + EVENT), (uint32_t)(pair % GET + PUT),
@@ -359,17 +461,44 @@ static int row_reachable(size_t row)
     }
     if (row >= TIMEOUT_ROWS && row < AHEAD_ROWS)
         return putters_wait((row - TIMEOUT_ROWS) % (BOARD * GET));
-    if (row >= AHEAD_ROWS && row <= BEFORE_SINGLE_ROWS) /* a Resource's owner doesn't wait */
+    if (row >= AHEAD_ROWS && row < HIGH_SERVICE_ROWS) /* a Resource's owner doesn't wait */
         return putters_wait((row - AHEAD_ROWS) / TASKS) &&
                row != ahead_row(RESOURCE, GET, TASKS - 1);
     return 1;
 }
 
+static const char *const services[] = {"Blank", "Hub request", "Start", "Stop", "Suspend",
+                                       "Resume", "Yield", "Sleep", "Tick", "Add task", "Add hub"};
+
+/* The rows of M-105 that are products. */
+static void high_row_name(size_t row, char *name, size_t size)
+{
+    static const char *const paths[] = {
+        "Port put meets", "Port put waits", "Port get takes a putter's", "FIFO put meets",
+        "FIFO put is held", "FIFO put waits", "FIFO get takes the oldest",
+        "FIFO get takes the oldest, a putter waits", "FIFO get appends a putter's", "Board update",
+        "Board update meets", "Board read", "not sent, put", "not sent, put waits",
+        "not sent, get", "not sent, wipe", "a putter times out", "a putter is withdrawn"};
+    static const char *const classes[] = {"0", "low only", "high only", "both words"};
+    static const char *const three_sides[] = {"put", "get", "wipe"};
+
+    if (row < HIGH_REFUSED_ROWS)
+        snprintf(name, size, "accepted: %s, with a high word", services[row - HIGH_SERVICE_ROWS]);
+    else if (row < MESSAGE_ROWS)
+        snprintf(name, size, "refusal 6: high word alone, %s %s",
+                 kinds[(row - HIGH_REFUSED_ROWS) / WIPE],
+                 three_sides[(row - HIGH_REFUSED_ROWS) % WIPE]);
+    else if (row < CLEARED_ROWS)
+        snprintf(name, size, "message: %s, %s", paths[(row - MESSAGE_ROWS) / CLASSES],
+                 classes[(row - MESSAGE_ROWS) % CLASSES]);
+    else
+        snprintf(name, size, "message: the caller's own before %s, %s",
+                 services[HUB_REQUEST + (row - CLEARED_ROWS) / CLASSES],
+                 classes[(row - CLEARED_ROWS) % CLASSES]);
+}
+
 static void row_name(size_t row, char *name, size_t size)
 {
-    static const char *const services[] = {"Blank", "Hub request", "Start", "Stop", "Suspend",
-                                           "Resume", "Yield", "Sleep", "Tick", "Add task",
-                                           "Add hub"};
     static const char *const outcomes[] = {
         "met alone", "met with a waiter", "not now under NW", "not now under W",
         "not now under WT", "FAIL under W", "FAIL under NW", "FAIL under WT"};
@@ -386,7 +515,9 @@ static void row_name(size_t row, char *name, size_t size)
     } else if (row < AHEAD_ROWS) {
         size_t pair = row - WITHDRAWN_ROWS;
         snprintf(name, size, "Stop: %s %s withdrawn", kinds[pair / GET], sides[pair % GET]);
-    } else if (row <= BEFORE_SINGLE_ROWS) {
+    } else if (row >= HIGH_SERVICE_ROWS && row <= BEFORE_SINGLE_ROWS) {
+        high_row_name(row, name, size);
+    } else if (row < HIGH_SERVICE_ROWS) {
         size_t at = row - AHEAD_ROWS, pair = at / TASKS;
         snprintf(name, size, "ahead: %s %s, %zu", kinds[pair / GET], sides[pair % GET],
                  at % TASKS);
@@ -401,13 +532,19 @@ static void row_name(size_t row, char *name, size_t size)
 
 static uint32_t task_word(const uint32_t *table, uint32_t task, size_t field)
 {
-    return table[task_place(task) + field];
+    return table[field_place(table, task, field)];
 }
 
 static int owns(const uint32_t *table, uint32_t task, uint32_t hub)
 {
-    return table[hub_place(hub) + H_KIND] == RESOURCE &&
-           table[hub_place(hub) + H_COUNT] == task + 1;
+    return table[hub_place(table, hub) + H_KIND] == RESOURCE &&
+           table[hub_place(table, hub) + H_COUNT] == task + 1;
+}
+
+/* The kind of the hub at which a task waits. */
+static uint32_t kind_awaited(const uint32_t *table, uint32_t task)
+{
+    return table[hub_place(table, task_word(table, task, T_HUB) - 1) + H_KIND];
 }
 
 static uint32_t length_of(const uint32_t *list)
@@ -420,10 +557,29 @@ static uint32_t length_of(const uint32_t *list)
 
 static int somebody_runs(const uint32_t *table)
 {
-    for (const uint32_t *entry = table + READY_AT; entry < table + WAITING_AT && *entry; entry++)
+    const uint32_t *entry = table + ready_place(table), *end = entry + LIST_WORDS;
+
+    for (; entry < end && *entry; entry++)
         if (!task_word(table, *entry - 1, T_SUSPENDED))
             return 1;
     return 0;
+}
+
+/* The message that a call brings. */
+static uint64_t sent(const uint32_t *call)
+{
+    return call[C_WORD] + ((uint64_t)call[C_HIGH] << 32);
+}
+
+static message_class class_of(uint64_t message)
+{
+    int low = (uint32_t)message != 0, high = message >> 32 != 0;
+    return low && high ? BOTH_WORDS : high ? HIGH_ONLY : low ? LOW_ONLY : CLASS_0;
+}
+
+static void hit_message(cover *seen, message_path path, uint64_t message)
+{
+    hit(seen, MESSAGE_ROWS + path * CLASSES + class_of(message));
 }
 
 /* ---- Accepted calls ---------------------------------------------------- */
@@ -443,14 +599,14 @@ static uint32_t entries_with(const uint32_t *table, const uint32_t *list, uint32
 static void cover_ahead(cover *seen, const uint32_t *call, second_reply reply,
                         const uint32_t *after)
 {
-    const uint32_t *list = after + list_place(call[C_TARGET]);
+    const uint32_t *list = after + list_place(after, call[C_TARGET]);
     uint32_t ahead = reply.ahead, behind = length_of(list) - ahead - 1;
     uint32_t own = task_word(after, call[C_CALLER], T_PRIORITY);
     uint32_t equals = entries_with(after, list, ahead, T_PRIORITY, own);
     uint32_t suspended = entries_with(after, list, ahead, T_SUSPENDED, 1);
     uint32_t unlimited = entries_with(after, list, ahead, T_TICKS, 0);
 
-    hit(seen, ahead_row(after[hub_place(call[C_TARGET]) + H_KIND], call[C_SIDE], ahead));
+    hit(seen, ahead_row(after[hub_place(after, call[C_TARGET]) + H_KIND], call[C_SIDE], ahead));
     if (ahead == 0) {
         hit(seen, behind > 0 ? AHEAD_NONE_BEHIND : AHEAD_NONE_ALONE);
         return;
@@ -465,7 +621,7 @@ static void cover_ahead(cover *seen, const uint32_t *call, second_reply reply,
     hit_if(seen, equals < ahead, AHEAD_URGENT);
     hit_if(seen, equals > 0 && equals < ahead, AHEAD_URGENT_AND_EQUAL);
     hit_if(seen, behind > 0, AHEAD_AND_BEHIND);
-    hit_if(seen, call[C_TARGET] != 0 && length_of(after + list_place(0)) != ahead,
+    hit_if(seen, call[C_TARGET] != 0 && length_of(after + list_place(after, 0)) != ahead,
            AHEAD_ELSEWHERE);
     hit_if(seen, reply.next == 0, AHEAD_NOBODY_RUNS);
 }
@@ -474,7 +630,7 @@ static void cover_ahead(cover *seen, const uint32_t *call, second_reply reply,
 static int waits_behind(const uint32_t *table, uint32_t task)
 {
     return task_word(table, task, T_STATE) == WAITING &&
-           table[list_place(task_word(table, task, T_HUB) - 1)] != task + 1;
+           table[list_place(table, task_word(table, task, T_HUB) - 1)] != task + 1;
 }
 
 static int somebody_in(const uint32_t *table, uint32_t state)
@@ -513,7 +669,7 @@ static void cover_not_ahead(cover *seen, const uint32_t *before, const uint32_t 
 
 static void cover_waits(cover *seen, const uint32_t *call, const uint32_t *after)
 {
-    const uint32_t *list = after + list_place(call[C_TARGET]);
+    const uint32_t *list = after + list_place(after, call[C_TARGET]);
     uint32_t at = 0, length = length_of(list), own = task_word(after, call[C_CALLER], T_PRIORITY);
 
     while (list[at] != call[C_CALLER] + 1)
@@ -543,17 +699,17 @@ static void cover_readers(cover *seen, const uint32_t *before, const uint32_t *l
 {
     for (uint32_t i = 0; i < length_of(list); i++) {
         uint32_t reader = list[i] - 1, own = task_word(before, reader, T_PRIORITY);
-        const uint32_t *ready = after + READY_AT;
+        const uint32_t *ready = after + ready_place(after);
         int equals = i > 0 && task_word(before, list[i - 1] - 1, T_PRIORITY) == own;
 
         while (*ready != reader + 1)
             ready++;
-        hit_if(seen, call[C_WORD] == 0, UPDATE_MEETS_0_WORD);
+        hit_if(seen, sent(call) == 0, UPDATE_MEETS_0_WORD);
         hit_if(seen, task_word(before, reader, T_SUSPENDED) == 1, UPDATE_MEETS_SUSPENDED);
         hit(seen, task_word(before, reader, T_TICKS) > 0 ? UPDATE_MEETS_TICKS
                                                          : UPDATE_MEETS_NO_LIMIT);
         hit_if(seen, equals && list[i - 1] > list[i], UPDATE_MEETS_EQUALS);
-        hit_if(seen, ready > after + READY_AT &&
+        hit_if(seen, ready > after + ready_place(after) &&
                          task_word(before, ready[-1] - 1, T_STATE) == READY &&
                          task_word(before, ready[-1] - 1, T_PRIORITY) == own,
                UPDATE_BEHIND_EQUAL);
@@ -563,13 +719,13 @@ static void cover_readers(cover *seen, const uint32_t *before, const uint32_t *l
 static void cover_update(cover *seen, const uint32_t *before, const uint32_t *call,
                          second_reply reply, const uint32_t *after)
 {
-    const uint32_t *list = before + list_place(call[C_TARGET]);
+    const uint32_t *list = before + list_place(before, call[C_TARGET]);
     uint32_t readers = length_of(list);
 
     hit(seen, UPDATE_W + call[C_MODE] - W);
     hit(seen, UPDATE_MEETS_0 + (readers < 3 ? readers : readers < 15 ? 3 : 4));
-    hit_if(seen, before[hub_place(call[C_TARGET]) + H_COUNT] == 1, UPDATE_OVERWRITES);
-    hit_if(seen, call[C_WORD] == 0, UPDATE_0);
+    hit_if(seen, before[hub_place(before, call[C_TARGET]) + H_COUNT] == 1, UPDATE_OVERWRITES);
+    hit_if(seen, sent(call) == 0, UPDATE_0);
     hit_if(seen, reply.next != 0 && task_word(before, reply.next - 1, T_STATE) == WAITING,
            UPDATE_MEETS_URGENT);
     cover_readers(seen, before, list, call, after);
@@ -577,12 +733,13 @@ static void cover_update(cover *seen, const uint32_t *before, const uint32_t *ca
 
 static void cover_wipe(cover *seen, const uint32_t *before, const uint32_t *call)
 {
-    int written = before[hub_place(call[C_TARGET]) + H_COUNT] == 1;
-    int awaited = before[list_place(call[C_TARGET])] != 0;
+    int written = before[hub_place(before, call[C_TARGET]) + H_COUNT] == 1;
+    int awaited = before[list_place(before, call[C_TARGET])] != 0;
 
     hit(seen, WIPE_W + call[C_MODE] - W);
     hit(seen, written ? WIPE_WRITTEN : awaited ? WIPE_AWAITED : WIPE_UNWRITTEN);
-    hit_if(seen, written && before[store_place(call[C_TARGET])] == 0, WIPE_0);
+    hit_if(seen, written && message_at(before, store_place(before, call[C_TARGET])) == 0,
+           WIPE_0);
 }
 
 /* What the products of kind, side and outcome don't say of a request to a Board. */
@@ -595,19 +752,81 @@ static void cover_board(cover *seen, const uint32_t *before, const uint32_t *cal
         cover_wipe(seen, before, call);
     if (call[C_SIDE] == GET && reply.answer == OK) {
         hit(seen, READ_W + call[C_MODE] - W);
-        hit_if(seen, before[store_place(call[C_TARGET])] == 0, READ_0);
+        hit_if(seen, message_at(before, store_place(before, call[C_TARGET])) == 0, READ_0);
     }
+}
+
+/* What becomes of the messages in a hub request; `first` is the number of the waiter met
+ * plus 1, or 0. */
+static void cover_put_message(cover *seen, uint32_t kind, const uint32_t *call, uint32_t first,
+                              int waits)
+{
+    if (kind == PORT)
+        hit_message(seen, waits ? PORT_PUT_WAITS : PORT_PUT_MEETS, sent(call));
+    else if (kind == FIFO)
+        hit_message(seen, waits ? FIFO_PUT_WAITS : first != 0 ? FIFO_PUT_MEETS : FIFO_PUT_HELD,
+                    sent(call));
+    else if (kind == BOARD)
+        hit_message(seen, first != 0 ? BOARD_MEETS : BOARD_UPDATE, sent(call));
+    else
+        hit_message(seen, waits ? PUT_IGNORED_WAITS : PUT_IGNORED, sent(call));
+}
+
+static void cover_got_message(cover *seen, uint32_t kind, const uint32_t *call, uint32_t first,
+                              const uint32_t *before, const uint32_t *after)
+{
+    uint64_t got = task_message(after, call[C_CALLER]);
+
+    if (kind == PORT)
+        hit_message(seen, PORT_GET_MEETS, got);
+    if (kind == FIFO)
+        hit_message(seen, first != 0 ? FIFO_GET_MEETS : FIFO_GET_ALONE, got);
+    if (kind == FIFO && first != 0)
+        hit_message(seen, FIFO_APPENDS, task_message(before, first - 1));
+    if (kind == BOARD)
+        hit_message(seen, BOARD_READ, got);
+}
+
+static void cover_messages(cover *seen, const uint32_t *before, const uint32_t *call,
+                           second_reply reply, const uint32_t *after)
+{
+    uint32_t kind = after[hub_place(after, call[C_TARGET]) + H_KIND];
+    uint32_t first = before[list_place(before, call[C_TARGET])];
+    int waits = task_word(after, call[C_CALLER], T_STATE) == WAITING;
+
+    if (first != 0 && task_word(after, first - 1, T_STATE) == WAITING)
+        first = 0; /* not met */
+    hit_if(seen, call[C_HIGH] == UINT32_MAX, HIGH_MAX);
+    hit_if(seen, call[C_HIGH] == 1, HIGH_1);
+    if (call[C_SIDE] == WIPE)
+        hit_message(seen, WIPE_IGNORED, sent(call));
+    else if (call[C_SIDE] == GET)
+        hit_message(seen, GET_IGNORED, sent(call));
+    else if (reply.answer == OK || waits)
+        cover_put_message(seen, kind, call, first, waits);
+    if (call[C_SIDE] == GET && reply.answer == OK)
+        cover_got_message(seen, kind, call, first, before, after);
+}
+
+/* A waiting put whose word is kept is over without being met. */
+static void cover_lost(cover *seen, const uint32_t *before, uint32_t task, message_path path)
+{
+    uint32_t kind = kind_awaited(before, task);
+
+    if (task_word(before, task, T_SIDE) == PUT && (kind == PORT || kind == FIFO))
+        hit_message(seen, path, task_message(before, task));
 }
 
 static void cover_request(cover *seen, const uint32_t *before, const uint32_t *call,
                           second_reply reply, const uint32_t *after)
 {
-    uint32_t kind = after[hub_place(call[C_TARGET]) + H_KIND], side = call[C_SIDE];
-    uint32_t count = before[hub_place(call[C_TARGET]) + H_COUNT], mode = call[C_MODE];
-    uint32_t first = before[list_place(call[C_TARGET])];
+    uint32_t kind = after[hub_place(after, call[C_TARGET]) + H_KIND], side = call[C_SIDE];
+    uint32_t count = before[hub_place(before, call[C_TARGET]) + H_COUNT], mode = call[C_MODE];
+    uint32_t first = before[list_place(before, call[C_TARGET])];
     hub_outcome outcome;
 
     hit_if(seen, reply.next == 0, NONE_LEFT);
+    cover_messages(seen, before, call, reply, after);
     if (kind == BOARD)
         cover_board(seen, before, call, reply, after);
     if (side == WIPE)
@@ -625,7 +844,7 @@ static void cover_request(cover *seen, const uint32_t *before, const uint32_t *c
     if (outcome == NOT_NOW_W || outcome == NOT_NOW_WT) {
         cover_waits(seen, call, after);
         cover_ahead(seen, call, reply, after);
-    } else if (after[list_place(call[C_TARGET])] != 0) {
+    } else if (after[list_place(after, call[C_TARGET])] != 0) {
         hit(seen, reply.answer == OK      ? NOT_AHEAD_MET
                   : outcome == NOT_NOW_NW ? NOT_AHEAD_NW
                                           : NOT_AHEAD_FAIL);
@@ -635,7 +854,7 @@ static void cover_request(cover *seen, const uint32_t *before, const uint32_t *c
     hit_if(seen, reply.answer == OK && kind == FIFO && side == PUT && count == 7 && first == 0,
            FIFO_OF_8);
     hit_if(seen, reply.answer == OK && (kind == FIFO || kind == PORT) && side == GET &&
-                     task_word(after, call[C_CALLER], T_WORD) == 0,
+                     task_message(after, call[C_CALLER]) == 0,
            WORD_0_PASSED);
 }
 
@@ -662,7 +881,7 @@ static locks locks_of(const uint32_t *table, uint32_t task)
     locks of = {0, 0, {0}, {0}};
 
     for (uint32_t hub = 0; hub < table[HUBS_IN_USE_AT]; hub++) {
-        const uint32_t *list = table + list_place(hub);
+        const uint32_t *list = table + list_place(table, hub);
         if (!owns(table, task, hub))
             continue;
         of.owned++;
@@ -734,9 +953,10 @@ static void cover_stop(cover *seen, const uint32_t *before, const uint32_t *call
     hit_if(seen, suspended && state == SLEEPING, STOP_SUSPENDED_SLEEPING);
     cover_stop_owner(seen, before, call, reply);
     if (state == WAITING)
-        hit(seen, WITHDRAWN_ROWS +
-                      kind_side(before[hub_place(task_word(before, target, T_HUB) - 1) + H_KIND],
-                                task_word(before, target, T_SIDE)));
+        cover_lost(seen, before, target, PUTTER_WITHDRAWN);
+    if (state == WAITING)
+        hit(seen, WITHDRAWN_ROWS + kind_side(kind_awaited(before, target),
+                                             task_word(before, target, T_SIDE)));
 }
 
 static void cover_suspend(cover *seen, const uint32_t *before, const uint32_t *call)
@@ -770,11 +990,11 @@ static void cover_resume(cover *seen, const uint32_t *before, const uint32_t *ca
 static void cover_yield(cover *seen, const uint32_t *before, const uint32_t *call)
 {
     uint32_t own = task_word(before, call[C_CALLER], T_PRIORITY), equals = 0, suspended = 0;
-    const uint32_t *entry = before + READY_AT;
+    const uint32_t *entry = before + ready_place(before), *end = entry + LIST_WORDS;
 
     while (*entry != call[C_CALLER] + 1)
         entry++;
-    for (entry++; entry < before + WAITING_AT && *entry != 0; entry++) {
+    for (entry++; entry < end && *entry != 0; entry++) {
         if (task_word(before, *entry - 1, T_PRIORITY) != own)
             break;
         equals++;
@@ -799,10 +1019,11 @@ static void cover_tick(cover *seen, const uint32_t *before)
             hit_if(seen, suspended, TICK_SUSPENDED_SLEEPING);
         } else {
             uint32_t hub = task_word(before, task, T_HUB) - 1;
-            hit(seen, TIMEOUT_ROWS + kind_side(before[hub_place(hub) + H_KIND],
+            cover_lost(seen, before, task, PUTTER_TIMES_OUT);
+            hit(seen, TIMEOUT_ROWS + kind_side(before[hub_place(before, hub) + H_KIND],
                                                task_word(before, task, T_SIDE)));
             hit_if(seen, suspended, TICK_SUSPENDED_WAITING);
-            hit_if(seen, suspended && before[hub_place(hub) + H_KIND] == BOARD,
+            hit_if(seen, suspended && before[hub_place(before, hub) + H_KIND] == BOARD,
                    READ_SUSPENDED_TIMED_OUT);
         }
     }
@@ -829,7 +1050,12 @@ static void cover_accepted(cover *seen, const uint32_t *before, const uint32_t *
                            second_reply reply, const uint32_t *after)
 {
     hit(seen, SERVICE_ROWS + call[C_SERVICE]);
-    hit_if(seen, reply.next != 0 && reply.next != after[READY_AT], NEXT_NOT_FIRST);
+    hit_if(seen, call[C_HIGH] != 0, HIGH_SERVICE_ROWS + call[C_SERVICE]);
+    if (call[C_SERVICE] >= HUB_REQUEST && call[C_SERVICE] <= SLEEP &&
+        task_message(before, call[C_CALLER]) != 0)
+        hit(seen, CLEARED_ROWS + (call[C_SERVICE] - HUB_REQUEST) * CLASSES +
+                      class_of(task_message(before, call[C_CALLER])));
+    hit_if(seen, reply.next != 0 && reply.next != after[ready_place(after)], NEXT_NOT_FIRST);
     cover_not_ahead(seen, before, call, reply, after);
     switch (call[C_SERVICE]) {
     case HUB_REQUEST:
@@ -882,7 +1108,7 @@ static size_t ticks_cause(uint32_t ticks, size_t zero)
 static size_t request_cause(const uint32_t *table, const uint32_t *call)
 {
     uint32_t kind = call[C_TARGET] < table[HUBS_IN_USE_AT]
-                        ? table[hub_place(call[C_TARGET]) + H_KIND]
+                        ? table[hub_place(table, call[C_TARGET]) + H_KIND]
                         : (uint32_t)BOARD;
 
     if (call[C_SIDE] < PUT || call[C_SIDE] > WIPE)
@@ -977,30 +1203,52 @@ static void cover_not_running(cover *seen, const uint32_t *table, const uint32_t
     hit_if(seen, argument_cause(table, call) != NO_CAUSE, CALLER_AND_6);
 }
 
+/* A hub request that is refused for its high word and nothing else. */
+static void cover_high(cover *seen, const uint32_t *table, const uint32_t *call)
+{
+    uint32_t kind = table[hub_place(table, call[C_TARGET]) + H_KIND];
+
+    hit(seen, HIGH_REFUSED_ROWS + (kind - EVENT) * WIPE + call[C_SIDE] - PUT);
+    hit_if(seen, call[C_HIGH] == UINT32_MAX, HIGH_MAX);
+    hit_if(seen, call[C_HIGH] == 1, HIGH_1);
+}
+
 static void cover_refused(cover *seen, const uint32_t *table, const uint32_t *call,
                           uint32_t refusal)
 {
     switch (refusal) {
     case NOT_WELL_FORMED:
         hit_if(seen, call[C_SERVICE] > ADD_HUB, DAMAGED_AND_3);
+        hit_if(seen, call[C_SERVICE] == HUB_REQUEST && call[C_HIGH] != 0, HIGH_AND_2);
         break;
     case NO_SUCH_SERVICE:
+        hit_if(seen, call[C_HIGH] != 0, HIGH_AND_3);
         hit(seen, call[C_SERVICE] == ADD_HUB + 1 ? SERVICE_11 : SERVICE_ABOVE);
         break;
     case NOT_RUNNING:
         cover_not_running(seen, table, call);
+        hit_if(seen, call[C_SERVICE] == HUB_REQUEST && call[C_HIGH] != 0, HIGH_AND_4);
         break;
     case NOT_IN_USE:
         hit(seen, TARGET_REQUEST + call[C_SERVICE] - HUB_REQUEST);
         hit_if(seen, argument_cause(table, call) != NO_CAUSE, TARGET_AND_6);
         hit_if(seen, call[C_SERVICE] == HUB_REQUEST && call[C_SIDE] == WIPE, TARGET_WIPE);
+        hit_if(seen, call[C_SERVICE] == HUB_REQUEST && call[C_HIGH] != 0, HIGH_AND_5);
         break;
     case BAD_ARGUMENT:
-        hit(seen, argument_cause(table, call));
-        hit_if(seen, call[C_SERVICE] == HUB_REQUEST && table[list_place(call[C_TARGET])] != 0,
+        if (argument_cause(table, call) == NO_CAUSE)
+            cover_high(seen, table, call);
+        else
+            hit(seen, argument_cause(table, call));
+        hit_if(seen, call[C_SERVICE] == HUB_REQUEST && call[C_HIGH] != 0 &&
+                         argument_cause(table, call) != NO_CAUSE,
+               HIGH_AND_6);
+        hit_if(seen, call[C_SERVICE] == HUB_REQUEST &&
+                         table[list_place(table, call[C_TARGET])] != 0,
                NOT_AHEAD_6);
         hit_if(seen, call[C_SERVICE] == HUB_REQUEST && call[C_SIDE] == WIPE &&
-                         table[hub_place(call[C_TARGET]) + H_KIND] == BOARD,
+                         table[hub_place(table, call[C_TARGET]) + H_KIND] == BOARD &&
+                         argument_cause(table, call) != NO_CAUSE,
                WIPE_ARGUMENT);
         hit_if(seen, call[C_SERVICE] == ADD_TASK && table[TASKS_IN_USE_AT] == TASKS,
                TASK_ARGUMENT_AND_7);
@@ -1009,11 +1257,12 @@ static void cover_refused(cover *seen, const uint32_t *table, const uint32_t *ca
         break;
     case TABLE_FULL:
         hit(seen, call[C_SERVICE] == ADD_TASK ? FULL_TASKS : FULL_HUBS);
+        hit_if(seen, call[C_HIGH] != 0, HIGH_AND_7);
         break;
     }
 }
 
-void cover_call(cover *seen, const uint32_t *before, const uint32_t call[7], second_reply reply,
+void cover_call(cover *seen, const uint32_t *before, const uint32_t call[8], second_reply reply,
                 const uint32_t *after)
 {
     if (reply.refusal == ACCEPTED)
@@ -1027,17 +1276,22 @@ void cover_call_length(cover *seen, size_t words)
     hit_if(seen, words == 0, LENGTH_0);
     hit_if(seen, words == WORDS - 1, LENGTH_599);
     hit_if(seen, words == WORDS + 1, LENGTH_601);
+    hit_if(seen, words == WORDS_2 - 1, LENGTH_743);
+    hit_if(seen, words == WORDS_2 + 1, LENGTH_745);
 }
 
 void cover_call_byte_length(cover *seen, size_t bytes)
 {
+    hit_if(seen, bytes == 0, BYTES_0);
     hit_if(seen, bytes == BYTES - 1, BYTES_2399);
     hit_if(seen, bytes == BYTES + 1, BYTES_2401);
+    hit_if(seen, bytes == BYTES_2 - 1, BYTES_2975);
+    hit_if(seen, bytes == BYTES_2 + 1, BYTES_2977);
 }
 
 void cover_summary(cover *seen, const uint32_t *table, size_t words, second_summary_reply reply)
 {
-    hit_if(seen, words != WORDS, SUMMARY_LENGTH);
+    hit_if(seen, layout_for(words) == NULL, SUMMARY_LENGTH);
     hit_if(seen, reply.refusal == NOT_WELL_FORMED, SUMMARY_DAMAGED);
     hit_if(seen, reply.refusal == NOT_IN_USE, SUMMARY_TARGET);
     if (reply.refusal != ACCEPTED)
@@ -1078,7 +1332,7 @@ static void cover_listed(cover *seen, const uint32_t *table)
         hit(seen, LISTING_PRIORITY_1 + further_digits(task_word(table, task, T_PRIORITY)));
     }
     for (uint32_t number = 0; number < table[HUBS_IN_USE_AT]; number++) {
-        const uint32_t *hub = table + hub_place(number);
+        const uint32_t *hub = table + hub_place(table, number);
         hit_if(seen, hub[H_COUNT] != hub[H_START], LISTING_COUNT);
         hit(seen, LISTING_EVENT + hub[H_KIND] - EVENT);
         hit(seen, LISTING_LIMIT_1 + further_digits(hub[H_LIMIT]));
@@ -1113,31 +1367,152 @@ void cover_damage(cover *seen, size_t family)
     hit(seen, BLANK_DAMAGED);
 }
 
+/* ---- Moves ------------------------------------------------------------- */
+
+static void cover_moved_tasks(cover *seen, const uint32_t *from)
+{
+    int waits = 0, sleeps = 0, suspended = 0, received = 0, port = 0, fifo = 0;
+
+    for (uint32_t task = 0; task < from[TASKS_IN_USE_AT]; task++) {
+        uint32_t state = task_word(from, task, T_STATE);
+        int word = task_message(from, task) != 0;
+        uint32_t kind = state == WAITING
+                            ? from[hub_place(from, task_word(from, task, T_HUB) - 1) + H_KIND]
+                            : 0;
+        waits |= state == WAITING;
+        sleeps |= state == SLEEPING;
+        suspended |= task_word(from, task, T_SUSPENDED) == 1;
+        received |= state == READY && word;
+        port |= kind == PORT && word;
+        fifo |= kind == FIFO && word;
+    }
+    hit_if(seen, waits, MOVE_WAITER);
+    hit_if(seen, sleeps, MOVE_SLEEPER);
+    hit_if(seen, suspended, MOVE_SUSPENDED);
+    hit_if(seen, received, MOVE_RECEIVED);
+    hit_if(seen, port, MOVE_PORT_PUTTER);
+    hit_if(seen, fifo, MOVE_FIFO_PUTTER);
+}
+
+static void cover_moved_hubs(cover *seen, const uint32_t *from)
+{
+    int held = 0, full = 0, board = 0, owned = 0, many = 0;
+
+    for (uint32_t number = 0; number < from[HUBS_IN_USE_AT]; number++) {
+        const uint32_t *hub = from + hub_place(from, number);
+        held |= hub[H_KIND] == FIFO && hub[H_COUNT] > 0;
+        full |= hub[H_KIND] == FIFO && hub[H_COUNT] == 8;
+        board |= hub[H_KIND] == BOARD && hub[H_COUNT] == 1;
+        owned |= hub[H_KIND] == RESOURCE && hub[H_COUNT] > 0;
+        many |= length_of(from + list_place(from, number)) >= 8;
+    }
+    hit_if(seen, held, MOVE_HELD);
+    hit_if(seen, full, MOVE_HELD_8);
+    hit_if(seen, board, MOVE_BOARD);
+    hit_if(seen, owned, MOVE_OWNED);
+    hit_if(seen, many, MOVE_8_WAIT);
+}
+
+/* Where the one high word of an edition 2 table stands. */
+static void cover_only_high(cover *seen, const uint32_t *from)
+{
+    for (uint32_t task = 0; task < from[TASKS_IN_USE_AT]; task++) {
+        if (task_message(from, task) >> 32 == 0)
+            continue;
+        uint32_t hub = task_word(from, task, T_HUB);
+        hit(seen, hub == 0 ? MOVE_9_READY
+                  : from[hub_place(from, hub - 1) + H_KIND] == PORT ? MOVE_9_PORT
+                                                                    : MOVE_9_FIFO);
+    }
+    for (uint32_t hub = 0; hub < from[HUBS_IN_USE_AT]; hub++)
+        for (uint32_t i = 0; i < HELD_MOST; i++)
+            if (message_at(from, held_place(from, hub, i)) >> 32 != 0)
+                hit(seen, from[hub_place(from, hub) + H_KIND] == BOARD ? MOVE_9_BOARD
+                                                                       : MOVE_9_HELD_1 + i);
+}
+
+void cover_move(cover *seen, const uint32_t *from, const cover_moved *move)
+{
+    const layout *of = &layouts[seen->edition - EDITION_1];
+    const layout *other = &layouts[EDITION_2 - seen->edition];
+    int source = move->from_words != of->words, to = move->to_words != other->words;
+
+    switch (move->refusal) {
+    case ACCEPTED:
+        hit(seen, MOVE_DONE);
+        hit_if(seen, from[TASKS_IN_USE_AT] == 0, MOVE_NO_TASK);
+        hit_if(seen, from[TASKS_IN_USE_AT] == TASKS, MOVE_16_TASKS);
+        hit_if(seen, from[HUBS_IN_USE_AT] == 0, MOVE_NO_HUB);
+        hit_if(seen, from[HUBS_IN_USE_AT] == HUBS, MOVE_16_HUBS);
+        cover_moved_tasks(seen, from);
+        cover_moved_hubs(seen, from);
+        break;
+    case BAD_LENGTH:
+        hit(seen, source && to ? MOVE_1_BOTH : source ? MOVE_1_SOURCE : MOVE_1_DESTINATION);
+        hit_if(seen, !source && move->to_words == of->words, MOVE_1_SAME);
+        hit_if(seen, !source && move->malformed, MOVE_1_AND_2);
+        hit_if(seen, !source && !move->malformed && move->high_words > 0, MOVE_1_AND_9);
+        break;
+    case NOT_WELL_FORMED:
+        hit(seen, MOVE_2);
+        hit_if(seen, move->high_words > 0, MOVE_2_AND_9);
+        break;
+    case HIGH_WORD:
+        hit(seen, MOVE_9);
+        if (move->high_words == 1)
+            cover_only_high(seen, from);
+        break;
+    }
+}
+
+void cover_move_back(cover *seen) { hit(seen, MOVE_BACK); }
+
+void cover_move_bytes(cover *seen, size_t from_bytes, size_t to_bytes)
+{
+    size_t right = layouts[seen->edition - EDITION_1].words * 4;
+    size_t right_to = layouts[EDITION_2 - seen->edition].words * 4;
+
+    hit(seen, from_bytes != right ? MOVE_1_BYTES_SOURCE : MOVE_1_BYTES_TO);
+    hit_if(seen, from_bytes + 1 == right || from_bytes == right + 1 || to_bytes + 1 == right_to ||
+                     to_bytes == right_to + 1,
+           MOVE_1_BY_1);
+}
+
+void cover_move_in_run(cover *seen, const uint32_t *from)
+{
+    hit(seen, MOVE_IN_RUN);
+    hit_if(seen, somebody_in(from, WAITING), MOVE_IN_RUN_WAITING);
+}
+
 /* ---- The table --------------------------------------------------------- */
 
 void cover_print(const cover *seen)
 {
     char name[96];
 
-    for (size_t row = 0; row < row_count(); row++) {
-        if (!row_reachable(row))
-            continue;
-        row_name(row, name, sizeof name);
-        printf("%10llu  %s\n", (unsigned long long)seen->hits[row], name);
-    }
+    for (uint32_t edition = EDITION_1; edition <= EDITION_2; edition++)
+        for (size_t row = 0; row < row_count(edition); row++) {
+            if (!row_reachable(edition, row))
+                continue;
+            row_name(row, name, sizeof name);
+            printf("%10llu  edition %u: %s\n",
+                   (unsigned long long)seen->hits[edition - EDITION_1][row], (unsigned)edition,
+                   name);
+        }
 }
 
-uint64_t cover_fewest(const cover *seen, char *name, size_t size, size_t *rows)
+uint64_t cover_fewest(const cover *seen, uint32_t edition, char *name, size_t size, size_t *rows)
 {
+    const uint64_t *hits = seen->hits[edition - EDITION_1];
     uint64_t fewest = UINT64_MAX;
 
     *rows = 0;
-    for (size_t row = 0; row < row_count(); row++) {
-        if (!row_reachable(row) && seen->hits[row] == 0)
+    for (size_t row = 0; row < row_count(edition); row++) {
+        if (!row_reachable(edition, row) && hits[row] == 0)
             continue;
         ++*rows;
-        if (!row_reachable(row) || seen->hits[row] < fewest) {
-            fewest = row_reachable(row) ? seen->hits[row] : 0;
+        if (!row_reachable(edition, row) || hits[row] < fewest) {
+            fewest = row_reachable(edition, row) ? hits[row] : 0;
             row_name(row, name, size);
         }
     }

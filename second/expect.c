@@ -1,5 +1,5 @@
-/* The tests' own working-out of document 01 and requests M-100, M-101, M-103 and M-104;
- * expect.h says how it differs. */
+/* The tests' own working-out of document 01 and requests M-100, M-101, M-103, M-104 and
+ * M-105; expect.h says how it differs. */
 #include "expect.h"
 
 #include <stdio.h>
@@ -7,68 +7,163 @@
 
 #include "numbers.h"
 
-/* ---- Well formed, sentence by sentence --------------------------------- */
+/* ---- The words of either edition --------------------------------------- */
 
-static uint32_t field(const uint32_t *table, uint32_t task, size_t at)
+/* Low and high stay apart here, and travel together. */
+typedef struct {
+    uint32_t low, high;
+} pair;
+
+static int is_zero(pair word) { return word.low == 0 && word.high == 0; }
+
+typedef struct {
+    uint32_t state, suspended, priority, hub, ticks, side;
+    pair word;
+    uint32_t answer;
+} written_task;
+
+/* A table laid out wide, whatever its edition: edition 1's high words are 0. */
+typedef struct {
+    uint32_t contents[8];
+    written_task task[16];
+    uint32_t hub[16][4];
+    uint32_t ready[16];
+    uint32_t list[16][16];
+    pair store[16][8];
+} wide;
+
+/* Takes the table's words one after the other, as the papers' list of words goes. */
+static void lay_wide(wide *w, const uint32_t *table, size_t words)
 {
-    return table[TASKS_AT + task * TASK_WORDS + at];
+    const uint32_t *at = table;
+    int two = words == 744;
+
+    memcpy(w->contents, at, 32);
+    at += 8;
+    for (int i = 0; i < 16; i++) {
+        written_task *t = &w->task[i];
+        t->state = *at++;
+        t->suspended = *at++;
+        t->priority = *at++;
+        t->hub = *at++;
+        t->ticks = *at++;
+        t->side = *at++;
+        t->word.low = *at++;
+        t->word.high = two ? *at++ : 0;
+        t->answer = *at++;
+    }
+    memcpy(w->hub, at, 256);
+    at += 64;
+    memcpy(w->ready, at, 64);
+    at += 16;
+    memcpy(w->list, at, 1024);
+    at += 256;
+    for (int i = 0; i < 128; i++) {
+        w->store[i / 8][i % 8].low = *at++;
+        w->store[i / 8][i % 8].high = two ? *at++ : 0;
+    }
 }
 
-/* "Records 0 to T-1 and 0 to H-1 are in use ... Everything unused is 0." */
-static int contents_hold(const uint32_t *table)
+/* The other way; high words that edition 1 has no place for are dropped. */
+static void lay_words(const wide *w, uint32_t *table, size_t words)
 {
-    static const uint32_t starts[] = {8, 136, 200, 216, 472};
+    uint32_t *at = table;
+    int two = words == 744;
 
-    if (table[0] != 1 || table[1] > 16 || table[2] > 16 || memcmp(table + 3, starts, 20) != 0)
+    memcpy(at, w->contents, 32);
+    at += 8;
+    for (int i = 0; i < 16; i++) {
+        const written_task *t = &w->task[i];
+        *at++ = t->state;
+        *at++ = t->suspended;
+        *at++ = t->priority;
+        *at++ = t->hub;
+        *at++ = t->ticks;
+        *at++ = t->side;
+        *at++ = t->word.low;
+        if (two)
+            *at++ = t->word.high;
+        *at++ = t->answer;
+    }
+    memcpy(at, w->hub, 256);
+    at += 64;
+    memcpy(at, w->ready, 64);
+    at += 16;
+    memcpy(at, w->list, 1024);
+    at += 256;
+    for (int i = 0; i < 128; i++) {
+        *at++ = w->store[i / 8][i % 8].low;
+        if (two)
+            *at++ = w->store[i / 8][i % 8].high;
+    }
+}
+
+/* ---- Well formed, sentence by sentence --------------------------------- */
+
+static const uint32_t contents_of[2][8] = {
+    {1, 0, 0, 8, 136, 200, 216, 472},
+    {2, 0, 0, 8, 152, 216, 232, 488},
+};
+
+static int all_zero(const void *words, size_t bytes)
+{
+    const uint32_t *word = words;
+
+    for (size_t i = 0; i < bytes / 4; i++)
+        if (word[i] != 0)
+            return 0;
+    return 1;
+}
+
+/* "Records 0 to T-1 and 0 to H-1 are in use ... Everything unused is 0", "a contents
+ * edition that doesn't fit the length is 2". */
+static int contents_hold(const wide *w, size_t words)
+{
+    const uint32_t *right = contents_of[words == 744], *c = w->contents;
+
+    if (c[0] != right[0] || c[1] > 16 || c[2] > 16 || memcmp(c + 3, right + 3, 20) != 0)
         return 0;
-    for (uint32_t at = 8; at < 600; at++) {
-        int in_use = at < 136   ? (at - 8) / 8 < table[1]
-                     : at < 200 ? (at - 136) / 4 < table[2]
-                     : at < 216 ? 1
-                     : at < 472 ? (at - 216) / 16 < table[2]
-                                : (at - 472) / 8 < table[2];
-        if (!in_use && table[at] != 0)
+    for (uint32_t i = 0; i < 16; i++) {
+        if (i >= c[1] && !all_zero(&w->task[i], sizeof w->task[i]))
+            return 0;
+        if (i >= c[2] && !(all_zero(w->hub[i], 16) && all_zero(w->list[i], 64) &&
+                           all_zero(w->store[i], 64)))
             return 0;
     }
     return 1;
 }
 
-static int task_holds(const uint32_t *table, uint32_t task)
+static int task_holds(const wide *w, const written_task *t)
 {
-    uint32_t state = field(table, task, 0), suspended = field(table, task, 1);
-    uint32_t priority = field(table, task, 2), hub = field(table, task, 3);
-    uint32_t ticks = field(table, task, 4), side = field(table, task, 5);
-    uint32_t word = field(table, task, 6), answer = field(table, task, 7);
-
-    if (state < 1 || state > 4 || suspended > 1 || priority > 255 || ticks > 1000000 || side > 2 ||
-        answer > 3)
+    if (t->state < 1 || t->state > 4 || t->suspended > 1 || t->priority > 255 ||
+        t->ticks > 1000000 || t->side > 2 || t->answer > 3)
         return 0;
-    if (state == 1)
-        return !suspended && !hub && !ticks && !side && !word && !answer;
-    if (state == 2)
-        return !hub && !ticks && !side && (!word || answer == 1);
-    if (state == 4)
-        return !hub && !side && !word && !answer && ticks >= 1;
-    if (hub < 1 || hub > table[2] || side == 0 || answer != 0)
+    if (t->state == 1)
+        return !t->suspended && !t->hub && !t->ticks && !t->side && is_zero(t->word) && !t->answer;
+    if (t->state == 2)
+        return !t->hub && !t->ticks && !t->side && (is_zero(t->word) || t->answer == 1);
+    if (t->state == 4)
+        return !t->hub && !t->side && is_zero(t->word) && !t->answer && t->ticks >= 1;
+    if (t->hub < 1 || t->hub > w->contents[2] || t->side == 0 || t->answer != 0)
         return 0;
-    uint32_t kind = table[136 + (hub - 1) * 4];
-    return word == 0 || (side == 1 && (kind == 3 || kind == 4));
+    uint32_t kind = w->hub[t->hub - 1][0];
+    return is_zero(t->word) || (t->side == 1 && (kind == 3 || kind == 4));
 }
 
 /* "exactly the tasks in state 2" (hub 0), or "in state 3 at that hub" (hub
  * plus 1): every task stands in the list once if it belongs there, else not
  * at all; the entries stand first; the priority numbers don't fall. */
-static int list_holds(const uint32_t *table, uint32_t hub)
+static int list_holds(const wide *w, uint32_t hub)
 {
-    const uint32_t *list = hub == 0 ? table + 200 : table + 216 + (hub - 1) * 16;
+    const uint32_t *list = hub == 0 ? w->ready : w->list[hub - 1];
     uint32_t entries = 0;
 
-    for (uint32_t task = 0; task < table[1]; task++) {
+    for (uint32_t task = 0; task < w->contents[1]; task++) {
         uint32_t times = 0;
         for (int i = 0; i < 16; i++)
             times += list[i] == task + 1;
-        uint32_t belongs = hub == 0 ? field(table, task, 0) == 2
-                                    : field(table, task, 0) == 3 && field(table, task, 3) == hub;
+        uint32_t belongs = hub == 0 ? w->task[task].state == 2
+                                    : w->task[task].state == 3 && w->task[task].hub == hub;
         if (times != belongs)
             return 0;
         entries += times;
@@ -76,95 +171,107 @@ static int list_holds(const uint32_t *table, uint32_t hub)
     for (uint32_t i = 0; i < 16; i++) {
         if ((list[i] != 0) != (i < entries))
             return 0;
-        if (i > 0 && i < entries && field(table, list[i - 1] - 1, 2) > field(table, list[i] - 1, 2))
+        if (i > 0 && i < entries &&
+            w->task[list[i - 1] - 1].priority > w->task[list[i] - 1].priority)
             return 0;
     }
     return 1;
 }
 
-static int waiter_holds(const uint32_t *table, uint32_t hub, uint32_t task)
+static int waiter_holds(const wide *w, uint32_t hub, uint32_t task)
 {
-    uint32_t kind = table[136 + hub * 4], count = table[137 + hub * 4];
-    uint32_t limit = table[138 + hub * 4];
+    uint32_t kind = w->hub[hub][0], count = w->hub[hub][1], limit = w->hub[hub][2];
 
-    for (uint32_t other = 0; other < table[1]; other++)
-        if (field(table, other, 3) == hub + 1 && field(table, other, 5) != field(table, task, 5))
+    for (uint32_t other = 0; other < w->contents[1]; other++)
+        if (w->task[other].hub == hub + 1 && w->task[other].side != w->task[task].side)
             return 0;
     if (kind == 3)
         return 1;
-    if (field(table, task, 5) == 1)
+    if (w->task[task].side == 1)
         return kind < 5 && count == limit;
     if (kind == 5)
-        return count != 0 && field(table, count - 1, 3) != hub + 1;
+        return count != 0 && w->task[count - 1].hub != hub + 1;
     return count == 0;
 }
 
 /* "A table whose Resource owner is inactive is now not well formed." */
-static int owner_holds(const uint32_t *table, uint32_t hub)
+static int owner_holds(const wide *w, uint32_t hub)
 {
-    for (uint32_t task = 0; task < table[1]; task++)
-        if (field(table, task, 0) == 1 && table[137 + hub * 4] == task + 1)
+    for (uint32_t task = 0; task < w->contents[1]; task++)
+        if (w->task[task].state == 1 && w->hub[hub][1] == task + 1)
             return 0;
     return 1;
 }
 
 /* "A FIFO's store holds its words ... Other stores are 0", and of a Board: "count 1
  * when written, the word in its store's first place, else count and store 0". */
-static int store_holds(const uint32_t *table, uint32_t hub)
+static int store_holds(const wide *w, uint32_t hub)
 {
-    uint32_t kind = table[136 + hub * 4], count = table[137 + hub * 4];
+    uint32_t kind = w->hub[hub][0], count = w->hub[hub][1];
     uint32_t most = kind == 4 ? count : kind == 6 && count == 1 ? 1 : 0;
 
     for (uint32_t i = 0; i < 8; i++)
-        if (table[472 + hub * 8 + i] != 0 && i >= most)
+        if (!is_zero(w->store[hub][i]) && i >= most)
             return 0;
     return 1;
 }
 
-static int hub_holds(const uint32_t *table, uint32_t hub)
+static int hub_holds(const wide *w, uint32_t hub)
 {
-    uint32_t kind = table[136 + hub * 4], count = table[137 + hub * 4];
-    uint32_t limit = table[138 + hub * 4], start = table[139 + hub * 4];
+    uint32_t kind = w->hub[hub][0], count = w->hub[hub][1];
+    uint32_t limit = w->hub[hub][2], start = w->hub[hub][3];
     int right = (kind == 1 && count <= 1 && limit == 1 && start == 0) ||
                 (kind == 2 && count <= limit && limit >= 1 && limit <= 65535 && start <= limit) ||
                 (kind == 3 && count == 0 && limit == 0 && start == 0) ||
                 (kind == 4 && count <= limit && limit >= 1 && limit <= 8 && start == 0) ||
-                (kind == 5 && count <= table[1] && limit == 1 && start == 0 &&
-                 owner_holds(table, hub)) ||
+                (kind == 5 && count <= w->contents[1] && limit == 1 && start == 0 &&
+                 owner_holds(w, hub)) ||
                 (kind == 6 && count <= 1 && limit == 1 && start == 0);
 
-    if (!right || !store_holds(table, hub))
+    if (!right || !store_holds(w, hub))
         return 0;
-    for (uint32_t task = 0; task < table[1]; task++)
-        if (field(table, task, 3) == hub + 1 && !waiter_holds(table, hub, task))
+    for (uint32_t task = 0; task < w->contents[1]; task++)
+        if (w->task[task].hub == hub + 1 && !waiter_holds(w, hub, task))
             return 0;
     return 1;
 }
 
-int expect_well_formed(const uint32_t *table)
+static int wide_holds(const wide *w, size_t words)
 {
-    int holds = contents_hold(table);
+    int holds = contents_hold(w, words);
 
-    for (uint32_t task = 0; holds && task < table[1]; task++)
-        holds = task_holds(table, task);
-    for (uint32_t hub = 0; holds && hub < table[2]; hub++)
-        holds = hub_holds(table, hub);
-    for (uint32_t list = 0; holds && list <= table[2]; list++)
-        holds = list_holds(table, list);
+    for (uint32_t task = 0; holds && task < w->contents[1]; task++)
+        holds = task_holds(w, &w->task[task]);
+    for (uint32_t hub = 0; holds && hub < w->contents[2]; hub++)
+        holds = hub_holds(w, hub);
+    for (uint32_t list = 0; holds && list <= w->contents[2]; list++)
+        holds = list_holds(w, list);
     return holds;
+}
+
+int expect_well_formed(const uint32_t *table, size_t words)
+{
+    wide w;
+
+    lay_wide(&w, table, words);
+    return wide_holds(&w, words);
 }
 
 /* ---- The table as things ----------------------------------------------- */
 
 typedef struct {
-    uint32_t state, suspended, priority, hub, ticks, side, word, answer;
+    uint32_t state, suspended, priority, hub, ticks, side;
+    pair word;
+    uint32_t answer;
     uint32_t rank; /* among equals of its list: less stands before */
 } thing_task;
 
 typedef struct {
     uint32_t kind, count, limit, start;
-    uint32_t held[9]; /* one more than a FIFO holds, so a word may come before one goes */
+    pair held[9]; /* one more than a FIFO holds, so a word may come before one goes */
 } thing_hub;
+
+static const pair nothing = {0, 0};
 
 typedef struct {
     uint32_t tasks, hubs, joined;
@@ -172,20 +279,31 @@ typedef struct {
     thing_hub hub[16];
 } world;
 
-static void read_world(world *w, const uint32_t *table)
+/* Of a well-formed table. */
+static void read_world(world *w, const uint32_t *table, size_t words)
 {
+    wide from;
+
+    lay_wide(&from, table, words);
     memset(w, 0, sizeof *w);
-    w->tasks = table[1];
-    w->hubs = table[2];
-    for (uint32_t i = 0; i < w->tasks; i++)
-        memcpy(&w->task[i], table + 8 + i * 8, 32);
-    for (uint32_t i = 0; i < w->hubs; i++) {
-        memcpy(&w->hub[i], table + 136 + i * 4, 16);
-        memcpy(w->hub[i].held, table + 472 + i * 8, 32);
+    w->tasks = from.contents[1];
+    w->hubs = from.contents[2];
+    for (uint32_t i = 0; i < w->tasks; i++) {
+        const written_task *t = &from.task[i];
+        w->task[i] = (thing_task){t->state, t->suspended, t->priority, t->hub,
+                                  t->ticks, t->side,      t->word,     t->answer, 0};
     }
-    for (uint32_t at = 200; at < 472; at++)
-        if (table[at] != 0)
-            w->task[table[at] - 1].rank = (at - 200) % 16;
+    for (uint32_t i = 0; i < w->hubs; i++) {
+        memcpy(&w->hub[i], from.hub[i], 16);
+        memcpy(w->hub[i].held, from.store[i], 64);
+    }
+    for (uint32_t i = 0; i < 16; i++) {
+        if (from.ready[i] != 0)
+            w->task[from.ready[i] - 1].rank = i;
+        for (uint32_t hub = 0; hub < w->hubs; hub++)
+            if (from.list[hub][i] != 0)
+                w->task[from.list[hub][i] - 1].rank = i;
+    }
     w->joined = 16;
 }
 
@@ -214,22 +332,26 @@ static void write_list(world *w, uint32_t *list, uint32_t state, uint32_t hub)
         *list++ = (uint32_t)(t - w->task) + 1;
 }
 
-static void write_world(world *w, uint32_t *table)
+static void write_world(world *w, uint32_t *table, size_t words)
 {
-    static const uint32_t contents[8] = {1, 0, 0, 8, 136, 200, 216, 472};
+    wide to;
 
-    memset(table, 0, 2400);
-    memcpy(table, contents, sizeof contents);
-    table[1] = w->tasks;
-    table[2] = w->hubs;
-    for (uint32_t i = 0; i < w->tasks; i++)
-        memcpy(table + 8 + i * 8, &w->task[i], 32);
-    write_list(w, table + 200, READY, 0);
-    for (uint32_t i = 0; i < w->hubs; i++) {
-        memcpy(table + 136 + i * 4, &w->hub[i], 16);
-        memcpy(table + 472 + i * 8, w->hub[i].held, 32);
-        write_list(w, table + 216 + i * 16, WAITING, i + 1);
+    memset(&to, 0, sizeof to);
+    memcpy(to.contents, contents_of[words == 744], 32);
+    to.contents[1] = w->tasks;
+    to.contents[2] = w->hubs;
+    for (uint32_t i = 0; i < w->tasks; i++) {
+        const thing_task *t = &w->task[i];
+        to.task[i] = (written_task){t->state, t->suspended, t->priority, t->hub,
+                                    t->ticks, t->side,      t->word,     t->answer};
     }
+    write_list(w, to.ready, READY, 0);
+    for (uint32_t i = 0; i < w->hubs; i++) {
+        memcpy(to.hub[i], &w->hub[i], 16);
+        memcpy(to.store[i], w->hub[i].held, 64);
+        write_list(w, to.list[i], WAITING, i + 1);
+    }
+    lay_words(&to, table, words);
 }
 
 static uint32_t next_of(world *w)
@@ -240,10 +362,10 @@ static uint32_t next_of(world *w)
     return t ? (uint32_t)(t - w->task) + 1 : 0;
 }
 
-uint32_t expect_next(const uint32_t *table)
+uint32_t expect_next(const uint32_t *table, size_t words)
 {
     world w;
-    read_world(&w, table);
+    read_world(&w, table, words);
     return next_of(&w);
 }
 
@@ -259,15 +381,15 @@ static int hub_may_be_added(uint32_t kind, uint32_t limit, uint32_t start)
 }
 
 /* Of a hub request the hub is in use. */
-static int argument_wrong(const uint32_t *table, const uint32_t *call)
+static int argument_wrong(const wide *w, const uint32_t *call)
 {
     uint32_t target = call[2], side = call[3], mode = call[4], ticks = call[5];
     int ticks_wrong = ticks - 1 >= 1000000;
 
     switch (call[0]) {
     case 1:
-        return side - 1 >= (table[136 + target * 4] == 6 ? 3 : 2) || mode - 1 > 2 ||
-               (mode == 3 ? ticks_wrong : ticks != 0);
+        return side - 1 >= (w->hub[target][0] == 6 ? 3 : 2) || mode - 1 > 2 ||
+               (mode == 3 ? ticks_wrong : ticks != 0) || (w->contents[0] == 1 && call[7] > 0);
     case 7:
         return ticks_wrong;
     case 9:
@@ -279,42 +401,46 @@ static int argument_wrong(const uint32_t *table, const uint32_t *call)
     }
 }
 
-uint32_t expect_refusal(const uint32_t *table, const uint32_t call[7])
+uint32_t expect_refusal(const uint32_t *table, size_t words, const uint32_t call[8])
 {
     uint32_t service = call[0];
+    wide w;
 
+    if (words != 600 && words != 744)
+        return 1;
     if (service == 0)
         return 0;
-    if (!expect_well_formed(table))
+    lay_wide(&w, table, words);
+    if (!wide_holds(&w, words))
         return 2;
     if (service > 10)
         return 3;
-    if (service <= 7 && (uint64_t)call[1] + 1 != expect_next(table))
+    if (service <= 7 && (uint64_t)call[1] + 1 != expect_next(table, words))
         return 4;
-    if (service == 1 && call[2] >= table[2])
+    if (service == 1 && call[2] >= w.contents[2])
         return 5;
-    if (service >= 2 && service <= 5 && call[2] >= table[1])
+    if (service >= 2 && service <= 5 && call[2] >= w.contents[1])
         return 5;
-    if (argument_wrong(table, call))
+    if (argument_wrong(&w, call))
         return 6;
-    if ((service == 9 && table[1] == 16) || (service == 10 && table[2] == 16))
+    if ((service == 9 && w.contents[1] == 16) || (service == 10 && w.contents[2] == 16))
         return 7;
     return 0;
 }
 
 /* ---- Calls ------------------------------------------------------------- */
 
-static void to_ready(world *w, thing_task *t, uint32_t answer, uint32_t word)
+static void to_ready(world *w, thing_task *t, uint32_t answer, pair word)
 {
     *t = (thing_task){READY, t->suspended, t->priority, 0, 0, 0, word, answer, w->joined++};
 }
 
-static uint32_t fifo_take(thing_hub *h)
+static pair fifo_take(thing_hub *h)
 {
-    uint32_t oldest = h->held[0];
+    pair oldest = h->held[0];
     for (int i = 0; i < 8; i++)
         h->held[i] = h->held[i + 1];
-    h->held[8] = 0;
+    h->held[8] = nothing;
     h->count--;
     return oldest;
 }
@@ -340,32 +466,34 @@ static int is_met(world *w, const thing_hub *h, uint32_t caller, uint32_t side, 
 
 /* Both sides of a met request as puts and gets on the hub, put first: a full
  * FIFO holds nine words for a moment, an empty one one. Gives the word got. */
-static uint32_t meet(world *w, thing_hub *h, const uint32_t *call, const thing_task *other)
+static pair meet(world *w, thing_hub *h, const uint32_t *call, const thing_task *other)
 {
     int puts = (call[3] == PUT) + (other && other->side == PUT);
     int gets = (call[3] == GET) + (other && other->side == GET);
-    uint32_t word = call[3] == PUT ? call[6] : other ? other->word : 0;
+    pair word = call[3] == PUT ? (pair){call[6], call[7]} : other ? other->word : nothing;
 
     switch (h->kind) {
     case EVENT:
     case SEMAPHORE:
         h->count += (uint32_t)(puts - gets);
-        return 0;
+        return nothing;
     case PORT:
         return word;
     case FIFO:
         if (puts)
             h->held[h->count++] = word;
-        return gets ? fifo_take(h) : 0;
+        return gets ? fifo_take(h) : nothing;
     case BOARD:
-        if (call[3] != GET)
-            h->count = h->held[0] = 0; /* a new word wipes the old one, too */
+        if (call[3] != GET) { /* a new word wipes the old one, too */
+            h->count = 0;
+            h->held[0] = nothing;
+        }
         if (call[3] == PUT)
             h->held[h->count++] = word;
         return h->held[0];
     default:
         h->count = call[3] == GET ? call[1] + 1 : other ? (uint32_t)(other - w->task) + 1 : 0;
-        return 0;
+        return nothing;
     }
 }
 
@@ -392,17 +520,18 @@ static void hub_request(world *w, const uint32_t *call)
     thing_hub *h = &w->hub[call[2]];
 
     if (is_met(w, h, call[1], call[3], &other)) {
-        uint32_t got = meet(w, h, call, other);
+        pair got = meet(w, h, call, other);
         c->answer = OK;
-        c->word = call[3] == GET ? got : 0;
+        c->word = call[3] == GET ? got : nothing;
         if (other)
-            to_ready(w, other, OK, other->side == GET ? got : 0);
+            to_ready(w, other, OK, other->side == GET ? got : nothing);
         show_board(w, h);
     } else if (call[4] == NW || fails(h, call)) {
         c->answer = FAIL;
-        c->word = 0;
+        c->word = nothing;
     } else {
-        uint32_t kept = call[3] == PUT && (h->kind == PORT || h->kind == FIFO) ? call[6] : 0;
+        int keeps = call[3] == PUT && (h->kind == PORT || h->kind == FIFO);
+        pair kept = keeps ? (pair){call[6], call[7]} : nothing;
         *c = (thing_task){WAITING, c->suspended, c->priority, call[2] + 1, call[5], call[3],
                           kept, 0, w->joined++};
     }
@@ -418,7 +547,7 @@ static void pass_locks(world *w, uint32_t stopped)
         h->count = 0;
         if (heir) {
             h->count = (uint32_t)(heir - w->task) + 1;
-            to_ready(w, heir, OK, 0);
+            to_ready(w, heir, OK, nothing);
         }
     }
 }
@@ -429,9 +558,9 @@ static void on_task(world *w, const uint32_t *call)
     int done = 0;
 
     if (call[0] == START && (done = t->state == INACTIVE))
-        to_ready(w, t, 0, 0);
+        to_ready(w, t, 0, nothing);
     if (call[0] == STOP && (done = t->state != INACTIVE && t != c)) {
-        *t = (thing_task){INACTIVE, 0, t->priority, 0, 0, 0, 0, 0, 0};
+        *t = (thing_task){INACTIVE, 0, t->priority, 0, 0, 0, nothing, 0, 0};
         pass_locks(w, call[2]);
     }
     if (call[0] == SUSPEND && (done = t->state != INACTIVE && t->suspended == 0 && t != c))
@@ -439,7 +568,7 @@ static void on_task(world *w, const uint32_t *call)
     if (call[0] == RESUME && (done = t->suspended == 1))
         t->suspended = 0;
     c->answer = done ? OK : FAIL;
-    c->word = 0;
+    c->word = nothing;
 }
 
 static void tick(world *w)
@@ -447,7 +576,7 @@ static void tick(world *w)
     for (uint32_t i = 0; i < w->tasks; i++) {
         thing_task *t = &w->task[i];
         if ((t->state == WAITING || t->state == SLEEPING) && t->ticks > 0 && --t->ticks == 0)
-            to_ready(w, t, TO, 0);
+            to_ready(w, t, TO, nothing);
     }
 }
 
@@ -462,10 +591,10 @@ static void serve(world *w, const uint32_t *call)
     case 6:
         c->rank = w->joined++;
         c->answer = OK;
-        c->word = 0;
+        c->word = nothing;
         break;
     case 7:
-        *c = (thing_task){SLEEPING, c->suspended, c->priority, 0, call[5], 0, 0, 0, 0};
+        *c = (thing_task){SLEEPING, c->suspended, c->priority, 0, call[5], 0, nothing, 0, 0};
         break;
     case 8:
         tick(w);
@@ -474,11 +603,11 @@ static void serve(world *w, const uint32_t *call)
         w->task[w->tasks].priority = call[2];
         w->task[w->tasks].state = INACTIVE;
         if (call[3] == 1)
-            to_ready(w, &w->task[w->tasks], 0, 0);
+            to_ready(w, &w->task[w->tasks], 0, nothing);
         w->tasks++;
         break;
     case 10:
-        w->hub[w->hubs++] = (thing_hub){call[2], call[6], call[5], call[6], {0}};
+        w->hub[w->hubs++] = (thing_hub){call[2], call[6], call[5], call[6], {{0, 0}}};
         break;
     default:
         on_task(w, call);
@@ -498,9 +627,9 @@ static uint32_t ahead_of(const world *w, const thing_task *waiter)
     return ahead;
 }
 
-second_reply expect_call(uint32_t table[600], const uint32_t call[7])
+second_reply expect_call(uint32_t *table, size_t words, const uint32_t call[8])
 {
-    second_reply reply = {expect_refusal(table, call), 0, 0, 0};
+    second_reply reply = {expect_refusal(table, words, call), 0, 0, 0};
     world w;
 
     if (reply.refusal != 0)
@@ -508,10 +637,10 @@ second_reply expect_call(uint32_t table[600], const uint32_t call[7])
     if (call[0] == BLANK) {
         memset(&w, 0, sizeof w);
     } else {
-        read_world(&w, table);
+        read_world(&w, table, words);
         serve(&w, call);
     }
-    write_world(&w, table);
+    write_world(&w, table, words);
     if (call[0] >= 1 && call[0] <= 7)
         reply.answer = w.task[call[1]].answer;
     reply.next = next_of(&w);
@@ -520,20 +649,53 @@ second_reply expect_call(uint32_t table[600], const uint32_t call[7])
     return reply;
 }
 
+/* ---- The moves --------------------------------------------------------- */
+
+/* The things are the same in both editions; only how they are written differs. */
+uint32_t expect_move(const uint32_t *from, size_t from_words, uint32_t *to, size_t to_words)
+{
+    world w;
+
+    if (from_words + to_words != 600 + 744 || (from_words != 600 && from_words != 744))
+        return 1;
+    if (!expect_well_formed(from, from_words))
+        return 2;
+    read_world(&w, from, from_words);
+    if (to_words == 600 && expect_high_words(from) > 0)
+        return 9;
+    write_world(&w, to, to_words);
+    return 0;
+}
+
+uint32_t expect_high_words(const uint32_t table[744])
+{
+    uint32_t high = 0;
+
+    for (int at = 8 + 7; at < 152; at += 9)
+        high += table[at] != 0;
+    for (int at = 488 + 1; at < 744; at += 2)
+        high += table[at] != 0;
+    return high;
+}
+
 /* ---- The listing ------------------------------------------------------- */
 
-/* A line of seven numbers of one digit has 14 bytes, its newline with them. */
+/* How a line's last numbers are written, and a line's bytes when each of its numbers has
+ * one digit, its newline with them: " 0\n" and 16 when lines have eight numbers. */
+#define NO_HIGH_WORD "\n"
+enum { SHORT_LINE = 14 };
+
 static size_t further_digits(uint32_t number)
 {
     return (number > 9) + (number > 99) + (number > 999) + (number > 9999);
 }
 
-size_t expect_listing_length(const uint32_t *table)
+size_t expect_listing_length(const uint32_t *table, size_t words)
 {
-    size_t length = 14 * (1 + (size_t)table[1] + table[2]);
+    size_t length = SHORT_LINE * (1 + (size_t)table[1] + table[2]);
     world w;
 
-    read_world(&w, table);
+    read_world(&w, table, words);
     for (uint32_t i = 0; i < w.tasks; i++)
         length += further_digits(w.task[i].priority);
     for (uint32_t i = 0; i < w.hubs; i++)
@@ -541,47 +703,52 @@ size_t expect_listing_length(const uint32_t *table)
     return length;
 }
 
-second_listing_reply expect_listing(const uint32_t *table, uint8_t *text, size_t room)
+second_listing_reply expect_listing(const uint32_t *table, size_t words, uint8_t *text, size_t room)
 {
-    char lines[1024] = "0 0 0 0 0 0 0\n", *end = lines + 14;
+    char lines[1024] = "0 0 0 0 0 0 0" NO_HIGH_WORD, *end = lines + SHORT_LINE;
     world w;
 
-    if (!expect_well_formed(table))
+    if (!expect_well_formed(table, words))
         return (second_listing_reply){2, 0};
-    if (room < expect_listing_length(table))
+    if (room < expect_listing_length(table, words))
         return (second_listing_reply){8, 0};
-    read_world(&w, table);
+    read_world(&w, table, words);
     for (uint32_t i = 0; i < w.tasks + w.hubs; i++) {
         const thing_hub *h = i < w.tasks ? NULL : &w.hub[i - w.tasks];
         if (h == NULL)
-            end += sprintf(end, "9 0 %lu 0 0 0 0\n", (unsigned long)w.task[i].priority);
+            end += sprintf(end, "9 0 %lu 0 0 0 0" NO_HIGH_WORD,
+                           (unsigned long)w.task[i].priority);
         else
-            end += sprintf(end, "10 0 %lu 0 0 %lu %lu\n", (unsigned long)h->kind,
+            end += sprintf(end, "10 0 %lu 0 0 %lu %lu" NO_HIGH_WORD, (unsigned long)h->kind,
                            (unsigned long)h->limit, (unsigned long)h->start);
     }
     memcpy(text, lines, (size_t)(end - lines));
     return (second_listing_reply){0, (uint32_t)(end - lines)};
 }
 
-void expect_stripped(const uint32_t *table, uint32_t stripped[600])
+void expect_stripped(const uint32_t *table, size_t words, uint32_t *stripped, size_t as_words)
 {
     world w;
 
-    read_world(&w, table);
+    read_world(&w, table, words);
     for (uint32_t i = 0; i < w.tasks; i++)
-        w.task[i] = (thing_task){INACTIVE, 0, w.task[i].priority, 0, 0, 0, 0, 0, 0};
+        w.task[i] = (thing_task){INACTIVE, 0, w.task[i].priority, 0, 0, 0, nothing, 0, 0};
     for (uint32_t i = 0; i < w.hubs; i++)
-        w.hub[i] = (thing_hub){w.hub[i].kind, w.hub[i].start, w.hub[i].limit, w.hub[i].start, {0}};
-    write_world(&w, stripped);
+        w.hub[i] = (thing_hub){w.hub[i].kind, w.hub[i].start, w.hub[i].limit, w.hub[i].start,
+                               {{0, 0}}};
+    write_world(&w, stripped, as_words);
 }
 
-int expect_same_set_up(const uint32_t *a, const uint32_t *b)
+int expect_same_set_up(const uint32_t *a, const uint32_t *b, size_t words)
 {
-    int same = a[1] == b[1] && a[2] == b[2];
+    wide of_a, of_b;
 
+    lay_wide(&of_a, a, words);
+    lay_wide(&of_b, b, words);
+    int same = a[1] == b[1] && a[2] == b[2];
     for (uint32_t i = 0; same && i < a[1]; i++)
-        same = field(a, i, 2) == field(b, i, 2);
-    for (uint32_t at = 136; same && at < 136 + 4 * a[2]; at++)
-        same = at % 4 == 1 || a[at] == b[at]; /* 137 and each fourth word on are counts */
+        same = of_a.task[i].priority == of_b.task[i].priority;
+    for (uint32_t at = 0; same && at < 4 * a[2]; at++) /* each fourth word from 1 on is a count */
+        same = at % 4 == 1 || of_a.hub[at / 4][at % 4] == of_b.hub[at / 4][at % 4];
     return same;
 }

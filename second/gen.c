@@ -69,6 +69,25 @@ static uint32_t any_word(gen_random *random)
                                   : gen_word(random);
 }
 
+/* A high word: none often, so that some messages have a low word only. */
+static uint32_t any_high(gen_random *random)
+{
+    return gen_chance(random, 30) ? 0 : any_word(random);
+}
+
+/* A message as a table of this edition holds it; edition 1 draws as it did before M-105. A
+ * high word without a low one comes up, too. */
+static uint64_t any_message(gen_random *random, uint32_t edition)
+{
+    uint64_t low = any_word(random);
+
+    if (edition == EDITION_1)
+        return low;
+    if (gen_chance(random, 15))
+        low = 0;
+    return low | (uint64_t)any_high(random) << 32;
+}
+
 /* ---- Reading the table ------------------------------------------------- */
 
 static uint32_t tasks_in_use(const uint32_t *table) { return table[TASKS_IN_USE_AT]; }
@@ -76,12 +95,31 @@ static uint32_t hubs_in_use(const uint32_t *table) { return table[HUBS_IN_USE_AT
 
 static uint32_t task_field(const uint32_t *table, uint32_t task, size_t field)
 {
-    return table[task_place(task) + field];
+    return table[field_place(table, task, field)];
+}
+
+static uint32_t edition_of(const uint32_t *table) { return layout_of(table)->edition; }
+
+static size_t store_words(const uint32_t *table)
+{
+    return HELD_MOST * layout_of(table)->message_words;
+}
+
+static void lay_message(uint32_t *table, size_t place, uint64_t message)
+{
+    table[place] = (uint32_t)message;
+    if (edition_of(table) == EDITION_2)
+        table[place + 1] = (uint32_t)(message >> 32);
+}
+
+static void draw_held(gen_random *random, uint32_t *table, uint32_t hub, uint32_t number)
+{
+    lay_message(table, held_place(table, hub, number), any_message(random, edition_of(table)));
 }
 
 static uint32_t hub_field(const uint32_t *table, uint32_t hub, size_t field)
 {
-    return table[hub_place(hub) + field];
+    return table[hub_place(table, hub) + field];
 }
 
 static uint32_t list_length(const uint32_t *list)
@@ -94,7 +132,7 @@ static uint32_t list_length(const uint32_t *list)
 
 static uint32_t running_task(const uint32_t *table)
 {
-    const uint32_t *list = table + READY_AT;
+    const uint32_t *list = table + ready_place(table);
     for (uint32_t i = 0; i < list_length(list); i++)
         if (task_field(table, list[i] - 1, T_SUSPENDED) == 0)
             return list[i] - 1;
@@ -157,6 +195,7 @@ void gen_turn(gen_random *random, gen_mood *mood)
 void gen_draw_mood_of(gen_random *random, gen_mood *mood, uint32_t kinds)
 {
     mood->kinds = kinds;
+    mood->high = 0;
     mood->tasks = gen_chance(random, 30) ? TASKS : from_to(random, 1, TASKS);
     mood->hubs = gen_chance(random, 20) ? HUBS : from_to(random, 1, 6);
     mood->priorities = ONE_OF(random, 1, 2, 4, PRIORITY_MAX + 1);
@@ -250,7 +289,7 @@ static void draw_request(gen_random *random, const gen_mood *mood, const uint32_
 
     call[C_SERVICE] = HUB_REQUEST;
     call[C_TARGET] = hub;
-    call[C_SIDE] = draw_side(random, mood, table + hub_place(hub), call[C_CALLER]);
+    call[C_SIDE] = draw_side(random, mood, table + hub_place(table, hub), call[C_CALLER]);
     call[C_WORD] = any_word(random);
     draw_mode(random, mood, table, call);
 }
@@ -459,29 +498,43 @@ static void draw_refused(gen_random *random, const gen_mood *mood, const uint32_
     }
 }
 
-/* Fields a service doesn't name are ignored, so they get anything. */
+/* Fields a service doesn't name are ignored, so they get anything; the high word comes
+ * last, since a table of edition 1 may be one for calls without it. */
 static void draw_ignored(gen_random *random, uint32_t *call)
 {
-    for (int i = 0; i < CALL_NUMBERS; i++)
+    for (int i = 0; i < C_HIGH; i++)
         call[i] = gen_chance(random, 50) ? 0 : any_word(random);
+    call[C_HIGH] = 0;
 }
 
-void gen_call(gen_random *random, const gen_mood *mood, const uint32_t *table, uint32_t call[7])
+/* A high word in so many percent of the calls, whatever the service, and then at times a
+ * hub request without a low word. Nothing is drawn for 0 percent. */
+static void draw_high(gen_random *random, uint32_t percent, uint32_t *call)
+{
+    if (percent == 0 || !gen_chance(random, percent))
+        return;
+    call[C_HIGH] = at_least(random, 1);
+    if (call[C_SERVICE] == HUB_REQUEST && gen_chance(random, 20))
+        call[C_WORD] = 0;
+}
+
+void gen_call(gen_random *random, const gen_mood *mood, const uint32_t *table, uint32_t call[8])
 {
     draw_ignored(random, call);
-    if (table[EDITION_AT] != EDITION)
+    if (table[EDITION_AT] != EDITION_1 && table[EDITION_AT] != EDITION_2)
         call[C_SERVICE] = BLANK;
     else if (gen_chance(random, mood->refused))
         draw_refused(random, mood, table, call);
     else
         draw_good(random, mood, table, call);
+    draw_high(random, mood->high, call);
 }
 
 /* ---- Well-formed tables ------------------------------------------------ */
 
 static void build_hub(gen_random *random, uint32_t *table, uint32_t number, uint32_t kind)
 {
-    uint32_t *hub = table + hub_place(number), *store = table + store_place(number);
+    uint32_t *hub = table + hub_place(table, number);
 
     hub[H_KIND] = kind;
     hub[H_LIMIT] = draw_limit(random, kind);
@@ -493,17 +546,17 @@ static void build_hub(gen_random *random, uint32_t *table, uint32_t number, uint
         hub[H_COUNT] = gen_chance(random, 80) ? ONE_OF(random, 0, hub[H_LIMIT])
                                               : gen_below(random, hub[H_LIMIT] + 1);
     for (uint32_t i = 0; (kind == FIFO || kind == BOARD) && i < hub[H_COUNT]; i++)
-        store[i] = any_word(random);
+        draw_held(random, table, number, i);
 }
 
 /* The side that may wait at the hub, or none. At a Port a parity decides that
  * is the same for all its waiters, so that its list holds one side only. */
 static uint32_t side_at(const uint32_t *table, uint32_t number, uint32_t task)
 {
-    const uint32_t *hub = table + hub_place(number);
+    const uint32_t *hub = table + hub_place(table, number);
 
     if (hub[H_KIND] == PORT)
-        return (number + table[task_place(0) + T_PRIORITY]) % 2 == 0 ? PUT : GET;
+        return (number + table[task_place(table, 0) + T_PRIORITY]) % 2 == 0 ? PUT : GET;
     if (hub[H_KIND] == RESOURCE)
         return hub[H_COUNT] != 0 && hub[H_COUNT] != task + 1 ? GET : NO_SIDE;
     if (hub[H_COUNT] == 0)
@@ -514,7 +567,7 @@ static uint32_t side_at(const uint32_t *table, uint32_t number, uint32_t task)
 /* Waiting at the hub if its rules let the task, else the record is left. */
 static void build_waiter(gen_random *random, uint32_t *table, uint32_t number, uint32_t hub)
 {
-    uint32_t *task = table + task_place(number), side = side_at(table, hub, number);
+    uint32_t *task = table + task_place(table, number), side = side_at(table, hub, number);
     uint32_t kind = hub_field(table, hub, H_KIND);
 
     if (side == NO_SIDE)
@@ -524,14 +577,15 @@ static void build_waiter(gen_random *random, uint32_t *table, uint32_t number, u
     task[T_SIDE] = side;
     task[T_TICKS] = ONE_OF(random, 0, 1, 2, 3, TICKS_MAX);
     if (side == PUT && (kind == PORT || kind == FIFO))
-        task[T_WORD] = any_word(random);
+        lay_message(table, task_place(table, number) + T_WORD,
+                    any_message(random, edition_of(table)));
 }
 
 /* With a chance of `waits` percent it waits at the hub. An owner isn't inactive. */
 static void build_task(gen_random *random, uint32_t *table, uint32_t number, uint32_t waits,
                        uint32_t hub)
 {
-    uint32_t *task = table + task_place(number);
+    uint32_t *task = table + task_place(table, number);
 
     task[T_STATE] = INACTIVE;
     if (hub < hubs_in_use(table) && gen_chance(random, waits))
@@ -541,9 +595,10 @@ static void build_task(gen_random *random, uint32_t *table, uint32_t number, uin
         if (task[T_STATE] == SLEEPING)
             task[T_TICKS] = ONE_OF(random, 1, 2, 3, TICKS_MAX);
         else
-            task[T_ANSWER] = from_to(random, NO_ANSWER, TO);
-        if (task[T_ANSWER] == OK)
-            task[T_WORD] = any_word(random);
+            table[field_place(table, number, T_ANSWER)] = from_to(random, NO_ANSWER, TO);
+        if (task_field(table, number, T_ANSWER) == OK)
+            lay_message(table, task_place(table, number) + T_WORD,
+                        any_message(random, edition_of(table)));
     }
     task[T_SUSPENDED] = task[T_STATE] != INACTIVE && gen_chance(random, 20);
 }
@@ -563,12 +618,14 @@ static void insert(gen_random *random, uint32_t *table, uint32_t *list, uint32_t
     list[at] = task + 1;
 }
 
-static void build_contents(uint32_t *table, uint32_t tasks, uint32_t hubs)
+static void build_contents(uint32_t *table, uint32_t edition, uint32_t tasks, uint32_t hubs)
 {
-    memset(table, 0, WORDS * sizeof *table);
+    const layout *of = &layouts[edition - EDITION_1];
+
+    memset(table, 0, of->words * sizeof *table);
     memcpy(table,
-           ((uint32_t[]){EDITION, tasks, hubs, TASKS_AT, HUBS_AT, READY_AT, WAITING_AT,
-                         STORES_AT}),
+           ((uint32_t[]){edition, tasks, hubs, TASKS_AT, of->hubs_at, of->ready_at, of->waiting_at,
+                         of->stores_at}),
            TASKS_AT * sizeof *table);
 }
 
@@ -576,17 +633,18 @@ static void build_priorities(gen_random *random, uint32_t *table, uint32_t prior
 {
     for (uint32_t task = 0; task < tasks_in_use(table); task++) {
         uint32_t lowest = gen_chance(random, 50) ? PRIORITY_MAX + 1 - priorities : 0;
-        table[task_place(task) + T_PRIORITY] = lowest + gen_below(random, priorities);
+        table[task_place(table, task) + T_PRIORITY] = lowest + gen_below(random, priorities);
     }
 }
 
 static void build_lists(gen_random *random, uint32_t *table)
 {
     for (uint32_t task = 0; task < tasks_in_use(table); task++) {
-        if (task_field(table, task, T_STATE) == READY)
-            insert(random, table, table + READY_AT, task);
-        else if (task_field(table, task, T_STATE) == WAITING)
-            insert(random, table, table + list_place(task_field(table, task, T_HUB) - 1), task);
+        uint32_t state = task_field(table, task, T_STATE), hub = task_field(table, task, T_HUB);
+        if (state == READY)
+            insert(random, table, table + ready_place(table), task);
+        else if (state == WAITING)
+            insert(random, table, table + list_place(table, hub - 1), task);
     }
 }
 
@@ -602,12 +660,12 @@ static void build_tasks(gen_random *random, uint32_t *table, const gen_mood *moo
     build_lists(random, table);
 }
 
-void gen_table(gen_random *random, uint32_t table[600])
+void gen_table(gen_random *random, uint32_t edition, uint32_t *table)
 {
     gen_mood mood;
 
     gen_draw_mood(random, &mood);
-    build_contents(table, mood.tasks, mood.hubs);
+    build_contents(table, edition, mood.tasks, mood.hubs);
     if (gen_chance(random, 2))
         table[gen_chance(random, 50) ? TASKS_IN_USE_AT : HUBS_IN_USE_AT] = 0;
 
@@ -628,7 +686,7 @@ static void build_locks(gen_random *random, uint32_t *table, uint32_t keeper, ui
                                                               : from_to(random, EVENT, FIFO);
         build_hub(random, table, hub, kind);
         if (kind == RESOURCE && gen_chance(random, kept))
-            table[hub_place(hub) + H_COUNT] = keeper + 1;
+            table[hub_place(table, hub) + H_COUNT] = keeper + 1;
     }
 }
 
@@ -647,14 +705,14 @@ static void build_queues(gen_random *random, uint32_t *table, uint32_t waits)
 /* Somebody has to run. */
 static void build_caller(uint32_t *table, uint32_t number)
 {
-    uint32_t *task = table + task_place(number), priority = task[T_PRIORITY];
+    uint32_t *task = table + task_place(table, number), priority = task[T_PRIORITY];
 
-    memset(task, 0, TASK_WORDS * sizeof *task);
+    memset(task, 0, layout_of(table)->task_words * sizeof *task);
     task[T_STATE] = READY;
     task[T_PRIORITY] = priority;
 }
 
-void gen_stop(gen_random *random, uint32_t table[600], uint32_t call[7])
+void gen_stop(gen_random *random, uint32_t edition, uint32_t *table, uint32_t call[8])
 {
     uint32_t keeper;
 
@@ -662,7 +720,7 @@ void gen_stop(gen_random *random, uint32_t table[600], uint32_t call[7])
         int all = gen_chance(random, 10); /* it owns 16, and all others but the caller wait */
         uint32_t tasks = all || gen_chance(random, 30) ? TASKS : from_to(random, 2, TASKS);
         uint32_t hubs = all || gen_chance(random, 30) ? HUBS : from_to(random, 1, 6);
-        build_contents(table, tasks, hubs);
+        build_contents(table, edition, tasks, hubs);
         build_priorities(random, table, ONE_OF(random, 1, 2, 4, PRIORITY_MAX + 1));
         keeper = gen_below(random, tasks);
         build_locks(random, table, keeper, all ? 100 : ONE_OF(random, 0, 15, 40, 80, 100));
@@ -674,6 +732,7 @@ void gen_stop(gen_random *random, uint32_t table[600], uint32_t call[7])
     call[C_SERVICE] = STOP;
     call[C_CALLER] = running_task(table);
     call[C_TARGET] = keeper;
+    draw_high(random, edition == EDITION_2 ? 50 : 0, call);
 }
 
 /* ---- Requests to Boards ------------------------------------------------ */
@@ -692,18 +751,19 @@ static void build_board(gen_random *random, uint32_t *table, uint32_t board, int
         uint32_t kind = hub == board ? (uint32_t)BOARD : from_to(random, EVENT, BOARD);
         build_hub(random, table, hub, kind);
     }
-    table[hub_place(board) + H_COUNT] = written ? 1 : 0;
-    table[store_place(board)] = written ? any_word(random) : 0;
+    table[hub_place(table, board) + H_COUNT] = written ? 1 : 0;
+    lay_message(table, store_place(table, board),
+                written ? any_message(random, edition_of(table)) : 0);
 }
 
-void gen_board(gen_random *random, uint32_t table[600], uint32_t call[7])
+void gen_board(gen_random *random, uint32_t edition, uint32_t *table, uint32_t call[8])
 {
     int all = gen_chance(random, 10); /* all but the caller wait to read */
     uint32_t tasks = all || gen_chance(random, 30) ? TASKS : from_to(random, 1, TASKS);
     uint32_t hubs = gen_chance(random, 30) ? HUBS : from_to(random, 1, 6);
     uint32_t board = gen_below(random, hubs), waits = ONE_OF(random, 0, 10, 30, 60, 90);
 
-    build_contents(table, tasks, hubs);
+    build_contents(table, edition, tasks, hubs);
     build_priorities(random, table, ONE_OF(random, 1, 2, 4, PRIORITY_MAX + 1));
     build_board(random, table, board, !all && gen_chance(random, 25));
     for (uint32_t task = 0; task < tasks; task++)
@@ -721,11 +781,12 @@ void gen_board(gen_random *random, uint32_t table[600], uint32_t call[7])
         call[C_TARGET] = gen_below(random, hubs);
         call[C_SIDE] = WIPE;
     }
+    draw_high(random, edition == EDITION_2 ? 60 : 0, call);
 }
 
 /* ---- Requests to hubs at which many wait ------------------------------- */
 
-void gen_ask(gen_random *random, const uint32_t *table, uint32_t hub, uint32_t call[7])
+void gen_ask(gen_random *random, const uint32_t *table, uint32_t hub, uint32_t call[8])
 {
     uint32_t caller = running_task(table), side = side_at(table, hub, caller);
 
@@ -737,6 +798,7 @@ void gen_ask(gen_random *random, const uint32_t *table, uint32_t hub, uint32_t c
     call[C_MODE] = ONE_OF(random, W, W, W, WT, WT, WT, WT, NW);
     call[C_TICKS] = call[C_MODE] == WT ? ONE_OF(random, 1, 2, 3, TICKS_MAX) : 0;
     call[C_WORD] = any_word(random);
+    draw_high(random, edition_of(table) == EDITION_2 ? 60 : 0, call);
 }
 
 /* So many percent wait at the hub, all numbers alike since every percentage is; the
@@ -749,7 +811,7 @@ static uint32_t build_queue(gen_random *random, uint32_t *table)
 
     build_priorities(random, table, ONE_OF(random, 1, 2, 4, PRIORITY_MAX + 1));
     if (gen_chance(random, 50))
-        table[task_place(caller) + T_PRIORITY] = PRIORITY_MAX;
+        table[task_place(table, caller) + T_PRIORITY] = PRIORITY_MAX;
     for (uint32_t number = 0; number < hubs_in_use(table); number++)
         build_hub(random, table, number, from_to(random, EVENT, BOARD));
     for (uint32_t task = 0; task < tasks_in_use(table); task++)
@@ -760,17 +822,58 @@ static uint32_t build_queue(gen_random *random, uint32_t *table)
 }
 
 /* Anew until the running task finds a hub at which it has to wait. */
-void gen_queue(gen_random *random, uint32_t table[600], uint32_t call[7])
+void gen_queue(gen_random *random, uint32_t edition, uint32_t *table, uint32_t call[8])
 {
     uint32_t hub;
 
     do {
         uint32_t tasks = gen_chance(random, 75) ? TASKS : from_to(random, 1, TASKS);
         uint32_t hubs = gen_chance(random, 20) ? HUBS : from_to(random, 1, 6);
-        build_contents(table, tasks, hubs);
+        build_contents(table, edition, tasks, hubs);
         hub = build_queue(random, table);
     } while (side_at(table, hub, running_task(table)) == NO_SIDE);
     gen_ask(random, table, hub, call);
+}
+
+/* ---- High words -------------------------------------------------------- */
+
+void gen_clear_high(uint32_t *table)
+{
+    for (uint32_t task = 0; task < tasks_in_use(table); task++)
+        table[field_place(table, task, T_HIGH)] = 0;
+    for (uint32_t hub = 0; hub < hubs_in_use(table); hub++)
+        for (uint32_t i = 0; i < HELD_MOST; i++)
+            table[held_place(table, hub, i) + 1] = 0;
+}
+
+static int may_have_message(const uint32_t *table, uint32_t task)
+{
+    uint32_t hub = task_field(table, task, T_HUB);
+    uint32_t kind = hub == 0 ? 0 : hub_field(table, hub - 1, H_KIND);
+
+    return task_field(table, task, T_ANSWER) == OK ||
+           (task_field(table, task, T_SIDE) == PUT && (kind == PORT || kind == FIFO));
+}
+
+int gen_one_high(gen_random *random, uint32_t *table)
+{
+    size_t places[TASKS + HUBS * HELD_MOST];
+    uint32_t count = 0;
+
+    for (uint32_t task = 0; task < tasks_in_use(table); task++)
+        if (may_have_message(table, task))
+            places[count++] = field_place(table, task, T_HIGH);
+    for (uint32_t hub = 0; hub < hubs_in_use(table); hub++) {
+        uint32_t kind = hub_field(table, hub, H_KIND);
+        for (uint32_t i = 0; (kind == FIFO || kind == BOARD) && i < hub_field(table, hub, H_COUNT);
+             i++)
+            places[count++] = held_place(table, hub, i) + 1;
+    }
+    if (count == 0)
+        return 0;
+    size_t place = places[gen_below(random, count)];
+    table[place] = at_least(random, 1);
+    return 1;
 }
 
 /* ---- Set-ups ----------------------------------------------------------- */
@@ -809,7 +912,7 @@ static void widen_semaphore(gen_random *random, uint32_t *hub, uint32_t least)
                                           : any_digits(random, 0, hub[H_LIMIT]);
 }
 
-void gen_set_up(gen_random *random, uint32_t table[600])
+void gen_set_up(gen_random *random, uint32_t edition, uint32_t *table)
 {
     int longest = gen_chance(random, 5);
     gen_mood mood;
@@ -817,26 +920,27 @@ void gen_set_up(gen_random *random, uint32_t table[600])
     gen_draw_mood(random, &mood);
     mood.tasks = longest ? TASKS : draw_size(random);
     mood.hubs = longest ? HUBS : draw_size(random);
-    build_contents(table, mood.tasks, mood.hubs);
+    build_contents(table, edition, mood.tasks, mood.hubs);
     for (uint32_t task = 0; task < mood.tasks; task++)
-        table[task_place(task) + T_PRIORITY] = any_digits(random, longest ? 100 : 0, PRIORITY_MAX);
+        table[task_place(table, task) + T_PRIORITY] =
+            any_digits(random, longest ? 100 : 0, PRIORITY_MAX);
     for (uint32_t hub = 0; hub < mood.hubs; hub++) {
         uint32_t kind = longest ? (uint32_t)SEMAPHORE : draw_kind(random, &mood);
         build_hub(random, table, hub, kind);
         if (kind == SEMAPHORE)
-            widen_semaphore(random, table + hub_place(hub), longest ? 10000 : 0);
+            widen_semaphore(random, table + hub_place(table, hub), longest ? 10000 : 0);
     }
     build_tasks(random, table, &mood);
 }
 
-int gen_change(gen_random *random, gen_place place, uint32_t table[600])
+int gen_change(gen_random *random, gen_place place, uint32_t *table)
 {
     uint32_t count = place == GEN_PRIORITY ? tasks_in_use(table) : hubs_in_use(table);
-    uint32_t number = gen_below(random, count), *hub = table + hub_place(number), *at, old;
+    uint32_t number = gen_below(random, count), *hub = table + hub_place(table, number), *at, old;
 
     if (count == 0)
         return 0;
-    at = place == GEN_PRIORITY ? table + task_place(number) + T_PRIORITY
+    at = place == GEN_PRIORITY ? table + task_place(table, number) + T_PRIORITY
          : place == GEN_KIND   ? hub + H_KIND
          : place == GEN_LIMIT  ? hub + H_LIMIT
                                : hub + H_START;
@@ -882,7 +986,7 @@ static void take_out(uint32_t *list, uint32_t at)
 
 static uint32_t *list_of(uint32_t *table, uint32_t task)
 {
-    return table + list_place(task_field(table, task, T_HUB) - 1);
+    return table + list_place(table, task_field(table, task, T_HUB) - 1);
 }
 
 static uint32_t place_in(const uint32_t *list, uint32_t task)
@@ -902,7 +1006,7 @@ static uint32_t pick_hub(gen_random *random, const uint32_t *table, uint32_t kin
     for (uint32_t i = 0; i < hubs; i++) {
         uint32_t hub = (first + i) % hubs;
         if ((kind == ANY || hub_field(table, hub, H_KIND) == kind) &&
-            list_length(table + list_place(hub)) >= waiters)
+            list_length(table + list_place(table, hub)) >= waiters)
             return hub;
     }
     return NOBODY;
@@ -914,11 +1018,11 @@ static uint32_t pick_quiet_hub(gen_random *random, uint32_t *table, uint32_t kin
 {
     uint32_t hub = pick_hub(random, table, kind, 0);
 
-    if (hub == NOBODY || table[list_place(hub)] != 0)
+    if (hub == NOBODY || table[list_place(table, hub)] != 0)
         return NOBODY;
-    table[hub_place(hub) + H_COUNT] = 0;
-    table[hub_place(hub) + H_START] = 0;
-    memset(table + store_place(hub), 0, STORE_WORDS * sizeof *table);
+    table[hub_place(table, hub) + H_COUNT] = 0;
+    table[hub_place(table, hub) + H_START] = 0;
+    memset(table + store_place(table, hub), 0, store_words(table) * sizeof *table);
     return hub;
 }
 
@@ -928,7 +1032,7 @@ static uint32_t pick_sided_hub(gen_random *random, const uint32_t *table, uint32
 {
     uint32_t hub = pick_hub(random, table, kind, waiters);
 
-    if (hub == NOBODY || task_field(table, table[list_place(hub)] - 1, T_SIDE) != side)
+    if (hub == NOBODY || task_field(table, table[list_place(table, hub)] - 1, T_SIDE) != side)
         return NOBODY;
     return hub;
 }
@@ -944,6 +1048,39 @@ static int spoil_contents(gen_random *random, uint32_t *table, const damage *fam
     else
         table[family->which] = gen_chance(random, 50) ? right + 1 : gen_word(random);
     return table[family->which] != right;
+}
+
+/* What the other edition has in its contents: `which` says whether that is the edition,
+ * the starts, of which the first is the same in both, one of them, or edition and starts. */
+enum { OTHER_EDITION = 1, OTHER_STARTS = 2, OTHER_START = 4 };
+
+static int others_contents(gen_random *random, uint32_t *table, const damage *family)
+{
+    const layout *other = &layouts[EDITION_2 - edition_of(table)];
+    const uint32_t starts[] = {TASKS_AT, other->hubs_at, other->ready_at, other->waiting_at,
+                               other->stores_at};
+
+    if ((family->which & OTHER_START) != 0) {
+        uint32_t one = from_to(random, 1, 4);
+        table[STARTS_AT + one] = starts[one];
+    }
+    if ((family->which & OTHER_STARTS) != 0)
+        memcpy(table + STARTS_AT, starts, sizeof starts);
+    if ((family->which & OTHER_EDITION) != 0)
+        table[EDITION_AT] = other->edition;
+    return 1;
+}
+
+/* A whole table of the other edition, cut short or with zeros behind it. */
+static int others_table(gen_random *random, uint32_t *table, const damage *family)
+{
+    const layout *of = layout_of(table), *other = &layouts[EDITION_2 - of->edition];
+    uint32_t drawn[WORDS_MOST] = {0};
+
+    (void)family;
+    gen_table(random, other->edition, drawn);
+    memcpy(table, drawn, of->words * sizeof *table);
+    return 1;
 }
 
 static int one_task_less(gen_random *random, uint32_t *table, const damage *family)
@@ -962,7 +1099,7 @@ static int one_hub_less(gen_random *random, uint32_t *table, const damage *famil
     uint32_t hubs = hubs_in_use(table);
 
     (void)random, (void)family;
-    if (hubs == 0 || table[list_place(hubs - 1)] != 0)
+    if (hubs == 0 || table[list_place(table, hubs - 1)] != 0)
         return 0;
     table[HUBS_IN_USE_AT]--;
     return 1;
@@ -974,16 +1111,27 @@ static int one_more(gen_random *random, uint32_t *table, const damage *family)
     return ++table[family->which] <= TASKS;
 }
 
-/* A word in the unused part of a body: which is its start, field the words of
- * one part, least where its number in use stands. */
+/* A word in the unused part of a body; with field 1 a high word. */
+enum { TASK_BODY, HUB_BODY, LIST_BODY, STORE_BODY };
+
 static int spoil_unused(gen_random *random, uint32_t *table, const damage *family)
 {
-    uint32_t in_use = table[family->least];
+    const uint32_t starts[] = {TASKS_AT, (uint32_t)hub_place(table, 0),
+                               (uint32_t)list_place(table, 0), (uint32_t)store_place(table, 0)};
+    const uint32_t words[] = {layout_of(table)->task_words, HUB_WORDS, LIST_WORDS,
+                              (uint32_t)store_words(table)};
+    uint32_t in_use = family->which == TASK_BODY ? tasks_in_use(table) : hubs_in_use(table);
+    uint32_t part = words[family->which], *at;
 
     if (in_use == TASKS)
         return 0;
-    uint32_t at = from_to(random, in_use * family->field, TASKS * family->field - 1);
-    table[family->which + at] = at_least(random, 1);
+    at = table + starts[family->which] + from_to(random, in_use * part, TASKS * part - 1);
+    if (family->field == 1 && family->which == TASK_BODY)
+        at = table + field_place(table, from_to(random, in_use, TASKS - 1), T_HIGH);
+    if (family->field == 1 && family->which == STORE_BODY)
+        at = table + held_place(table, from_to(random, in_use, HUBS - 1),
+                                gen_below(random, HELD_MOST)) + 1;
+    *at = at_least(random, 1);
     return 1;
 }
 
@@ -995,7 +1143,7 @@ static int spoil_task(gen_random *random, uint32_t *table, const damage *family)
 
     if (task == NOBODY)
         return 0;
-    table[task_place(task) + family->field] = at_least(random, family->least);
+    table[field_place(table, task, family->field)] = at_least(random, family->least);
     return 1;
 }
 
@@ -1005,7 +1153,7 @@ static int clear_task_field(gen_random *random, uint32_t *table, const damage *f
 
     if (task == NOBODY)
         return 0;
-    table[task_place(task) + family->field] = 0;
+    table[field_place(table, task, family->field)] = 0;
     return 1;
 }
 
@@ -1016,19 +1164,20 @@ static int suspend_inactive(gen_random *random, uint32_t *table, const damage *f
     (void)family;
     if (task == NOBODY)
         return 0;
-    table[task_place(task) + T_SUSPENDED] = 1;
+    table[task_place(table, task) + T_SUSPENDED] = 1;
     return 1;
 }
 
-/* Ready, with a word, answer which. */
+/* Ready, with a word (with field 1 a high word only), answer which. */
 static int word_without_ok(gen_random *random, uint32_t *table, const damage *family)
 {
     uint32_t task = pick_task(random, table, T_STATE, READY);
 
     if (task == NOBODY)
         return 0;
-    table[task_place(task) + T_WORD] = at_least(random, 1);
-    table[task_place(task) + T_ANSWER] = family->which;
+    lay_message(table, task_place(table, task) + T_WORD, 0);
+    table[field_place(table, task, family->field == 1 ? T_HIGH : T_WORD)] = at_least(random, 1);
+    table[field_place(table, task, T_ANSWER)] = family->which;
     return 1;
 }
 
@@ -1040,19 +1189,21 @@ static int waits_nowhere(gen_random *random, uint32_t *table, const damage *fami
     if (task == NOBODY)
         return 0;
     take_out(list_of(table, task), place_in(list_of(table, task), task));
-    table[task_place(task) + T_HUB] =
+    table[task_place(table, task) + T_HUB] =
         family->which == 0 ? 0 : at_least(random, hubs_in_use(table) + 1);
     return 1;
 }
 
-/* A waiter of side field at kind which has a word it may not have. */
+/* A waiter of side field at kind which has a word it may not have; with least 1 a high
+ * word. */
 static int waits_with_word(gen_random *random, uint32_t *table, const damage *family)
 {
     uint32_t hub = pick_sided_hub(random, table, family->which, family->field, 1);
 
     if (hub == NOBODY)
         return 0;
-    table[task_place(table[list_place(hub)] - 1) + T_WORD] = at_least(random, 1);
+    table[field_place(table, table[list_place(table, hub)] - 1,
+                      family->least == 1 ? T_HIGH : T_WORD)] = at_least(random, 1);
     return 1;
 }
 
@@ -1064,8 +1215,8 @@ static int wiper_waits(gen_random *random, uint32_t *table, const damage *family
     (void)family;
     if (hub == NOBODY)
         return 0;
-    const uint32_t *list = table + list_place(hub);
-    table[task_place(list[gen_below(random, list_length(list))] - 1) + T_SIDE] = WIPE;
+    const uint32_t *list = table + list_place(table, hub);
+    table[task_place(table, list[gen_below(random, list_length(list))] - 1) + T_SIDE] = WIPE;
     return 1;
 }
 
@@ -1077,7 +1228,7 @@ static int spoil_hub(gen_random *random, uint32_t *table, const damage *family)
 
     if (hub == NOBODY)
         return 0;
-    table[hub_place(hub) + family->field] = at_least(random, family->least);
+    table[hub_place(table, hub) + family->field] = at_least(random, family->least);
     return 1;
 }
 
@@ -1087,7 +1238,7 @@ static int clear_hub_field(gen_random *random, uint32_t *table, const damage *fa
 
     if (hub == NOBODY)
         return 0;
-    table[hub_place(hub) + family->field] = 0;
+    table[hub_place(table, hub) + family->field] = 0;
     return 1;
 }
 
@@ -1097,7 +1248,8 @@ static int above_limit(gen_random *random, uint32_t *table, const damage *family
 
     if (hub == NOBODY)
         return 0;
-    table[hub_place(hub) + family->field] = at_least(random, hub_field(table, hub, H_LIMIT) + 1);
+    table[hub_place(table, hub) + family->field] =
+        at_least(random, hub_field(table, hub, H_LIMIT) + 1);
     return 1;
 }
 
@@ -1109,9 +1261,9 @@ static int overfull_fifo(gen_random *random, uint32_t *table, const damage *fami
     (void)family;
     if (hub == NOBODY || hub_field(table, hub, H_LIMIT) == FIFO_MAX)
         return 0;
-    table[hub_place(hub) + H_COUNT] = hub_field(table, hub, H_LIMIT) + 1;
+    table[hub_place(table, hub) + H_COUNT] = hub_field(table, hub, H_LIMIT) + 1;
     for (uint32_t i = 0; i < hub_field(table, hub, H_COUNT); i++)
-        table[store_place(hub) + i] = any_word(random);
+        draw_held(random, table, hub, i);
     return 1;
 }
 
@@ -1123,9 +1275,9 @@ static int two_words_on_board(gen_random *random, uint32_t *table, const damage 
     (void)family;
     if (hub == NOBODY)
         return 0;
-    table[hub_place(hub) + H_COUNT] = 2;
+    table[hub_place(table, hub) + H_COUNT] = 2;
     for (uint32_t i = 0; i < 2; i++)
-        table[store_place(hub) + i] = any_word(random);
+        draw_held(random, table, hub, i);
     return 1;
 }
 
@@ -1136,7 +1288,7 @@ static int owner_not_in_use(gen_random *random, uint32_t *table, const damage *f
     (void)family;
     if (hub == NOBODY)
         return 0;
-    table[hub_place(hub) + H_COUNT] = at_least(random, tasks_in_use(table) + 1);
+    table[hub_place(table, hub) + H_COUNT] = at_least(random, tasks_in_use(table) + 1);
     return 1;
 }
 
@@ -1149,7 +1301,7 @@ static int owner_inactive(gen_random *random, uint32_t *table, const damage *fam
 
     if (hub == NOBODY || task == NOBODY)
         return 0;
-    table[hub_place(hub) + H_COUNT] = task + 1;
+    table[hub_place(table, hub) + H_COUNT] = task + 1;
     return 1;
 }
 
@@ -1161,12 +1313,12 @@ static int owner_stopped(gen_random *random, uint32_t *table, const damage *fami
     (void)family;
     if (owner == NOBODY)
         return 0;
-    uint32_t *task = table + task_place(owner), priority = task[T_PRIORITY];
+    uint32_t *task = table + task_place(table, owner), priority = task[T_PRIORITY];
     if (task[T_STATE] != SLEEPING) {
-        list = task[T_STATE] == READY ? table + READY_AT : list_of(table, owner);
+        list = task[T_STATE] == READY ? table + ready_place(table) : list_of(table, owner);
         take_out(list, place_in(list, owner));
     }
-    memset(task, 0, TASK_WORDS * sizeof *task);
+    memset(task, 0, layout_of(table)->task_words * sizeof *task);
     task[T_STATE] = INACTIVE;
     task[T_PRIORITY] = priority;
     return 1;
@@ -1177,13 +1329,13 @@ static int owner_stopped(gen_random *random, uint32_t *table, const damage *fami
 static uint32_t *pick_list(gen_random *random, uint32_t *table, const damage *family,
                            uint32_t least, uint32_t most)
 {
-    uint32_t *list = table + READY_AT;
+    uint32_t *list = table + ready_place(table);
 
     if (family->which == WAITING) {
         uint32_t hub = pick_hub(random, table, ANY, least);
         if (hub == NOBODY)
             return NULL;
-        list = table + list_place(hub);
+        list = table + list_place(table, hub);
     }
     return list_length(list) >= least && list_length(list) <= most ? list : NULL;
 }
@@ -1259,7 +1411,7 @@ static int in_another_list(gen_random *random, uint32_t *table, const damage *fa
     if (task == NOBODY || hub == task_field(table, task, T_HUB) - 1)
         return 0;
     take_out(list_of(table, task), place_in(list_of(table, task), task));
-    insert(random, table, table + list_place(hub), task);
+    insert(random, table, table + list_place(table, hub), task);
     return 1;
 }
 
@@ -1309,10 +1461,10 @@ static int two_sides(gen_random *random, uint32_t *table, const damage *family)
 
     if (hub == NOBODY)
         return 0;
-    const uint32_t *list = table + list_place(hub);
-    uint32_t *task = table + task_place(list[gen_below(random, list_length(list))] - 1);
+    const uint32_t *list = table + list_place(table, hub);
+    uint32_t *task = table + task_place(table, list[gen_below(random, list_length(list))] - 1);
     task[T_SIDE] = task[T_SIDE] == PUT ? GET : PUT;
-    task[T_WORD] = 0;
+    lay_message(table, (size_t)(task - table) + T_WORD, 0);
     return 1;
 }
 
@@ -1324,10 +1476,10 @@ static int getters_at_something(gen_random *random, uint32_t *table, const damag
 
     if (hub == NOBODY)
         return 0;
-    table[hub_place(hub) + H_COUNT] = from_to(random, 1, hub_field(table, hub, H_LIMIT));
+    table[hub_place(table, hub) + H_COUNT] = from_to(random, 1, hub_field(table, hub, H_LIMIT));
     for (uint32_t i = 0; (family->which == FIFO || family->which == BOARD) &&
                          i < hub_field(table, hub, H_COUNT); i++)
-        table[store_place(hub) + i] = any_word(random);
+        draw_held(random, table, hub, i);
     return 1;
 }
 
@@ -1338,7 +1490,7 @@ static int getters_at_free(gen_random *random, uint32_t *table, const damage *fa
     (void)family;
     if (hub == NOBODY)
         return 0;
-    table[hub_place(hub) + H_COUNT] = 0;
+    table[hub_place(table, hub) + H_COUNT] = 0;
     return 1;
 }
 
@@ -1349,8 +1501,8 @@ static int owner_waits(gen_random *random, uint32_t *table, const damage *family
     (void)family;
     if (hub == NOBODY)
         return 0;
-    const uint32_t *list = table + list_place(hub);
-    table[hub_place(hub) + H_COUNT] = list[gen_below(random, list_length(list))];
+    const uint32_t *list = table + list_place(table, hub);
+    table[hub_place(table, hub) + H_COUNT] = list[gen_below(random, list_length(list))];
     return 1;
 }
 
@@ -1362,9 +1514,9 @@ static int putters_below_limit(gen_random *random, uint32_t *table, const damage
     if (hub == NOBODY)
         return 0;
     uint32_t count = gen_below(random, hub_field(table, hub, H_LIMIT));
-    table[hub_place(hub) + H_COUNT] = count;
-    if (family->which == FIFO)
-        memset(table + store_place(hub) + count, 0, (STORE_WORDS - count) * sizeof *table);
+    table[hub_place(table, hub) + H_COUNT] = count;
+    for (uint32_t i = count; family->which == FIFO && i < HELD_MOST; i++)
+        lay_message(table, held_place(table, hub, i), 0);
     return 1;
 }
 
@@ -1376,12 +1528,12 @@ static int putters_for_getters(gen_random *random, uint32_t *table, const damage
 
     if (hub == NOBODY)
         return 0;
-    const uint32_t *list = table + list_place(hub);
+    const uint32_t *list = table + list_place(table, hub);
     for (uint32_t i = 0; i < list_length(list); i++)
-        table[task_place(list[i] - 1) + T_SIDE] = PUT;
+        table[task_place(table, list[i] - 1) + T_SIDE] = PUT;
     if (family->field == 1) {
-        table[hub_place(hub) + H_COUNT] = 1;
-        table[store_place(hub)] = any_word(random);
+        table[hub_place(table, hub) + H_COUNT] = 1;
+        draw_held(random, table, hub, 0);
     }
     return 1;
 }
@@ -1395,10 +1547,28 @@ static int word_in_store(gen_random *random, uint32_t *table, const damage *fami
     if (hub == NOBODY)
         return 0;
     uint32_t held = family->which == FIFO ? hub_field(table, hub, H_COUNT) : 0;
-    if (held == STORE_WORDS)
+    if (held == HELD_MOST)
         return 0;
-    uint32_t at = from_to(random, held, STORE_WORDS - 1);
-    table[store_place(hub) + at] = at_least(random, 1);
+    uint32_t words = (uint32_t)store_words(table);
+    uint32_t at = from_to(random, held * words / HELD_MOST, words - 1);
+    table[store_place(table, hub) + at] = at_least(random, 1);
+    return 1;
+}
+
+/* A high word alone behind what the hub of kind which holds; a Board that holds so many
+ * as `field` says. */
+static int high_in_store(gen_random *random, uint32_t *table, const damage *family)
+{
+    uint32_t hub = pick_hub(random, table, family->which, 0), held = 0;
+
+    if (hub == NOBODY)
+        return 0;
+    if (family->which == FIFO || family->which == BOARD)
+        held = hub_field(table, hub, H_COUNT);
+    if (held == HELD_MOST || (family->which == BOARD && held != family->field))
+        return 0;
+    uint32_t at = gen_chance(random, 50) ? held : from_to(random, held, HELD_MOST - 1);
+    table[held_place(table, hub, at) + 1] = at_least(random, 1);
     return 1;
 }
 
@@ -1410,9 +1580,9 @@ static int word_on_board(gen_random *random, uint32_t *table, const damage *fami
 
     if (hub == NOBODY || hub_field(table, hub, H_COUNT) != family->field)
         return 0;
-    uint32_t at = gen_chance(random, 50) ? family->field
-                                         : from_to(random, family->field, STORE_WORDS - 1);
-    table[store_place(hub) + at] = at_least(random, 1);
+    uint32_t words = (uint32_t)store_words(table), least = family->field * words / HELD_MOST;
+    uint32_t at = gen_chance(random, 50) ? least : from_to(random, least, words - 1);
+    table[store_place(table, hub) + at] = at_least(random, 1);
     return 1;
 }
 
@@ -1428,10 +1598,10 @@ static const damage damages[] = {
 
     {"unused: one task less", SECOND_UNUSED, one_task_less, 0, 0, 0},
     {"unused: one hub less", SECOND_UNUSED, one_hub_less, 0, 0, 0},
-    {"unused: task record", SECOND_UNUSED, spoil_unused, TASKS_AT, TASK_WORDS, TASKS_IN_USE_AT},
-    {"unused: hub record", SECOND_UNUSED, spoil_unused, HUBS_AT, HUB_WORDS, HUBS_IN_USE_AT},
-    {"unused: waiting list", SECOND_UNUSED, spoil_unused, WAITING_AT, LIST_WORDS, HUBS_IN_USE_AT},
-    {"unused: store", SECOND_UNUSED, spoil_unused, STORES_AT, STORE_WORDS, HUBS_IN_USE_AT},
+    {"unused: task record", SECOND_UNUSED, spoil_unused, TASK_BODY, 0, 0},
+    {"unused: hub record", SECOND_UNUSED, spoil_unused, HUB_BODY, 0, 0},
+    {"unused: waiting list", SECOND_UNUSED, spoil_unused, LIST_BODY, 0, 0},
+    {"unused: store", SECOND_UNUSED, spoil_unused, STORE_BODY, 0, 0},
 
     {"task: one more than there are", SECOND_TASK_RANGE, one_more, TASKS_IN_USE_AT, 0, 0},
     {"task: state 0", SECOND_TASK_RANGE, clear_task_field, INACTIVE, T_STATE, 0},
@@ -1566,23 +1736,68 @@ static const damage damages[] = {
     {"store: Resource", SECOND_STORE, word_in_store, RESOURCE, 0, 0},
     {"store: Board without a word", SECOND_STORE, word_on_board, 0, 0, 0},
     {"store: Board, a second word", SECOND_STORE, word_on_board, 0, 1, 0},
+
+    {"contents: the other edition", SECOND_CONTENTS, others_contents, OTHER_EDITION, 0, 0},
+    {"contents: the other edition's starts", SECOND_CONTENTS, others_contents, OTHER_STARTS, 0, 0},
+    {"contents: a start of the other edition", SECOND_CONTENTS, others_contents, OTHER_START, 0, 0},
+    {"contents: the other edition and its starts", SECOND_CONTENTS, others_contents,
+     OTHER_EDITION + OTHER_STARTS, 0, 0},
+    {"contents: a table of the other edition", SECOND_CONTENTS, others_table, 0, 0, 0},
 };
 
-size_t gen_damages(void) { return sizeof damages / sizeof *damages; }
-const char *gen_damage_name(size_t family) { return damages[family].name; }
-int gen_damage_clause(size_t family) { return damages[family].clause; }
+/* Edition 2 only: a high word where the message is 0. */
+static const damage high_damages[] = {
+    {"unused: task record, high word", SECOND_UNUSED, spoil_unused, TASK_BODY, 1, 0},
+    {"unused: store, high word", SECOND_UNUSED, spoil_unused, STORE_BODY, 1, 0},
+    {"inactive: high word", SECOND_INACTIVE, spoil_task, INACTIVE, T_HIGH, 1},
+    {"ready: high word with answer 0", SECOND_READY, word_without_ok, NO_ANSWER, 1, 0},
+    {"ready: high word with answer 2", SECOND_READY, word_without_ok, FAIL, 1, 0},
+    {"ready: high word with answer 3", SECOND_READY, word_without_ok, TO, 1, 0},
+    {"waiting: high word, Event put", SECOND_WAITING, waits_with_word, EVENT, PUT, 1},
+    {"waiting: high word, Event get", SECOND_WAITING, waits_with_word, EVENT, GET, 1},
+    {"waiting: high word, Semaphore put", SECOND_WAITING, waits_with_word, SEMAPHORE, PUT, 1},
+    {"waiting: high word, Semaphore get", SECOND_WAITING, waits_with_word, SEMAPHORE, GET, 1},
+    {"waiting: high word, Port get", SECOND_WAITING, waits_with_word, PORT, GET, 1},
+    {"waiting: high word, FIFO get", SECOND_WAITING, waits_with_word, FIFO, GET, 1},
+    {"waiting: high word, Resource get", SECOND_WAITING, waits_with_word, RESOURCE, GET, 1},
+    {"waiting: high word, Board read", SECOND_WAITING, waits_with_word, BOARD, GET, 1},
+    {"sleeping: high word", SECOND_SLEEPING, spoil_task, SLEEPING, T_HIGH, 1},
+    {"store: Event, high word", SECOND_STORE, high_in_store, EVENT, 0, 0},
+    {"store: Semaphore, high word", SECOND_STORE, high_in_store, SEMAPHORE, 0, 0},
+    {"store: Port, high word", SECOND_STORE, high_in_store, PORT, 0, 0},
+    {"store: FIFO, high word behind its words", SECOND_STORE, high_in_store, FIFO, 0, 0},
+    {"store: Resource, high word", SECOND_STORE, high_in_store, RESOURCE, 0, 0},
+    {"store: Board without a word, high word", SECOND_STORE, high_in_store, BOARD, 0, 0},
+    {"store: Board, a second high word", SECOND_STORE, high_in_store, BOARD, 1, 0},
+};
 
-void gen_damaged(gen_random *random, size_t family, uint32_t table[600])
+enum {
+    BOTH = sizeof damages / sizeof *damages,
+    HIGH_ONLY = sizeof high_damages / sizeof *high_damages
+};
+
+static const damage *family_of(size_t number)
 {
-    do
-        gen_table(random, table);
-    while (!damages[family].make(random, table, &damages[family]));
+    return number < BOTH ? &damages[number] : &high_damages[number - BOTH];
 }
 
-void gen_flip(gen_random *random, uint32_t table[600])
+size_t gen_damages(uint32_t edition) { return edition == EDITION_1 ? BOTH : BOTH + HIGH_ONLY; }
+const char *gen_damage_name(size_t family) { return family_of(family)->name; }
+int gen_damage_clause(size_t family) { return family_of(family)->clause; }
+
+void gen_damaged(gen_random *random, uint32_t edition, size_t family, uint32_t *table)
 {
+    do
+        gen_table(random, edition, table);
+    while (!family_of(family)->make(random, table, family_of(family)));
+}
+
+void gen_flip(gen_random *random, uint32_t *table)
+{
+    uint32_t words = layout_of(table)->words;
+
     for (uint32_t flips = from_to(random, 1, 3); flips > 0; flips--) {
-        uint32_t *word = table + gen_below(random, WORDS);
+        uint32_t *word = table + gen_below(random, words);
         switch (gen_below(random, 4)) {
         case 0:
             *word = gen_below(random, 17);
@@ -1591,7 +1806,7 @@ void gen_flip(gen_random *random, uint32_t table[600])
             *word += ONE_OF(random, 1, UINT32_MAX);
             break;
         case 2:
-            *word = table[gen_below(random, WORDS)];
+            *word = table[gen_below(random, words)];
             break;
         default:
             *word = any_word(random);
@@ -1616,6 +1831,16 @@ static size_t number_start(gen_random *random, const uint8_t *line, size_t lengt
     while (at > 0 && line[at - 1] != ' ')
         at--;
     return at;
+}
+
+/* So many numbers 0 more. */
+static size_t zeros_behind(uint8_t *line, size_t length, int count)
+{
+    for (; count > 0; count--) {
+        line[length++] = ' ';
+        line[length++] = '0';
+    }
+    return length;
 }
 
 /* Each case makes a good line bad for one cause. */
@@ -1643,35 +1868,42 @@ static size_t damage_line(gen_random *random, uint8_t *line, size_t length)
         else
             line[at] = '-';
         return length;
-    case 6: /* six numbers */
+    case 6: /* a number less */
         while (line[--length] != ' ')
             ;
         return length;
-    case 7: /* eight */
+    case 7: /* one more */
         line[length] = ' ';
         return insert_byte(line, length + 1, length + 1, '7');
     case 8: /* too large by one, or by a digit */
-        return (size_t)snprintf((char *)line, GEN_LINE_MAX, "0 0 %s 0 0 0 0",
-                                gen_chance(random, 50) ? "4294967296" : "10000000000");
+        length = (size_t)snprintf((char *)line, GEN_LINE_MAX, "0 0 %s",
+                                  gen_chance(random, 50) ? "4294967296" : "10000000000");
+        return zeros_behind(line, length, LINE_NUMBERS - 3);
     case 9: /* 81 bytes and more */
-        length = from_to(random, 81, gen_chance(random, 80) ? 90 : GEN_LINE_MAX);
+        length = from_to(random, LINE_MAX_BYTES + 1,
+                         gen_chance(random, 80) ? LINE_MAX_BYTES + 10 : GEN_LINE_MAX);
         memset(line, (int)ONE_OF(random, '0', '1', ' ', 'x'), length);
         return length;
     case 10:
         return 0;
     default:
-        return (size_t)snprintf((char *)line, GEN_LINE_MAX, "%s",
-                                gen_chance(random, 50) ? "0 0 0 0 0 0 " : "x");
+        if (!gen_chance(random, 50)) {
+            line[0] = 'x';
+            return 1;
+        }
+        line[0] = '0';
+        length = zeros_behind(line, 1, LINE_NUMBERS - 2);
+        return insert_byte(line, length, length, ' ');
     }
 }
 
 size_t gen_drill_line(gen_random *random, const gen_mood *mood, const uint32_t *table,
-                      uint8_t line[GEN_LINE_MAX], uint32_t call[7], int *good)
+                      uint8_t line[GEN_LINE_MAX], uint32_t call[8], int *good)
 {
     size_t length = 0;
 
     gen_call(random, mood, table, call);
-    for (int i = 0; i < CALL_NUMBERS; i++)
+    for (int i = 0; i < LINE_NUMBERS; i++)
         length += (size_t)snprintf((char *)line + length, GEN_LINE_MAX - length, "%s%lu",
                                    i > 0 ? " " : "", (unsigned long)call[i]);
     *good = !gen_chance(random, 10);

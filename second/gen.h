@@ -13,6 +13,7 @@
  *   f  Stops of owners (M-101): gen_stop
  *   g  requests to Boards that readers wait at (M-103): gen_board
  *   h  requests to hubs at which many wait (M-104): gen_queue, then gen_ask
+ *   i  tables to be moved (M-105): any of the above, and gen_clear_high, gen_one_high
  */
 #ifndef GEN_H
 #define GEN_H
@@ -41,6 +42,7 @@ typedef struct {
     uint32_t longest;        /* ticks of WT and Sleep, 1 to this */
     uint32_t waits;          /* percent of requests under W or WT */
     uint32_t refused;        /* percent of calls meant to be refused */
+    uint32_t high;           /* percent of calls with a high word; drawn as 0, the tests' to set */
 } gen_mood;
 
 void gen_draw_mood(gen_random *random, gen_mood *mood);
@@ -50,51 +52,60 @@ void gen_draw_mood(gen_random *random, gen_mood *mood);
 void gen_draw_mood_of(gen_random *random, gen_mood *mood, uint32_t kinds);
 void gen_turn(gen_random *random, gen_mood *mood);
 
-/* The next call on this table: Blank unless the table's edition is 1. */
-void gen_call(gen_random *random, const gen_mood *mood, const uint32_t *table, uint32_t call[7]);
+/* The next call on this table: Blank unless the table's edition is 1 or 2. With mood->high
+ * 0 every high word is 0, and edition 1 is drawn as it was before M-105. */
+void gen_call(gen_random *random, const gen_mood *mood, const uint32_t *table, uint32_t call[8]);
 
-void gen_table(gen_random *random, uint32_t table[600]);
+/* A table of this edition: 600 or 744 words. */
+void gen_table(gen_random *random, uint32_t edition, uint32_t *table);
 
 /* A well-formed table in which one task owns none to 16 Resources, tasks waiting
  * for most of them, and a call in which the running task stops it: what gen_call
  * comes upon seldom, up to 14 waiters met in one call. */
-void gen_stop(gen_random *random, uint32_t table[600], uint32_t call[7]);
+void gen_stop(gen_random *random, uint32_t edition, uint32_t *table, uint32_t call[8]);
 
 /* A well-formed table with a Board at which none to 15 readers wait, or one that is
  * written, and a request of the running task to it, mostly an update: what gen_call
  * comes upon seldom, up to 15 readers met in one call. One of ten is a wipe of any hub. */
-void gen_board(gen_random *random, uint32_t table[600], uint32_t call[7]);
+void gen_board(gen_random *random, uint32_t edition, uint32_t *table, uint32_t call[8]);
 
 /* A well-formed table with a hub at which none to 15 tasks wait, and a request of the
  * running task to it, mostly one that has to wait too: what gen_call comes upon seldom,
  * up to 15 ahead of the caller. gen_ask draws the next such request to that hub, or a
  * Tick where nobody runs. One of twenty comes from another task than the running one. */
-void gen_queue(gen_random *random, uint32_t table[600], uint32_t call[7]);
-void gen_ask(gen_random *random, const uint32_t *table, uint32_t hub, uint32_t call[7]);
+void gen_queue(gen_random *random, uint32_t edition, uint32_t *table, uint32_t call[8]);
+void gen_ask(gen_random *random, const uint32_t *table, uint32_t hub, uint32_t call[8]);
+
+/* An edition 2 table without its high words; and then with one, where a message may be: a
+ * ready task's received, a waiting putter's, one that a FIFO holds, a Board's. Gives 0
+ * when there is no such place. */
+void gen_clear_high(uint32_t *table);
+int gen_one_high(gen_random *random, uint32_t *table);
 
 /* Well formed as well, with a set-up of every size, none and 16 often, whose
  * numbers have every count of digits. */
-void gen_set_up(gen_random *random, uint32_t table[600]);
+void gen_set_up(gen_random *random, uint32_t edition, uint32_t *table);
 
 /* Another number in one place of the set-up. The table need not stay well
  * formed: a list may be out of order, a count above its limit. Gives 0 when there
  * is no such place, or the number drawn is the one that stands there. */
 typedef enum { GEN_PRIORITY, GEN_KIND, GEN_LIMIT, GEN_START } gen_place;
-int gen_change(gen_random *random, gen_place place, uint32_t table[600]);
+int gen_change(gen_random *random, gen_place place, uint32_t *table);
 
-/* Family 0 to gen_damages() - 1. The clause is what the family breaks: the
- * value that second_well_formed gives for each of its tables. */
-size_t gen_damages(void);
+/* Family 0 to gen_damages() - 1: edition 2 has all of edition 1's, and more behind them. The
+ * clause is what the family breaks: the value that second_well_formed gives for each of
+ * its tables. */
+size_t gen_damages(uint32_t edition);
 const char *gen_damage_name(size_t family);
 int gen_damage_clause(size_t family);
-void gen_damaged(gen_random *random, size_t family, uint32_t table[600]);
-void gen_flip(gen_random *random, uint32_t table[600]);
+void gen_damaged(gen_random *random, uint32_t edition, size_t family, uint32_t *table);
+void gen_flip(gen_random *random, uint32_t *table);
 
 enum { GEN_LINE_MAX = 6000 };
 
 /* A drill line without its newline; gives its length. *good says whether the
  * line holds the call. */
 size_t gen_drill_line(gen_random *random, const gen_mood *mood, const uint32_t *table,
-                      uint8_t line[GEN_LINE_MAX], uint32_t call[7], int *good);
+                      uint8_t line[GEN_LINE_MAX], uint32_t call[8], int *good);
 
 #endif

@@ -24,9 +24,16 @@ static void print_reply(uint64_t number, int good, second_reply reply)
         printf("line %" PRIu64 " bad\n", number);
 }
 
+/* High words only where a line holds them. */
+static void draw_mood(gen_random *random, gen_mood *mood)
+{
+    gen_draw_mood(random, mood);
+    mood->high = (int)LINE_NUMBERS > (int)C_HIGH ? 40 : 0;
+}
+
 static void print_lines(uint64_t seed, uint64_t count, int expected)
 {
-    uint32_t table[WORDS] = {0}, call[CALL_NUMBERS];
+    uint32_t table[RUNNER_WORDS] = {0}, call[CALL_NUMBERS];
     uint8_t line[GEN_LINE_MAX];
     second_reply reply = {0, 0, 0, 0};
     gen_random random;
@@ -36,12 +43,12 @@ static void print_lines(uint64_t seed, uint64_t count, int expected)
     gen_seed(&random, seed);
     for (uint64_t number = 1; number <= count; number++) {
         if (number % LINES_PER_RUN == 1)
-            gen_draw_mood(&random, &mood);
+            draw_mood(&random, &mood);
         else if (number % LINES_PER_TURN == 0)
             gen_turn(&random, &mood);
         size_t length = gen_drill_line(&random, &mood, table, line, call, &good);
         if (good)
-            reply = expect_call(table, call);
+            reply = expect_call(table, RUNNER_WORDS, call);
         if (expected) {
             print_reply(number, good, reply);
         } else {
@@ -59,8 +66,8 @@ static void print_listings(uint64_t seed, uint64_t count)
 
     gen_seed(&random, seed);
     while (count-- > 0) {
-        gen_set_up(&random, table);
-        fwrite(text, 1, expect_listing(table, text, sizeof text).length, stdout);
+        gen_set_up(&random, EDITION_1, table);
+        fwrite(text, 1, expect_listing(table, WORDS, text, sizeof text).length, stdout);
     }
 }
 

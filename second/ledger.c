@@ -1,5 +1,5 @@
-/* Demand 3's bookkeeping, with M-101's balance of each Resource and M-103's word of
- * each Board; ledger.h says what it reads and what it doesn't. */
+/* Demand 3's bookkeeping, with M-101's balance of each Resource, M-103's word of each
+ * Board, and M-105's messages and moves; ledger.h says what it reads and what it doesn't. */
 #include "ledger.h"
 
 #include <string.h>
@@ -8,7 +8,7 @@
 
 static uint32_t task_word(const uint32_t *table, uint32_t task, size_t field)
 {
-    return table[task_place(task) + field];
+    return table[field_place(table, task, field)];
 }
 
 static int waits(const uint32_t *table, uint32_t task)
@@ -29,14 +29,14 @@ void ledger_begin(ledger *book)
 
 static uint32_t kind_of(const uint32_t *table, uint32_t hub)
 {
-    return table[hub_place(hub) + H_KIND];
+    return table[hub_place(table, hub) + H_KIND];
 }
 
 /* An accepted Stop with answer 1 whose target owned the hub in the table before. */
 static int stop_removes_owner(const uint32_t *before, const uint32_t *call, second_reply reply,
                               uint32_t hub)
 {
-    const uint32_t *record = before + hub_place(hub);
+    const uint32_t *record = before + hub_place(before, hub);
 
     return call[C_SERVICE] == STOP && reply.answer == OK && record[H_KIND] == RESOURCE &&
            record[H_COUNT] == call[C_TARGET] + 1;
@@ -49,12 +49,18 @@ static int still_shown(const ledger_request *request, const uint32_t *after)
 {
     uint32_t left = request->ticks == 0 ? 0 : request->ticks - request->age;
     uint32_t kind = kind_of(after, request->hub);
-    uint32_t kept = request->side == PUT && (kind == PORT || kind == FIFO) ? request->word : 0;
+    uint64_t kept = request->side == PUT && (kind == PORT || kind == FIFO) ? request->word : 0;
 
     return task_word(after, request->task, T_HUB) == request->hub + 1 &&
            task_word(after, request->task, T_SIDE) == request->side &&
            task_word(after, request->task, T_TICKS) == left &&
-           task_word(after, request->task, T_WORD) == kept;
+           task_message(after, request->task) == kept;
+}
+
+/* The message of a hub request. An accepted one to edition 1 has no high word. */
+static uint64_t sent(const uint32_t *call)
+{
+    return call[C_WORD] + ((uint64_t)call[C_HIGH] << 32);
 }
 
 static const char *enter_request(ledger *book, const uint32_t *call, second_reply reply,
@@ -64,8 +70,8 @@ static const char *enter_request(ledger *book, const uint32_t *call, second_repl
     uint32_t state = task_word(after, call[C_CALLER], T_STATE);
     uint32_t answer = task_word(after, call[C_CALLER], T_ANSWER);
 
-    *request = (ledger_request){IS_WAITING,   call[C_CALLER], call[C_TARGET], call[C_SIDE],
-                                call[C_WORD], call[C_TICKS],  0};
+    *request = (ledger_request){IS_WAITING, call[C_CALLER], call[C_TARGET], call[C_SIDE],
+                                sent(call), call[C_TICKS],  0};
     if (reply.answer != answer)
         return "the reply isn't the caller's answer";
     if (state == WAITING && answer == NO_ANSWER) {
@@ -102,7 +108,7 @@ static int class_after(const uint32_t *after, uint32_t task, ledger_class *class
 static int may_be_met(const ledger_request *request, const uint32_t *before, const uint32_t *call,
                       second_reply reply)
 {
-    int is_first = before[list_place(request->hub)] == request->task + 1;
+    int is_first = before[list_place(before, request->hub)] == request->task + 1;
     int at_board = kind_of(before, request->hub) == BOARD;
 
     if (call[C_SERVICE] != HUB_REQUEST)
@@ -146,7 +152,7 @@ static void enter_meeting(ledger *book, const ledger_request *request, const uin
     if (request->side == PUT)
         hub->put[hub->puts++] = request->word;
     else if (request->side == GET)
-        hub->got[hub->gets++] = task_word(after, request->task, T_WORD);
+        hub->got[hub->gets++] = task_message(after, request->task);
     else
         hub->wipes++;
 }
@@ -183,7 +189,7 @@ static void enter_board(ledger *book, const uint32_t *before, const uint32_t *ca
         return;
     if (call[C_SIDE] == PUT) {
         book->hub[call[C_TARGET]].written = 1;
-        book->hub[call[C_TARGET]].shown = call[C_WORD];
+        book->hub[call[C_TARGET]].shown = sent(call);
     } else if (call[C_SIDE] == WIPE) {
         book->hub[call[C_TARGET]].written = 0;
     }
@@ -200,7 +206,7 @@ static const char *read_right(const ledger *book, const ledger_request *request,
         return NULL;
     if (!hub->written)
         return "Board: a read was met though no word was there";
-    return task_word(after, request->task, T_WORD) == hub->shown
+    return task_message(after, request->task) == hub->shown
                ? NULL
                : "Board: a met read doesn't bear the last update's word";
 }
@@ -221,16 +227,25 @@ static void enter_removed(ledger *book, const uint32_t *before, const uint32_t *
         book->hub[hub].owners_removed += (uint32_t)stop_removes_owner(before, call, reply, hub);
 }
 
-static int words_equal(const uint32_t *a, const uint32_t *b, uint32_t count)
+static int messages_equal(const uint64_t *a, const uint64_t *b, uint32_t count)
 {
     return memcmp(a, b, count * sizeof *a) == 0;
+}
+
+/* The messages that the hub holds, oldest first. */
+static int store_is(const uint32_t *table, uint32_t hub, const uint64_t *messages, uint32_t count)
+{
+    for (uint32_t i = 0; i < count; i++)
+        if (message_at(table, held_place(table, hub, i)) != messages[i])
+            return 0;
+    return 1;
 }
 
 /* From word `since` of what was got: earlier ones were compared before. */
 static const char *hub_adds_up(const ledger_hub *hub, const uint32_t *table, uint32_t number,
                                uint32_t since)
 {
-    const uint32_t *record = table + hub_place(number);
+    const uint32_t *record = table + hub_place(table, number);
     uint32_t count = record[H_COUNT], from = since < hub->gets ? since : hub->gets;
 
     switch (record[H_KIND]) {
@@ -242,13 +257,13 @@ static const char *hub_adds_up(const ledger_hub *hub, const uint32_t *table, uin
                    : "Semaphore: start + met puts - met gets isn't the count";
     case PORT:
         return hub->puts == hub->gets &&
-                       words_equal(hub->put + from, hub->got + from, hub->gets - from)
+                       messages_equal(hub->put + from, hub->got + from, hub->gets - from)
                    ? NULL
                    : "Port: words of met puts aren't those of met gets";
     case FIFO:
         return hub->puts == hub->gets + count &&
-                       words_equal(hub->put + from, hub->got + from, hub->gets - from) &&
-                       words_equal(hub->put + hub->gets, table + store_place(number), count)
+                       messages_equal(hub->put + from, hub->got + from, hub->gets - from) &&
+                       store_is(table, number, hub->put + hub->gets, count)
                    ? NULL
                    : "FIFO: words of met puts aren't those of met gets and those held";
     case BOARD: /* a read takes nothing, so nothing adds up: reads_right has the words */
@@ -285,14 +300,16 @@ static const char *enter_task(ledger *book, uint32_t task, const uint32_t *befor
     return NULL;
 }
 
-const char *ledger_enter(ledger *book, const uint32_t *before, const uint32_t call[7],
+const char *ledger_enter(ledger *book, const uint32_t *before, const uint32_t call[8],
                          second_reply reply, const uint32_t *after)
 {
     meetings met = {NULL, {NULL}, 0};
     const char *wrong;
 
     if (reply.refusal != ACCEPTED)
-        return words_equal(before, after, WORDS) ? NULL : "a refused call changed the table";
+        return memcmp(before, after, layout_of(before)->words * sizeof *before) == 0
+                   ? NULL
+                   : "a refused call changed the table";
     if (call[C_SERVICE] == BLANK) {
         ledger_begin(book);
         return NULL;
@@ -311,6 +328,39 @@ const char *ledger_enter(ledger *book, const uint32_t *before, const uint32_t ca
         if ((wrong = hub_adds_up(&book->hub[hub], after, hub,
                                  book->hub[hub].gets > 0 ? book->hub[hub].gets - 1 : 0)) != NULL)
             return wrong;
+    return NULL;
+}
+
+/* Nothing happens to a request in a move: whoever waits waits on, as called, and nobody
+ * else does; every hub's balance holds in the new table. */
+const char *ledger_move(const ledger *book, const uint32_t *before, const uint32_t *after)
+{
+    const char *wrong;
+
+    if (layout_of(before) == layout_of(after))
+        return "a move left the edition";
+    if (before[TASKS_IN_USE_AT] != after[TASKS_IN_USE_AT] ||
+        before[HUBS_IN_USE_AT] != after[HUBS_IN_USE_AT])
+        return "a move changed how many tasks or hubs there are";
+    for (uint32_t task = 0; task < after[TASKS_IN_USE_AT]; task++) {
+        const ledger_request *request = book->open[task];
+        if (waits(after, task) != (request != NULL))
+            return "after a move the tasks in state 3 aren't the waiting requests";
+        if (request != NULL && !still_shown(request, after))
+            return "a move changed a waiting request";
+        if (task_word(before, task, T_ANSWER) != task_word(after, task, T_ANSWER) ||
+            task_message(before, task) != task_message(after, task))
+            return "a move changed an answer or a message received";
+    }
+    for (uint32_t hub = 0; hub < after[HUBS_IN_USE_AT]; hub++) {
+        const ledger_hub *of = &book->hub[hub];
+        if ((wrong = hub_adds_up(of, after, hub, 0)) != NULL)
+            return wrong;
+        if (kind_of(after, hub) == BOARD &&
+            (after[hub_place(after, hub) + H_COUNT] != (uint32_t)of->written ||
+             (of->written && !store_is(after, hub, &of->shown, 1))))
+            return "Board: after a move it shows another word";
+    }
     return NULL;
 }
 

@@ -16,7 +16,8 @@ typedef enum { IS_WAITING, IS_MET, IS_FAILED, IS_TIMED_OUT, IS_WITHDRAWN } ledge
 
 typedef struct {
     ledger_class class;
-    uint32_t task, hub, side, word;
+    uint32_t task, hub, side;
+    uint64_t word;  /* low + 2^32 * high (M-105) */
     uint32_t ticks; /* of the call; 0 without limit */
     uint32_t age;   /* accepted Ticks since */
 } ledger_request;
@@ -28,8 +29,8 @@ typedef struct {
 typedef struct {
     uint32_t puts, gets, wipes, owners_removed;
     int written;
-    uint32_t shown; /* while written */
-    uint32_t put[LEDGER_REQUESTS], got[LEDGER_REQUESTS];
+    uint64_t shown; /* while written */
+    uint64_t put[LEDGER_REQUESTS], got[LEDGER_REQUESTS];
 } ledger_hub;
 
 typedef struct {
@@ -43,9 +44,12 @@ typedef struct {
 void ledger_begin(ledger *book);
 
 /* Enters one call; at most LEDGER_REQUESTS requests between two Blanks. Gives
- * what is wrong, in words, or NULL. */
-const char *ledger_enter(ledger *book, const uint32_t *before, const uint32_t call[7],
+ * what is wrong, in words, or NULL. The tables are of one edition. */
+const char *ledger_enter(ledger *book, const uint32_t *before, const uint32_t call[8],
                          second_reply reply, const uint32_t *after);
+
+/* Enters an accepted move: the run goes on in the new table (M-105). */
+const char *ledger_move(const ledger *book, const uint32_t *before, const uint32_t *after);
 
 /* Adds everything up again from the requests alone. */
 const char *ledger_end(const ledger *book, const uint32_t *table);

@@ -30,14 +30,15 @@ static int read_number(const uint8_t **at, const uint8_t *end, uint32_t *number)
     return 1;
 }
 
-/* Seven numbers, one space between, nothing else. */
+/* LINE_NUMBERS numbers, one space between, nothing else; the call's others are 0. */
 static int read_call(const uint8_t *line, size_t length, uint32_t call[CALL_NUMBERS])
 {
     const uint8_t *at = line, *end = line + length;
 
     if (length > LINE_MAX_BYTES)
         return 0;
-    for (int i = 0; i < CALL_NUMBERS; i++) {
+    memset(call, 0, CALL_NUMBERS * sizeof *call);
+    for (int i = 0; i < LINE_NUMBERS; i++) {
         if (i > 0 && (at == end || *at++ != ' '))
             return 0;
         if (!read_number(&at, end, &call[i]))
@@ -52,7 +53,7 @@ static void end_line(runner *run)
 
     run->number++;
     if (read_call(run->line, run->length, call)) {
-        second_reply reply = second_call(run->table, WORDS, call);
+        second_reply reply = second_call(run->table, RUNNER_WORDS, call);
         fprintf(run->out, "%lu %lu %lu %lu\n", (unsigned long)reply.refusal,
                 (unsigned long)reply.answer, (unsigned long)reply.next,
                 (unsigned long)reply.ahead);

@@ -10,10 +10,8 @@
 
 #include "numbers.h"
 
-enum { LINE_MAX_BYTES = 80 };
-
 typedef struct {
-    uint32_t table[WORDS];
+    uint32_t table[RUNNER_WORDS];
     uint64_t number;                 /* lines ended so far */
     size_t length;                   /* of the line being read, at most one too many */
     uint8_t line[LINE_MAX_BYTES + 1];

@@ -1,6 +1,10 @@
-/* The hub kernel of document 01 with M-100, M-101, M-103 and M-104, from the papers alone:
- * well formed, lists, hubs, services, refusals, the listing, edges, in that order. The
- * contract is second.h.
+/* The hub kernel of document 01 with M-100, M-101, M-103, M-104 and M-105, from the papers
+ * alone: messages, well formed, lists, hubs, services, refusals, the listing, the moves,
+ * edges, in that order. The contract is second.h.
+ *
+ * Both editions run through the same rules: where a place depends on the edition, it is
+ * asked of the table, and a message is one number of 64 bits, which edition 1 writes in
+ * one word and edition 2 in two.
  *
  * Everything after refusal_of() relies on a well-formed table; that is why the
  * walks below have no bounds of their own: a list that a task joins has at
@@ -11,9 +15,44 @@
 
 #include "numbers.h"
 
-static const uint32_t blank_contents[TASKS_AT] = {
-    EDITION, 0, 0, TASKS_AT, HUBS_AT, READY_AT, WAITING_AT, STORES_AT
-};
+/* ---- Messages ---------------------------------------------------------- */
+
+/* Two words a message: the table's edition is 2. */
+static int is_wide(const uint32_t *table) { return table[EDITION_AT] == EDITION_2; }
+
+/* The message at the place of its low word. */
+static uint64_t message(const uint32_t *table, size_t place)
+{
+    return is_wide(table) ? table[place] | (uint64_t)table[place + 1] << 32 : table[place];
+}
+
+/* In edition 1 every message is below 2^32: refusal 6 sees to it. */
+static void set_message(uint32_t *table, size_t place, uint64_t message)
+{
+    table[place] = (uint32_t)message;
+    if (is_wide(table))
+        table[place + 1] = (uint32_t)(message >> 32);
+}
+
+/* The message that a call brings. */
+static uint64_t sent(const uint32_t *call)
+{
+    return call[C_WORD] | (uint64_t)call[C_HIGH] << 32;
+}
+
+/* Where a task's message stands, and in its record the answer, behind it. */
+static size_t word_place(const uint32_t *table, uint32_t task)
+{
+    return task_place(table, task) + T_WORD;
+}
+
+static size_t answer_at(const uint32_t *table) { return is_wide(table) ? 8 : 7; }
+
+/* The words of a hub's store. */
+static size_t store_words(const uint32_t *table)
+{
+    return HELD_MOST * layout_of(table)->message_words;
+}
 
 /* ---- Well formed ------------------------------------------------------- */
 
@@ -35,24 +74,37 @@ static int all_zero(const uint32_t *word, size_t words)
     return any == 0;
 }
 
-static int contents_clause(const uint32_t *table)
+/* The contents of an edition's blank table. */
+static void write_contents(uint32_t contents[TASKS_AT], const layout *of)
 {
-    if (table[EDITION_AT] != EDITION || table[TASKS_IN_USE_AT] > TASKS ||
+    const uint32_t starts[] = {TASKS_AT, of->hubs_at, of->ready_at, of->waiting_at, of->stores_at};
+
+    contents[EDITION_AT] = of->edition;
+    contents[TASKS_IN_USE_AT] = contents[HUBS_IN_USE_AT] = 0;
+    memcpy(contents + STARTS_AT, starts, sizeof starts);
+}
+
+/* The edition is the one that fits the length. */
+static int contents_clause(const uint32_t *table, const layout *of)
+{
+    uint32_t right[TASKS_AT];
+
+    write_contents(right, of);
+    if (table[EDITION_AT] != of->edition || table[TASKS_IN_USE_AT] > TASKS ||
         table[HUBS_IN_USE_AT] > HUBS)
         return SECOND_CONTENTS;
-    for (size_t i = STARTS_AT; i < TASKS_AT; i++)
-        if (table[i] != blank_contents[i])
-            return SECOND_CONTENTS;
-    return SECOND_RIGHT;
+    return memcmp(table + STARTS_AT, right + STARTS_AT, 5 * sizeof *table) == 0 ? SECOND_RIGHT
+                                                                               : SECOND_CONTENTS;
 }
 
 static int unused_clause(const uint32_t *table)
 {
     uint32_t tasks = table[TASKS_IN_USE_AT], hubs = table[HUBS_IN_USE_AT];
-    int zero = all_zero(table + task_place(tasks), (TASKS - tasks) * TASK_WORDS) &&
-               all_zero(table + hub_place(hubs), (HUBS - hubs) * HUB_WORDS) &&
-               all_zero(table + list_place(hubs), (HUBS - hubs) * LIST_WORDS) &&
-               all_zero(table + store_place(hubs), (HUBS - hubs) * STORE_WORDS);
+    size_t task_words = layout_of(table)->task_words;
+    int zero = all_zero(table + task_place(table, tasks), (TASKS - tasks) * task_words) &&
+               all_zero(table + hub_place(table, hubs), (HUBS - hubs) * HUB_WORDS) &&
+               all_zero(table + list_place(table, hubs), (HUBS - hubs) * LIST_WORDS) &&
+               all_zero(table + store_place(table, hubs), (HUBS - hubs) * store_words(table));
     return zero ? SECOND_RIGHT : SECOND_UNUSED;
 }
 
@@ -60,46 +112,47 @@ static int unused_clause(const uint32_t *table)
 static int carries_words(uint32_t kind) { return kind == PORT || kind == FIFO; }
 static int holds_words(uint32_t kind) { return kind == FIFO || kind == BOARD; }
 
-static int waiting_right(const uint32_t *table, const uint32_t *task)
+static int waiting_right(const uint32_t *table, const uint32_t *task, uint64_t word)
 {
     uint32_t hub = task[T_HUB] - 1; /* hub 0 becomes a number no hub has */
-    if (hub >= table[HUBS_IN_USE_AT] || task[T_TICKS] > TICKS_MAX || task[T_ANSWER] != NO_ANSWER)
+    if (hub >= table[HUBS_IN_USE_AT] || task[T_TICKS] > TICKS_MAX ||
+        task[answer_at(table)] != NO_ANSWER)
         return 0;
     if (task[T_SIDE] == GET)
-        return task[T_WORD] == 0;
+        return word == 0;
     return task[T_SIDE] == PUT &&
-           (task[T_WORD] == 0 || carries_words(table[hub_place(hub) + H_KIND]));
+           (word == 0 || carries_words(table[hub_place(table, hub) + H_KIND]));
 }
 
 /* Tests the record of a task in use and enters the task in the census. */
 static int task_clause(const uint32_t *table, uint32_t number, census *seen)
 {
-    const uint32_t *task = table + task_place(number);
-    uint32_t bit = UINT32_C(1) << number;
+    const uint32_t *task = table + task_place(table, number);
+    uint32_t bit = UINT32_C(1) << number, answer = task[answer_at(table)];
+    uint64_t word = message(table, word_place(table, number));
 
     if (task[T_SUSPENDED] > 1 || task[T_PRIORITY] > PRIORITY_MAX)
         return SECOND_TASK_RANGE;
     switch (task[T_STATE]) {
     case INACTIVE:
-        if ((task[T_SUSPENDED] | task[T_HUB] | task[T_TICKS] | task[T_SIDE] | task[T_WORD] |
-             task[T_ANSWER]) != 0)
+        if ((task[T_SUSPENDED] | task[T_HUB] | task[T_TICKS] | task[T_SIDE] | word | answer) != 0)
             return SECOND_INACTIVE;
         seen->inactive |= bit;
         return SECOND_RIGHT;
     case READY:
-        if ((task[T_HUB] | task[T_TICKS] | task[T_SIDE]) != 0 || task[T_ANSWER] > TO ||
-            (task[T_WORD] != 0 && task[T_ANSWER] != OK))
+        if ((task[T_HUB] | task[T_TICKS] | task[T_SIDE]) != 0 || answer > TO ||
+            (word != 0 && answer != OK))
             return SECOND_READY;
         seen->ready |= bit;
         return SECOND_RIGHT;
     case WAITING:
-        if (!waiting_right(table, task))
+        if (!waiting_right(table, task, word))
             return SECOND_WAITING;
         seen->waiters[task[T_HUB] - 1] |= bit;
         seen->putters |= task[T_SIDE] == PUT ? bit : 0;
         return SECOND_RIGHT;
     case SLEEPING:
-        if ((task[T_HUB] | task[T_SIDE] | task[T_WORD] | task[T_ANSWER]) != 0 ||
+        if ((task[T_HUB] | task[T_SIDE] | word | answer) != 0 ||
             task[T_TICKS] < 1 || task[T_TICKS] > TICKS_MAX)
             return SECOND_SLEEPING;
         return SECOND_RIGHT;
@@ -123,9 +176,9 @@ static int list_clause(const uint32_t *table, const uint32_t *list, uint32_t mem
         if (task >= TASKS || (members >> task & 1) == 0)
             return wrong;
         members ^= UINT32_C(1) << task;
-        if (table[task_place(task) + T_PRIORITY] < priority)
+        if (table[task_place(table, task) + T_PRIORITY] < priority)
             return SECOND_ORDER;
-        priority = table[task_place(task) + T_PRIORITY];
+        priority = table[task_place(table, task) + T_PRIORITY];
     }
     while (length < LIST_WORDS)
         if (list[length++] != 0)
@@ -174,7 +227,7 @@ static int putters_may_wait(const uint32_t *hub)
 
 static int hub_clause(const uint32_t *table, uint32_t number, const census *seen)
 {
-    const uint32_t *hub = table + hub_place(number), *store = table + store_place(number);
+    const uint32_t *hub = table + hub_place(table, number);
     uint32_t waiters = seen->waiters[number], putters = waiters & seen->putters;
     uint32_t most = hub[H_KIND] == RESOURCE ? table[TASKS_IN_USE_AT] : hub[H_LIMIT];
 
@@ -185,7 +238,8 @@ static int hub_clause(const uint32_t *table, uint32_t number, const census *seen
     if (owner_inactive(hub, seen))
         return SECOND_OWNER;
 
-    int clause = list_clause(table, table + list_place(number), waiters, SECOND_WAITING_LIST);
+    const uint32_t *list = table + list_place(table, number);
+    int clause = list_clause(table, list, waiters, SECOND_WAITING_LIST);
     if (clause != SECOND_RIGHT)
         return clause;
     if (waiters != 0) {
@@ -197,18 +251,20 @@ static int hub_clause(const uint32_t *table, uint32_t number, const census *seen
             return SECOND_PUTTERS;
     }
 
-    size_t held = holds_words(hub[H_KIND]) ? hub[H_COUNT] : 0;
-    return all_zero(store + held, STORE_WORDS - held) ? SECOND_RIGHT : SECOND_STORE;
+    uint32_t held = holds_words(hub[H_KIND]) ? hub[H_COUNT] : 0;
+    size_t behind = held_place(table, number, held), end = held_place(table, number, HELD_MOST);
+    return all_zero(table + behind, end - behind) ? SECOND_RIGHT : SECOND_STORE;
 }
 
 int second_well_formed(const uint32_t *table, size_t words)
 {
+    const layout *of = layout_for(words);
     census seen = {0, 0, 0, {0}};
     int clause;
 
-    if (words != WORDS)
+    if (of == NULL)
         return SECOND_LENGTH;
-    if ((clause = contents_clause(table)) != SECOND_RIGHT)
+    if ((clause = contents_clause(table, of)) != SECOND_RIGHT)
         return clause;
     if ((clause = unused_clause(table)) != SECOND_RIGHT)
         return clause;
@@ -218,7 +274,7 @@ int second_well_formed(const uint32_t *table, size_t words)
     for (uint32_t hub = 0; hub < table[HUBS_IN_USE_AT]; hub++)
         if ((clause = hub_clause(table, hub, &seen)) != SECOND_RIGHT)
             return clause;
-    return list_clause(table, table + READY_AT, seen.ready, SECOND_READY_LIST);
+    return list_clause(table, table + ready_place(table), seen.ready, SECOND_READY_LIST);
 }
 
 /* ---- Lists ------------------------------------------------------------- */
@@ -226,9 +282,11 @@ int second_well_formed(const uint32_t *table, size_t words)
 /* The first ready task that isn't suspended, plus 1, or 0. */
 static uint32_t running(const uint32_t *table)
 {
-    for (size_t i = READY_AT; i < READY_AT + LIST_WORDS && table[i] != 0; i++)
-        if (table[task_place(table[i] - 1) + T_SUSPENDED] == 0)
-            return table[i];
+    const uint32_t *entry = table + ready_place(table), *end = entry + LIST_WORDS;
+
+    for (; entry < end && *entry != 0; entry++)
+        if (table[task_place(table, *entry - 1) + T_SUSPENDED] == 0)
+            return *entry;
     return 0;
 }
 
@@ -236,9 +294,9 @@ static uint32_t running(const uint32_t *table)
 static void join(uint32_t *table, size_t list, uint32_t task)
 {
     uint32_t *entry = table + list, carried = task + 1;
-    uint32_t own = table[task_place(task) + T_PRIORITY];
+    uint32_t own = table[task_place(table, task) + T_PRIORITY];
 
-    while (*entry != 0 && table[task_place(*entry - 1) + T_PRIORITY] <= own)
+    while (*entry != 0 && table[task_place(table, *entry - 1) + T_PRIORITY] <= own)
         entry++;
     while (carried != 0) {
         uint32_t pushed = *entry;
@@ -268,28 +326,28 @@ static void leave(uint32_t *table, size_t list, uint32_t task)
 }
 
 /* From waiting or sleeping (or new): answer and word given, the rest cleared. */
-static void make_ready(uint32_t *table, uint32_t number, uint32_t answer, uint32_t word)
+static void make_ready(uint32_t *table, uint32_t number, uint32_t answer, uint64_t word)
 {
-    uint32_t *task = table + task_place(number);
+    uint32_t *task = table + task_place(table, number);
 
     task[T_STATE] = READY;
     task[T_HUB] = 0;
     task[T_TICKS] = 0;
     task[T_SIDE] = NO_SIDE;
-    task[T_WORD] = word;
-    task[T_ANSWER] = answer;
-    join(table, READY_AT, number);
+    set_message(table, word_place(table, number), word);
+    task[answer_at(table)] = answer;
+    join(table, ready_place(table), number);
 }
 
 /* Takes a task from the list its state says, if any; the record is left. */
 static void leave_any_list(uint32_t *table, uint32_t number)
 {
-    const uint32_t *task = table + task_place(number);
+    const uint32_t *task = table + task_place(table, number);
 
     if (task[T_STATE] == READY)
-        leave(table, READY_AT, number);
+        leave(table, ready_place(table), number);
     else if (task[T_STATE] == WAITING)
-        leave(table, list_place(task[T_HUB] - 1), number);
+        leave(table, list_place(table, task[T_HUB] - 1), number);
 }
 
 /* ---- Hubs -------------------------------------------------------------- */
@@ -299,16 +357,16 @@ typedef enum { NOT_NOW, MET, FAILED } outcome;
 /* The side of all the hub's waiters; a list holds one side only. */
 static uint32_t waiting_side(const uint32_t *table, uint32_t hub)
 {
-    uint32_t first = table[list_place(hub)];
-    return first == 0 ? NO_SIDE : table[task_place(first - 1) + T_SIDE];
+    uint32_t first = table[list_place(table, hub)];
+    return first == 0 ? NO_SIDE : table[task_place(table, first - 1) + T_SIDE];
 }
 
 /* Meets the hub's first waiter, which receives the word; gives its number. */
-static uint32_t meet_first(uint32_t *table, uint32_t hub, uint32_t received)
+static uint32_t meet_first(uint32_t *table, uint32_t hub, uint64_t received)
 {
-    uint32_t task = table[list_place(hub)] - 1;
+    uint32_t task = table[list_place(table, hub)] - 1;
 
-    leave(table, list_place(hub), task);
+    leave(table, list_place(table, hub), task);
     make_ready(table, task, OK, received);
     return task;
 }
@@ -316,7 +374,7 @@ static uint32_t meet_first(uint32_t *table, uint32_t hub, uint32_t received)
 /* An Event is a counter with limit 1, so one rule serves both kinds. */
 static outcome counter_put(uint32_t *table, uint32_t number)
 {
-    uint32_t *hub = table + hub_place(number);
+    uint32_t *hub = table + hub_place(table, number);
 
     if (waiting_side(table, number) == GET)
         meet_first(table, number, 0);
@@ -329,7 +387,7 @@ static outcome counter_put(uint32_t *table, uint32_t number)
 
 static outcome counter_get(uint32_t *table, uint32_t number)
 {
-    uint32_t *hub = table + hub_place(number);
+    uint32_t *hub = table + hub_place(table, number);
 
     if (hub[H_COUNT] == 0)
         return NOT_NOW;
@@ -340,7 +398,7 @@ static outcome counter_get(uint32_t *table, uint32_t number)
     return MET;
 }
 
-static outcome port_put(uint32_t *table, uint32_t number, uint32_t word)
+static outcome port_put(uint32_t *table, uint32_t number, uint64_t word)
 {
     if (waiting_side(table, number) != GET)
         return NOT_NOW;
@@ -349,12 +407,12 @@ static outcome port_put(uint32_t *table, uint32_t number, uint32_t word)
 }
 
 /* The word a putter at the head of the list brought, while it still waits. */
-static uint32_t first_word(const uint32_t *table, uint32_t hub)
+static uint64_t first_word(const uint32_t *table, uint32_t hub)
 {
-    return table[task_place(table[list_place(hub)] - 1) + T_WORD];
+    return message(table, word_place(table, table[list_place(table, hub)] - 1));
 }
 
-static outcome port_get(uint32_t *table, uint32_t number, uint32_t *received)
+static outcome port_get(uint32_t *table, uint32_t number, uint64_t *received)
 {
     if (waiting_side(table, number) != PUT)
         return NOT_NOW;
@@ -363,31 +421,33 @@ static outcome port_get(uint32_t *table, uint32_t number, uint32_t *received)
     return MET;
 }
 
-static outcome fifo_put(uint32_t *table, uint32_t number, uint32_t word)
+static outcome fifo_put(uint32_t *table, uint32_t number, uint64_t word)
 {
-    uint32_t *hub = table + hub_place(number);
+    uint32_t *hub = table + hub_place(table, number);
 
     if (waiting_side(table, number) == GET)
         meet_first(table, number, word);
     else if (hub[H_COUNT] < hub[H_LIMIT])
-        table[store_place(number) + hub[H_COUNT]++] = word;
+        set_message(table, held_place(table, number, hub[H_COUNT]++), word);
     else
         return NOT_NOW;
     return MET;
 }
 
-static outcome fifo_get(uint32_t *table, uint32_t number, uint32_t *received)
+static outcome fifo_get(uint32_t *table, uint32_t number, uint64_t *received)
 {
-    uint32_t *hub = table + hub_place(number), *store = table + store_place(number);
+    uint32_t *hub = table + hub_place(table, number);
 
     if (hub[H_COUNT] == 0)
         return NOT_NOW;
-    *received = store[0];
-    memmove(store, store + 1, (STORE_WORDS - 1) * sizeof *store);
-    store[STORE_WORDS - 1] = 0;
+    *received = message(table, held_place(table, number, 0));
     hub[H_COUNT]--;
+    for (uint32_t i = 0; i < hub[H_COUNT]; i++)
+        set_message(table, held_place(table, number, i),
+                    message(table, held_place(table, number, i + 1)));
+    set_message(table, held_place(table, number, hub[H_COUNT]), 0);
     if (waiting_side(table, number) == PUT) {
-        store[hub[H_COUNT]++] = first_word(table, number);
+        set_message(table, held_place(table, number, hub[H_COUNT]++), first_word(table, number));
         meet_first(table, number, 0);
     }
     return MET;
@@ -396,14 +456,14 @@ static outcome fifo_get(uint32_t *table, uint32_t number, uint32_t *received)
 /* The first waiter is met and becomes owner; without one the Resource is free. */
 static void pass_on(uint32_t *table, uint32_t number)
 {
-    uint32_t *hub = table + hub_place(number);
+    uint32_t *hub = table + hub_place(table, number);
 
     hub[H_COUNT] = waiting_side(table, number) == GET ? meet_first(table, number, 0) + 1 : 0;
 }
 
 static outcome resource_put(uint32_t *table, uint32_t number, uint32_t caller)
 {
-    const uint32_t *hub = table + hub_place(number);
+    const uint32_t *hub = table + hub_place(table, number);
 
     if (hub[H_COUNT] != caller + 1)
         return FAILED;
@@ -413,7 +473,7 @@ static outcome resource_put(uint32_t *table, uint32_t number, uint32_t caller)
 
 static outcome resource_get(uint32_t *table, uint32_t number, uint32_t caller)
 {
-    uint32_t *hub = table + hub_place(number);
+    uint32_t *hub = table + hub_place(table, number);
 
     if (hub[H_COUNT] == caller + 1)
         return FAILED;
@@ -424,34 +484,34 @@ static outcome resource_get(uint32_t *table, uint32_t number, uint32_t caller)
 }
 
 /* The readers leave the list from its front, so equals are ready in its order. */
-static outcome board_update(uint32_t *table, uint32_t number, uint32_t word)
+static outcome board_update(uint32_t *table, uint32_t number, uint64_t word)
 {
-    table[hub_place(number) + H_COUNT] = 1;
-    table[store_place(number)] = word;
+    table[hub_place(table, number) + H_COUNT] = 1;
+    set_message(table, store_place(table, number), word);
     while (waiting_side(table, number) == GET)
         meet_first(table, number, word);
     return MET;
 }
 
-static outcome board_read(const uint32_t *table, uint32_t number, uint32_t *received)
+static outcome board_read(const uint32_t *table, uint32_t number, uint64_t *received)
 {
-    if (table[hub_place(number) + H_COUNT] == 0)
+    if (table[hub_place(table, number) + H_COUNT] == 0)
         return NOT_NOW;
-    *received = table[store_place(number)];
+    *received = message(table, store_place(table, number));
     return MET;
 }
 
 /* Readers who wait for a word go on waiting. */
 static outcome board_wipe(uint32_t *table, uint32_t number)
 {
-    table[hub_place(number) + H_COUNT] = 0;
-    table[store_place(number)] = 0;
+    table[hub_place(table, number) + H_COUNT] = 0;
+    set_message(table, store_place(table, number), 0);
     return MET;
 }
 
-static outcome put(uint32_t *table, uint32_t hub, uint32_t caller, uint32_t word)
+static outcome put(uint32_t *table, uint32_t hub, uint32_t caller, uint64_t word)
 {
-    switch (table[hub_place(hub) + H_KIND]) {
+    switch (table[hub_place(table, hub) + H_KIND]) {
     case PORT:
         return port_put(table, hub, word);
     case FIFO:
@@ -465,9 +525,9 @@ static outcome put(uint32_t *table, uint32_t hub, uint32_t caller, uint32_t word
     }
 }
 
-static outcome get(uint32_t *table, uint32_t hub, uint32_t caller, uint32_t *received)
+static outcome get(uint32_t *table, uint32_t hub, uint32_t caller, uint64_t *received)
 {
-    switch (table[hub_place(hub) + H_KIND]) {
+    switch (table[hub_place(table, hub) + H_KIND]) {
     case PORT:
         return port_get(table, hub, received);
     case FIFO:
@@ -483,49 +543,51 @@ static outcome get(uint32_t *table, uint32_t hub, uint32_t caller, uint32_t *rec
 
 /* ---- Services ---------------------------------------------------------- */
 
-static void blank(uint32_t *table)
+/* The edition that fits the length. */
+static void blank(uint32_t *table, const layout *of)
 {
-    memset(table, 0, WORDS * sizeof *table);
-    memcpy(table, blank_contents, sizeof blank_contents);
+    memset(table, 0, of->words * sizeof *table);
+    write_contents(table, of);
 }
 
 /* Gives how many are ahead of the caller. */
 static uint32_t wait_at_hub(uint32_t *table, const uint32_t *call)
 {
-    uint32_t *caller = table + task_place(call[C_CALLER]), hub = call[C_TARGET];
-    int keeps_word = call[C_SIDE] == PUT && carries_words(table[hub_place(hub) + H_KIND]);
+    uint32_t *caller = table + task_place(table, call[C_CALLER]), hub = call[C_TARGET];
+    int keeps_word = call[C_SIDE] == PUT && carries_words(table[hub_place(table, hub) + H_KIND]);
 
-    leave(table, READY_AT, call[C_CALLER]);
+    leave(table, ready_place(table), call[C_CALLER]);
     caller[T_STATE] = WAITING;
     caller[T_HUB] = hub + 1;
     caller[T_TICKS] = call[C_TICKS]; /* 0 under W, so no limit */
     caller[T_SIDE] = call[C_SIDE];
-    caller[T_WORD] = keeps_word ? call[C_WORD] : 0;
-    caller[T_ANSWER] = NO_ANSWER;
-    join(table, list_place(hub), call[C_CALLER]);
-    return entries_before(table, list_place(hub), call[C_CALLER]);
+    set_message(table, word_place(table, call[C_CALLER]), keeps_word ? sent(call) : 0);
+    caller[answer_at(table)] = NO_ANSWER;
+    join(table, list_place(table, hub), call[C_CALLER]);
+    return entries_before(table, list_place(table, hub), call[C_CALLER]);
 }
 
 /* Gives how many are ahead of the caller; a request that doesn't wait has nobody ahead. */
 static uint32_t hub_request(uint32_t *table, const uint32_t *call)
 {
-    uint32_t *caller = table + task_place(call[C_CALLER]), received = 0;
+    uint32_t *caller = table + task_place(table, call[C_CALLER]);
+    uint64_t received = 0;
     outcome out = call[C_SIDE] == PUT
-                      ? put(table, call[C_TARGET], call[C_CALLER], call[C_WORD])
+                      ? put(table, call[C_TARGET], call[C_CALLER], sent(call))
                   : call[C_SIDE] == GET
                       ? get(table, call[C_TARGET], call[C_CALLER], &received)
                       : board_wipe(table, call[C_TARGET]); /* no other kind knows side 3 */
 
     if (out == NOT_NOW && call[C_MODE] != NW)
         return wait_at_hub(table, call);
-    caller[T_ANSWER] = out == MET ? OK : FAIL;
-    caller[T_WORD] = received;
+    caller[answer_at(table)] = out == MET ? OK : FAIL;
+    set_message(table, word_place(table, call[C_CALLER]), received);
     return 0;
 }
 
 static int start(uint32_t *table, uint32_t target)
 {
-    if (table[task_place(target) + T_STATE] != INACTIVE)
+    if (table[task_place(table, target) + T_STATE] != INACTIVE)
         return 0;
     make_ready(table, target, NO_ANSWER, 0);
     return 1;
@@ -535,7 +597,7 @@ static int start(uint32_t *table, uint32_t target)
 static void give_up_locks(uint32_t *table, uint32_t owner)
 {
     for (uint32_t number = 0; number < table[HUBS_IN_USE_AT]; number++) {
-        const uint32_t *hub = table + hub_place(number);
+        const uint32_t *hub = table + hub_place(table, number);
         if (hub[H_KIND] == RESOURCE && hub[H_COUNT] == owner + 1)
             pass_on(table, number);
     }
@@ -543,12 +605,12 @@ static void give_up_locks(uint32_t *table, uint32_t owner)
 
 static int stop(uint32_t *table, uint32_t target, uint32_t caller)
 {
-    uint32_t *task = table + task_place(target), priority = task[T_PRIORITY];
+    uint32_t *task = table + task_place(table, target), priority = task[T_PRIORITY];
 
     if (task[T_STATE] == INACTIVE || target == caller)
         return 0;
     leave_any_list(table, target);
-    memset(task, 0, TASK_WORDS * sizeof *task);
+    memset(task, 0, layout_of(table)->task_words * sizeof *task);
     task[T_STATE] = INACTIVE;
     task[T_PRIORITY] = priority;
     give_up_locks(table, target);
@@ -557,7 +619,7 @@ static int stop(uint32_t *table, uint32_t target, uint32_t caller)
 
 static int suspend(uint32_t *table, uint32_t target, uint32_t caller)
 {
-    uint32_t *task = table + task_place(target);
+    uint32_t *task = table + task_place(table, target);
 
     if (task[T_STATE] == INACTIVE || task[T_SUSPENDED] != 0 || target == caller)
         return 0;
@@ -567,7 +629,7 @@ static int suspend(uint32_t *table, uint32_t target, uint32_t caller)
 
 static int resume(uint32_t *table, uint32_t target)
 {
-    uint32_t *task = table + task_place(target);
+    uint32_t *task = table + task_place(table, target);
 
     if (task[T_SUSPENDED] == 0)
         return 0;
@@ -577,15 +639,15 @@ static int resume(uint32_t *table, uint32_t target)
 
 static int yield(uint32_t *table, uint32_t caller)
 {
-    leave(table, READY_AT, caller);
-    join(table, READY_AT, caller);
+    leave(table, ready_place(table), caller);
+    join(table, ready_place(table), caller);
     return 1;
 }
 
 /* Services 2 to 6: whether the condition holds is the caller's answer. */
 static void task_service(uint32_t *table, const uint32_t *call)
 {
-    uint32_t *caller = table + task_place(call[C_CALLER]), target = call[C_TARGET];
+    uint32_t *caller = table + task_place(table, call[C_CALLER]), target = call[C_TARGET];
     int holds = 0;
 
     switch (call[C_SERVICE]) {
@@ -605,26 +667,26 @@ static void task_service(uint32_t *table, const uint32_t *call)
         holds = yield(table, call[C_CALLER]);
         break;
     }
-    caller[T_ANSWER] = holds ? OK : FAIL;
-    caller[T_WORD] = 0;
+    caller[answer_at(table)] = holds ? OK : FAIL;
+    set_message(table, word_place(table, call[C_CALLER]), 0);
 }
 
 static void sleep(uint32_t *table, const uint32_t *call)
 {
-    uint32_t *caller = table + task_place(call[C_CALLER]);
+    uint32_t *caller = table + task_place(table, call[C_CALLER]);
 
-    leave(table, READY_AT, call[C_CALLER]);
+    leave(table, ready_place(table), call[C_CALLER]);
     caller[T_STATE] = SLEEPING;
     caller[T_TICKS] = call[C_TICKS];
-    caller[T_WORD] = 0;
-    caller[T_ANSWER] = NO_ANSWER;
+    set_message(table, word_place(table, call[C_CALLER]), 0);
+    caller[answer_at(table)] = NO_ANSWER;
 }
 
 /* Only waiting and sleeping tasks have ticks above 0. */
 static void tick(uint32_t *table)
 {
     for (uint32_t number = 0; number < table[TASKS_IN_USE_AT]; number++) {
-        uint32_t *task = table + task_place(number);
+        uint32_t *task = table + task_place(table, number);
         if (task[T_TICKS] == 0 || --task[T_TICKS] != 0)
             continue;
         leave_any_list(table, number);
@@ -635,7 +697,7 @@ static void tick(uint32_t *table)
 static void add_task(uint32_t *table, const uint32_t *call)
 {
     uint32_t number = table[TASKS_IN_USE_AT]++;
-    uint32_t *task = table + task_place(number);
+    uint32_t *task = table + task_place(table, number);
 
     task[T_STATE] = INACTIVE;
     task[T_PRIORITY] = call[C_TARGET];
@@ -645,7 +707,7 @@ static void add_task(uint32_t *table, const uint32_t *call)
 
 static void add_hub(uint32_t *table, const uint32_t *call)
 {
-    uint32_t *hub = table + hub_place(table[HUBS_IN_USE_AT]++);
+    uint32_t *hub = table + hub_place(table, table[HUBS_IN_USE_AT]++);
 
     hub[H_KIND] = call[C_TARGET];
     hub[H_COUNT] = call[C_WORD];
@@ -710,7 +772,13 @@ static int arguments_right(const uint32_t *call)
 static int side_known(const uint32_t *table, const uint32_t *call)
 {
     return call[C_SERVICE] != HUB_REQUEST || call[C_SIDE] != WIPE ||
-           table[hub_place(call[C_TARGET]) + H_KIND] == BOARD;
+           table[hub_place(table, call[C_TARGET]) + H_KIND] == BOARD;
+}
+
+/* Edition 1 has no place for a high word, whatever the kind and the side. */
+static int high_fits(const uint32_t *table, const uint32_t *call)
+{
+    return call[C_SERVICE] != HUB_REQUEST || call[C_HIGH] == 0 || is_wide(table);
 }
 
 static int room_left(const uint32_t *table, uint32_t service)
@@ -724,7 +792,7 @@ static int room_left(const uint32_t *table, uint32_t service)
 
 static uint32_t refusal_of(const uint32_t *table, size_t words, const uint32_t *call)
 {
-    if (words != WORDS)
+    if (layout_for(words) == NULL)
         return BAD_LENGTH;
     if (call[C_SERVICE] == BLANK)
         return ACCEPTED;
@@ -740,19 +808,21 @@ static uint32_t refusal_of(const uint32_t *table, size_t words, const uint32_t *
         return BAD_ARGUMENT;
     if (!side_known(table, call))
         return BAD_ARGUMENT;
+    if (!high_fits(table, call))
+        return BAD_ARGUMENT;
     if (!room_left(table, call[C_SERVICE]))
         return TABLE_FULL;
     return ACCEPTED;
 }
 
 /* Gives how many are ahead of the caller: none but in a hub request. */
-static uint32_t serve(uint32_t *table, const uint32_t *call)
+static uint32_t serve(uint32_t *table, const layout *of, const uint32_t *call)
 {
     uint32_t ahead = 0;
 
     switch (call[C_SERVICE]) {
     case BLANK:
-        blank(table);
+        blank(table, of);
         break;
     case HUB_REQUEST:
         ahead = hub_request(table, call);
@@ -801,16 +871,16 @@ static void write_number(writer *to, uint32_t number)
 
 static void write_line(writer *to, const uint32_t call[CALL_NUMBERS])
 {
-    for (int i = 0; i < CALL_NUMBERS; i++) {
+    for (int i = 0; i < LINE_NUMBERS; i++) {
         write_number(to, call[i]);
-        write_byte(to, i + 1 < CALL_NUMBERS ? ' ' : '\n');
+        write_byte(to, i + 1 < LINE_NUMBERS ? ' ' : '\n');
     }
 }
 
 static void write_tasks(writer *to, const uint32_t *table)
 {
     for (uint32_t number = 0; number < table[TASKS_IN_USE_AT]; number++) {
-        const uint32_t *task = table + task_place(number);
+        const uint32_t *task = table + task_place(table, number);
         write_line(to, (uint32_t[CALL_NUMBERS]){[C_SERVICE] = ADD_TASK,
                                                 [C_TARGET] = task[T_PRIORITY]});
     }
@@ -819,7 +889,7 @@ static void write_tasks(writer *to, const uint32_t *table)
 static void write_hubs(writer *to, const uint32_t *table)
 {
     for (uint32_t number = 0; number < table[HUBS_IN_USE_AT]; number++) {
-        const uint32_t *hub = table + hub_place(number);
+        const uint32_t *hub = table + hub_place(table, number);
         write_line(to, (uint32_t[CALL_NUMBERS]){[C_SERVICE] = ADD_HUB,
                                                 [C_TARGET] = hub[H_KIND],
                                                 [C_TICKS] = hub[H_LIMIT],
@@ -834,17 +904,80 @@ static void write_set_up(writer *to, const uint32_t *table)
     write_hubs(to, table);
 }
 
+/* ---- The moves --------------------------------------------------------- */
+
+/* What stands the same way in both editions, only elsewhere: T and H, the hub records,
+ * the ready list and the waiting lists. The bodies in between begin with the hubs. */
+static void copy_common(uint32_t *to, const uint32_t *from)
+{
+    memcpy(to + TASKS_IN_USE_AT, from + TASKS_IN_USE_AT, 2 * sizeof *to);
+    memcpy(to + hub_place(to, 0), from + hub_place(from, 0),
+           (store_place(from, 0) - hub_place(from, 0)) * sizeof *to);
+}
+
+/* Every task record, then every store, message by message, in use or not: what isn't is 0
+ * in a well-formed table, and becomes so here. Both tables have their editions already. */
+static void copy_messages(uint32_t *to, const uint32_t *from)
+{
+    for (uint32_t task = 0; task < TASKS; task++) {
+        memcpy(to + task_place(to, task), from + task_place(from, task), T_WORD * sizeof *to);
+        set_message(to, word_place(to, task), message(from, word_place(from, task)));
+        to[task_place(to, task) + answer_at(to)] = from[task_place(from, task) + answer_at(from)];
+    }
+    for (uint32_t hub = 0; hub < HUBS; hub++)
+        for (uint32_t i = 0; i < HELD_MOST; i++)
+            set_message(to, held_place(to, hub, i), message(from, held_place(from, hub, i)));
+}
+
+/* Of an edition 2 table. */
+static int has_high_word(const uint32_t *table)
+{
+    uint64_t any = 0;
+
+    for (uint32_t task = 0; task < TASKS; task++)
+        any |= message(table, word_place(table, task));
+    for (uint32_t hub = 0; hub < HUBS; hub++)
+        for (uint32_t i = 0; i < HELD_MOST; i++)
+            any |= message(table, held_place(table, hub, i));
+    return any >> 32 != 0;
+}
+
+static uint32_t move(const uint32_t *from, size_t from_words, const layout *old, uint32_t *to,
+                     size_t to_words, const layout *new)
+{
+    if (from_words != old->words || to_words != new->words)
+        return BAD_LENGTH;
+    if (second_well_formed(from, from_words) != SECOND_RIGHT)
+        return NOT_WELL_FORMED;
+    if (new->message_words < old->message_words && has_high_word(from))
+        return HIGH_WORD;
+    write_contents(to, new);
+    copy_common(to, from);
+    copy_messages(to, from);
+    return ACCEPTED;
+}
+
+uint32_t second_move_up(const uint32_t *from, size_t from_words, uint32_t *to, size_t to_words)
+{
+    return move(from, from_words, &layouts[0], to, to_words, &layouts[1]);
+}
+
+uint32_t second_move_down(const uint32_t *from, size_t from_words, uint32_t *to, size_t to_words)
+{
+    return move(from, from_words, &layouts[1], to, to_words, &layouts[0]);
+}
+
 /* ---- Edges ------------------------------------------------------------- */
 
-second_reply second_call(uint32_t *table, size_t words, const uint32_t call[7])
+second_reply second_call(uint32_t *table, size_t words, const uint32_t call[8])
 {
     second_reply reply = {refusal_of(table, words, call), 0, 0, 0};
 
     if (reply.refusal != ACCEPTED)
         return reply;
-    reply.ahead = serve(table, call);
+    reply.ahead = serve(table, layout_for(words), call);
     if (has_caller(call[C_SERVICE]))
-        reply.answer = table[task_place(call[C_CALLER]) + T_ANSWER];
+        reply.answer = table[task_place(table, call[C_CALLER]) + answer_at(table)];
     reply.next = running(table);
     return reply;
 }
@@ -853,7 +986,7 @@ second_summary_reply second_summary(const uint32_t *table, size_t words, uint32_
 {
     second_summary_reply reply = {ACCEPTED, 0, 0};
 
-    if (words != WORDS)
+    if (layout_for(words) == NULL)
         reply.refusal = BAD_LENGTH;
     else if (second_well_formed(table, words) != SECOND_RIGHT)
         reply.refusal = NOT_WELL_FORMED;
@@ -862,7 +995,7 @@ second_summary_reply second_summary(const uint32_t *table, size_t words, uint32_
     if (reply.refusal != ACCEPTED)
         return reply;
 
-    const uint32_t *list = table + list_place(hub);
+    const uint32_t *list = table + list_place(table, hub);
     for (; reply.count < LIST_WORDS && list[reply.count] != 0; reply.count++)
         reply.mask |= UINT32_C(1) << (list[reply.count] - 1);
     return reply;
@@ -873,7 +1006,7 @@ second_listing_reply second_listing(const uint32_t *table, size_t words, uint8_t
 {
     writer counted = {NULL, 0}, written = {text, 0};
 
-    if (words != WORDS)
+    if (layout_for(words) == NULL)
         return (second_listing_reply){BAD_LENGTH, 0};
     if (second_well_formed(table, words) != SECOND_RIGHT)
         return (second_listing_reply){NOT_WELL_FORMED, 0};
@@ -884,16 +1017,20 @@ second_listing_reply second_listing(const uint32_t *table, size_t words, uint8_t
     return (second_listing_reply){ACCEPTED, (uint32_t)written.length};
 }
 
-static void words_from_bytes(uint32_t *table, const uint8_t *bytes)
+/* So many words of a buffer of bytes, whole ones or not: a length that isn't whole words
+ * is no table's, and neither are 0 words. */
+static size_t whole_words(size_t bytes) { return bytes % 4 == 0 ? bytes / 4 : 0; }
+
+static void words_from_bytes(uint32_t *table, const uint8_t *bytes, size_t words)
 {
-    for (size_t i = 0; i < WORDS; i++, bytes += 4)
+    for (size_t i = 0; i < words; i++, bytes += 4)
         table[i] = (uint32_t)bytes[0] | (uint32_t)bytes[1] << 8 | (uint32_t)bytes[2] << 16 |
                    (uint32_t)bytes[3] << 24;
 }
 
-static void bytes_from_words(uint8_t *bytes, const uint32_t *table)
+static void bytes_from_words(uint8_t *bytes, const uint32_t *table, size_t words)
 {
-    for (size_t i = 0; i < WORDS; i++, bytes += 4) {
+    for (size_t i = 0; i < words; i++, bytes += 4) {
         bytes[0] = (uint8_t)table[i];
         bytes[1] = (uint8_t)(table[i] >> 8);
         bytes[2] = (uint8_t)(table[i] >> 16);
@@ -901,36 +1038,67 @@ static void bytes_from_words(uint8_t *bytes, const uint32_t *table)
     }
 }
 
-second_reply second_call_bytes(uint8_t *bytes, size_t length, const uint32_t call[7])
+second_reply second_call_bytes(uint8_t *bytes, size_t length, const uint32_t call[8])
 {
-    uint32_t table[WORDS];
+    uint32_t table[WORDS_MOST];
+    size_t words = whole_words(length);
 
-    if (length != BYTES)
+    if (layout_for(words) == NULL)
         return (second_reply){BAD_LENGTH, 0, 0, 0};
-    words_from_bytes(table, bytes);
-    second_reply reply = second_call(table, WORDS, call);
+    words_from_bytes(table, bytes, words);
+    second_reply reply = second_call(table, words, call);
     if (reply.refusal == ACCEPTED)
-        bytes_from_words(bytes, table);
+        bytes_from_words(bytes, table, words);
     return reply;
 }
 
 second_summary_reply second_summary_bytes(const uint8_t *bytes, size_t length, uint32_t hub)
 {
-    uint32_t table[WORDS];
+    uint32_t table[WORDS_MOST];
+    size_t words = whole_words(length);
 
-    if (length != BYTES)
+    if (layout_for(words) == NULL)
         return (second_summary_reply){BAD_LENGTH, 0, 0};
-    words_from_bytes(table, bytes);
-    return second_summary(table, WORDS, hub);
+    words_from_bytes(table, bytes, words);
+    return second_summary(table, words, hub);
 }
 
 second_listing_reply second_listing_bytes(const uint8_t *bytes, size_t length, uint8_t *text,
                                           size_t room)
 {
-    uint32_t table[WORDS];
+    uint32_t table[WORDS_MOST];
+    size_t words = whole_words(length);
 
-    if (length != BYTES)
+    if (layout_for(words) == NULL)
         return (second_listing_reply){BAD_LENGTH, 0};
-    words_from_bytes(table, bytes);
-    return second_listing(table, WORDS, text, room);
+    words_from_bytes(table, bytes, words);
+    return second_listing(table, words, text, room);
+}
+
+/* The move that starts at one of these two; the other table is of the other size, or the
+ * move is refused before a word of it is written. */
+static uint32_t move_bytes(const uint8_t *from, size_t from_bytes, uint8_t *to, size_t to_bytes,
+                           uint32_t (*words_moved)(const uint32_t *, size_t, uint32_t *, size_t))
+{
+    uint32_t old[WORDS_MOST], new[WORDS_MOST];
+    size_t from_words = whole_words(from_bytes), to_words = whole_words(to_bytes);
+
+    if (layout_for(from_words) == NULL || layout_for(to_words) == NULL)
+        return BAD_LENGTH;
+    words_from_bytes(old, from, from_words);
+    uint32_t refusal = words_moved(old, from_words, new, to_words);
+    if (refusal == ACCEPTED)
+        bytes_from_words(to, new, to_words);
+    return refusal;
+}
+
+uint32_t second_move_up_bytes(const uint8_t *from, size_t from_bytes, uint8_t *to, size_t to_bytes)
+{
+    return move_bytes(from, from_bytes, to, to_bytes, second_move_up);
+}
+
+uint32_t second_move_down_bytes(const uint8_t *from, size_t from_bytes, uint8_t *to,
+                                size_t to_bytes)
+{
+    return move_bytes(from, from_bytes, to, to_bytes, second_move_down);
 }

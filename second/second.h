@@ -1,25 +1,30 @@
 /* The second program: the hub kernel of document 01 again, with requests M-100,
- * M-101, M-103 and M-104, in C11, written from the papers alone. It is what the proved
- * kernel is compared with.
+ * M-101, M-103, M-104 and M-105, in C11, written from the papers alone. It is what the
+ * proved kernel is compared with.
  *
  * Ownership: the caller owns the table and lends it for one call. No globals,
  * no allocation, nothing kept between calls.
  *
- * A table is 600 words of 32 bits, or the same words as 2,400 little-endian
- * bytes. A call is seven numbers: service, caller, target, side, mode, ticks,
- * word. numbers.h has the places and the names of all values.
+ * A table is 600 words of 32 bits (edition 1) or 744 (edition 2), or the same words as
+ * 2,400 or 2,976 little-endian bytes: the length decides, and contents that say another
+ * edition are not well formed. A call is eight numbers: service, caller, target, side,
+ * mode, ticks, word, high. The high word is read by hub requests only; in edition 2 a
+ * message is word + 2^32 * high. numbers.h has the places and the names of all values.
  *
  * Refusals, tested in this order; a refused call answers 0, next 0, ahead 0 (mask 0,
  * count 0; length 0) and writes nothing:
- *   1  length isn't 600 words (2,400 bytes)
- *   2  table not well formed (never for Blank); so is, since M-101, one in which
- *      an inactive task owns a Resource: Stop left such tables before
+ *   1  a length that is neither size
+ *   2  table not well formed (never for Blank, which makes the edition that fits the
+ *      length); so is, since M-101, one in which an inactive task owns a Resource: Stop
+ *      left such tables before
  *   3  service above 10
  *   4  services 1 to 7: caller isn't the running task
  *   5  service 1 and the summary: hub not in use; 2 to 5: task not in use
- *   6  an argument outside its range; side 3 at a hub that isn't a Board
+ *   6  an argument outside its range; side 3 at a hub that isn't a Board; service 1 on
+ *      edition 1: a high word above 0
  *   7  service 9 or 10 with 16 already
  *   8  the listing: the buffer is shorter than it
+ *   9  the move to edition 1: some high word isn't 0
  */
 #ifndef SECOND_H
 #define SECOND_H
@@ -49,8 +54,8 @@ typedef struct {
 /* What second_well_formed found wrong first. */
 typedef enum {
     SECOND_RIGHT = 0,
-    SECOND_LENGTH,       /* not 600 words */
-    SECOND_CONTENTS,     /* edition, T, H or a start */
+    SECOND_LENGTH,       /* neither 600 nor 744 words */
+    SECOND_CONTENTS,     /* edition (of that length), T, H or a start */
     SECOND_UNUSED,       /* an unused record, waiting list or store isn't 0 */
     SECOND_TASK_RANGE,   /* state, suspended or priority out of range */
     SECOND_INACTIVE,     /* the record of a task in this state ... */
@@ -69,22 +74,33 @@ typedef enum {
     SECOND_STORE         /* a store holds more than its FIFO's words, or its Board's word */
 } second_clause;
 
-second_reply second_call(uint32_t *table, size_t words, const uint32_t call[7]);
+second_reply second_call(uint32_t *table, size_t words, const uint32_t call[8]);
 second_summary_reply second_summary(const uint32_t *table, size_t words, uint32_t hub);
 
-/* The set-up as drill lines (request M-100): Blank, one Add task with side 0
+/* The set-up as drill lines (request M-100), of either edition: Blank, one Add task with side 0
  * per task, one Add hub per hub, in number order, unused fields 0, each line
  * with its newline. Written to the start of a lent buffer of `room` bytes, which
  * must not overlap the table; the bytes behind the listing are left. */
 second_listing_reply second_listing(const uint32_t *table, size_t words, uint8_t *text,
                                     size_t room);
 
+/* The table of `from`, of edition 1, as one of edition 2 with high words 0; and back, which
+ * is refused with 9 exactly if some high word isn't 0. Up takes 600 and 744 words, down 744
+ * and 600; any other pair is 1, then a malformed `from` 2, then 9. Gives the refusal, 0 if
+ * done; a refused move writes nothing. The two must not overlap. */
+uint32_t second_move_up(const uint32_t *from, size_t from_words, uint32_t *to, size_t to_words);
+uint32_t second_move_down(const uint32_t *from, size_t from_words, uint32_t *to, size_t to_words);
+
 /* 0 when well formed, else the first broken clause (a second_clause). */
 int second_well_formed(const uint32_t *table, size_t words);
 
-second_reply second_call_bytes(uint8_t *bytes, size_t length, const uint32_t call[7]);
+second_reply second_call_bytes(uint8_t *bytes, size_t length, const uint32_t call[8]);
 second_summary_reply second_summary_bytes(const uint8_t *bytes, size_t length, uint32_t hub);
 second_listing_reply second_listing_bytes(const uint8_t *bytes, size_t length, uint8_t *text,
                                           size_t room);
+uint32_t second_move_up_bytes(const uint8_t *from, size_t from_bytes, uint8_t *to,
+                              size_t to_bytes);
+uint32_t second_move_down_bytes(const uint8_t *from, size_t from_bytes, uint8_t *to,
+                                size_t to_bytes);
 
 #endif

@@ -1,6 +1,7 @@
 /* The second program's tests: constructed cases, runs from Blank with demand 3
  * checked, built tables, Stops of owners, requests to Boards and to hubs at which many
- * wait, damaged tables, listings, coverage.
+ * wait, damaged tables, listings, all on both editions; moves from one to the other, in
+ * the middle of runs too; coverage.
  * `test SIZE` runs them all, one line each; the first failure ends the program.
  *
  * Each call is checked against expect.c word for word, and besides for what
@@ -35,22 +36,29 @@ typedef struct {
     uint32_t queues;              /* family h */
     uint32_t damages, flips;      /* family c: tables per family; tables with flips */
     uint32_t set_ups, rooms;      /* family e: tables listed; tables listed into every room */
+    uint32_t moves, moved_runs;   /* family i: tables moved, so many done each way at least;
+                                   * runs with moves in the middle */
+    uint32_t least;               /* calls on each edition */
     unsigned seconds;             /* a program that loops is ended after these */
     int coverage;                 /* rows must have their hits */
 } scale;
 
 static const scale scales[] = {
-    {"quick", 60, 400, 1000, 8, 400, 400, 400, 3, 3000, 200, 3, 60, 0},
-    {"gate", 1500, 500, 60000, 8, 20000, 20000, 20000, 110, 200000, 20000, 80, 600, 1},
-    {"long", 20000, 1000, 1000000, 8, 400000, 400000, 400000, 1000, 5000000, 400000, 2000, 7200,
-     1},
+    {"quick", 60, 400, 1000, 8, 400, 400, 400, 3, 3000, 200, 3, 1500, 40, 40000, 60, 0},
+    {"gate", 1500, 500, 60000, 8, 20000, 20000, 20000, 110, 200000, 20000, 80, 100000, 600,
+     1000000, 600, 1},
+    {"long", 20000, 1000, 1000000, 8, 400000, 400000, 400000, 1000, 5000000, 400000, 2000, 2000000,
+     10000, 30000000, 14400, 1},
 };
 
 /* Where the tests are, for the report of a failure, and what they counted. */
 typedef struct {
     const char *part;
     uint64_t seed; /* in a constructed case: the step */
+    const layout *form; /* of the tables that are being tested */
     uint64_t calls, requests;
+    uint64_t moves[EDITIONS], moved[EDITIONS]; /* from that edition: called, done */
+    uint64_t moves_digest;
     uint64_t digest; /* of all calls, replies and tables: the same on every machine */
     uint64_t listings, listings_digest; /* of all listings, their replies and texts */
     gen_random random;
@@ -77,9 +85,24 @@ static void begin(bench *at, const char *part, uint64_t seed)
     gen_seed(&at->other, ~seed);
 }
 
-static int same_words(const uint32_t *a, const uint32_t *b)
+/* What follows is of tables of this edition. */
+static void set_edition(bench *at, uint32_t edition)
 {
-    return memcmp(a, b, WORDS * sizeof *a) == 0;
+    at->form = &layouts[edition - EDITION_1];
+    at->seen.edition = edition;
+}
+
+static size_t words_of(const bench *at) { return at->form->words; }
+static size_t bytes_of(const bench *at) { return 4 * at->form->words; }
+
+static int same_words(const bench *at, const uint32_t *a, const uint32_t *b)
+{
+    return memcmp(a, b, bytes_of(at)) == 0;
+}
+
+static int well_formed(const bench *at, const uint32_t *table)
+{
+    return expect_well_formed(table, words_of(at));
 }
 
 static int same_reply(second_reply a, second_reply b)
@@ -88,9 +111,9 @@ static int same_reply(second_reply a, second_reply b)
            a.ahead == b.ahead;
 }
 
-static void to_bytes(uint8_t *bytes, const uint32_t *table)
+static void to_bytes(uint8_t *bytes, const uint32_t *table, size_t words)
 {
-    for (size_t i = 0; i < BYTES; i++)
+    for (size_t i = 0; i < 4 * words; i++)
         bytes[i] = (uint8_t)(table[i / 4] >> i % 4 * 8);
 }
 
@@ -99,40 +122,40 @@ static void to_bytes(uint8_t *bytes, const uint32_t *table)
 static void check_bytes(bench *at, const uint32_t *before, const uint32_t *call, second_reply reply,
                         const uint32_t *after)
 {
-    uint8_t bytes[BYTES], bytes_after[BYTES];
+    uint8_t bytes[BYTES_MOST], bytes_after[BYTES_MOST];
 
-    to_bytes(bytes, before);
-    to_bytes(bytes_after, after);
-    if (!same_reply(second_call_bytes(bytes, BYTES, call), reply) ||
-        memcmp(bytes, bytes_after, BYTES) != 0)
+    to_bytes(bytes, before, words_of(at));
+    to_bytes(bytes_after, after, words_of(at));
+    if (!same_reply(second_call_bytes(bytes, bytes_of(at), call), reply) ||
+        memcmp(bytes, bytes_after, bytes_of(at)) != 0)
         fail(at, call, "the byte version differs");
 }
 
 /* The mask by the records, the count by the bits of the mask. */
 static void check_summary(bench *at, const uint32_t *table, uint32_t hub)
 {
-    second_summary_reply reply = second_summary(table, WORDS, hub);
+    second_summary_reply reply = second_summary(table, words_of(at), hub);
     uint32_t mask = 0, count = 0, refusal = 0;
-    uint8_t bytes[BYTES];
+    uint8_t bytes[BYTES_MOST];
 
-    if (!expect_well_formed(table))
+    if (!well_formed(at, table))
         refusal = NOT_WELL_FORMED;
     else if (hub >= table[HUBS_IN_USE_AT])
         refusal = NOT_IN_USE;
     for (uint32_t task = 0; refusal == 0 && task < table[TASKS_IN_USE_AT]; task++)
-        if (table[task_place(task) + T_STATE] == WAITING &&
-            table[task_place(task) + T_HUB] == hub + 1)
+        if (table[task_place(table, task) + T_STATE] == WAITING &&
+            table[task_place(table, task) + T_HUB] == hub + 1)
             mask |= UINT32_C(1) << task;
     for (uint32_t rest = mask; rest != 0; rest &= rest - 1)
         count++;
     if (reply.refusal != refusal || reply.mask != mask || reply.count != count)
         fail(at, NULL, "the summary differs");
 
-    to_bytes(bytes, table);
-    second_summary_reply again = second_summary_bytes(bytes, BYTES, hub);
+    to_bytes(bytes, table, words_of(at));
+    second_summary_reply again = second_summary_bytes(bytes, bytes_of(at), hub);
     if (memcmp(&again, &reply, sizeof reply) != 0)
         fail(at, NULL, "the byte version of the summary differs");
-    cover_summary(&at->seen, table, WORDS, reply);
+    cover_summary(&at->seen, table, words_of(at), reply);
 }
 
 static void digest(bench *at, const uint32_t *words, size_t count)
@@ -155,11 +178,11 @@ static void hold(bench *at, uint8_t *text)
 static void check_listing_bytes(bench *at, const uint32_t *table, const uint8_t *held, size_t room,
                                 second_listing_reply reply, const uint8_t *after)
 {
-    uint8_t bytes[BYTES], text[TEXT_BYTES];
+    uint8_t bytes[BYTES_MOST], text[TEXT_BYTES];
 
-    to_bytes(bytes, table);
+    to_bytes(bytes, table, words_of(at));
     memcpy(text, held, sizeof text);
-    second_listing_reply again = second_listing_bytes(bytes, BYTES, text, room);
+    second_listing_reply again = second_listing_bytes(bytes, bytes_of(at), text, room);
     if (memcmp(&again, &reply, sizeof reply) != 0 || memcmp(text, after, sizeof text) != 0)
         fail(at, NULL, "the byte version of the listing differs");
 }
@@ -183,9 +206,11 @@ static second_listing_reply check_listing(bench *at, const uint32_t *table, size
     memcpy(text, held, sizeof text);
     memcpy(expected, held, sizeof expected);
     at->listings++;
-    second_listing_reply reply = second_listing(table, WORDS, text, room);
-    second_listing_reply expects = expect_listing(table, expected, room);
-    size_t needed = expects.refusal == NOT_WELL_FORMED ? 0 : expect_listing_length(table);
+    second_listing_reply reply = second_listing(table, words_of(at), text, room);
+    second_listing_reply expects = expect_listing(table, words_of(at), expected, room);
+    size_t needed = expects.refusal == NOT_WELL_FORMED
+                        ? 0
+                        : expect_listing_length(table, words_of(at));
 
     if (reply.refusal != expects.refusal)
         fail(at, NULL, "the listing: another refusal was expected");
@@ -210,7 +235,9 @@ static second_listing_reply check_listing(bench *at, const uint32_t *table, size
 static size_t draw_room(bench *at, const uint32_t *table)
 {
     uint32_t any = gen_below(&at->other, LISTING_MOST + PAST + 1);
-    uint32_t needed = expect_well_formed(table) ? (uint32_t)expect_listing_length(table) : any;
+    uint32_t needed = well_formed(at, table)
+                          ? (uint32_t)expect_listing_length(table, words_of(at))
+                          : any;
 
     switch (gen_below(&at->other, 8)) {
     case 0:
@@ -233,16 +260,17 @@ static size_t draw_room(bench *at, const uint32_t *table)
 static int check_pair(bench *at, const uint32_t *a, const uint32_t *b)
 {
     uint8_t text_a[LISTING_MOST], text_b[LISTING_MOST];
-    uint32_t stripped_a[WORDS], stripped_b[WORDS];
-    second_listing_reply of_a = second_listing(a, WORDS, text_a, sizeof text_a);
-    second_listing_reply of_b = second_listing(b, WORDS, text_b, sizeof text_b);
+    uint32_t stripped_a[WORDS_MOST], stripped_b[WORDS_MOST];
+    second_listing_reply of_a = second_listing(a, words_of(at), text_a, sizeof text_a);
+    second_listing_reply of_b = second_listing(b, words_of(at), text_b, sizeof text_b);
     int same = of_a.length == of_b.length && memcmp(text_a, text_b, of_a.length) == 0;
 
     if (of_a.refusal != ACCEPTED || of_b.refusal != ACCEPTED)
         fail(at, NULL, "638 bytes are enough for every listing");
-    expect_stripped(a, stripped_a);
-    expect_stripped(b, stripped_b);
-    if (same != expect_same_set_up(a, b) || same != same_words(stripped_a, stripped_b))
+    expect_stripped(a, words_of(at), stripped_a, words_of(at));
+    expect_stripped(b, words_of(at), stripped_b, words_of(at));
+    if (same != expect_same_set_up(a, b, words_of(at)) ||
+        same != same_words(at, stripped_a, stripped_b))
         fail(at, NULL, "one listing exactly if one set-up");
     return same;
 }
@@ -251,11 +279,11 @@ static int check_pair(bench *at, const uint32_t *a, const uint32_t *b)
  * caller waits by this call, the entries up to its own; else 0. */
 static uint32_t ahead_read(const uint32_t *call, const uint32_t *after)
 {
-    const uint32_t *list = after + list_place(call[C_TARGET]);
+    const uint32_t *list = after + list_place(after, call[C_TARGET]);
     uint32_t ahead = 0;
 
     if (call[C_SERVICE] != HUB_REQUEST ||
-        after[task_place(call[C_CALLER]) + T_STATE] != WAITING)
+        after[task_place(after, call[C_CALLER]) + T_STATE] != WAITING)
         return 0;
     while (ahead < LIST_WORDS && list[ahead] != call[C_CALLER] + 1)
         ahead++;
@@ -264,45 +292,46 @@ static uint32_t ahead_read(const uint32_t *call, const uint32_t *after)
 
 static second_reply check_call(bench *at, uint32_t *table, const uint32_t *call)
 {
-    uint32_t before[WORDS], expected[WORDS];
+    uint32_t before[WORDS_MOST], expected[WORDS_MOST];
+    size_t words = words_of(at);
 
-    memcpy(before, table, sizeof before);
-    memcpy(expected, table, sizeof expected);
+    memcpy(before, table, bytes_of(at));
+    memcpy(expected, table, bytes_of(at));
     at->calls++;
-    second_reply reply = second_call(table, WORDS, call);
-    second_reply expects = expect_call(expected, call);
+    second_reply reply = second_call(table, words, call);
+    second_reply expects = expect_call(expected, words, call);
 
     if (reply.refusal != expects.refusal)
         fail(at, call, "another refusal was expected");
     if (reply.refusal != ACCEPTED && (reply.answer != 0 || reply.next != 0 || reply.ahead != 0))
         fail(at, call, "a refused call answered");
-    if (reply.refusal != ACCEPTED && !same_words(table, before))
+    if (reply.refusal != ACCEPTED && !same_words(at, table, before))
         fail(at, call, "a refused call changed the table");
-    if (reply.refusal == ACCEPTED && second_well_formed(table, WORDS) != SECOND_RIGHT)
+    if (reply.refusal == ACCEPTED && second_well_formed(table, words) != SECOND_RIGHT)
         fail(at, call, "an accepted call left a table that isn't well formed");
-    if (reply.refusal == ACCEPTED && !expect_well_formed(table))
+    if (reply.refusal == ACCEPTED && !well_formed(at, table))
         fail(at, call, "an accepted call left a table that isn't well formed to expect.c");
     if (reply.answer > FAIL)
         fail(at, call, "the answer isn't nothing yet, OK or FAIL");
-    if (reply.refusal == ACCEPTED && reply.next != expect_next(table))
+    if (reply.refusal == ACCEPTED && reply.next != expect_next(table, words))
         fail(at, call, "next isn't the running task");
     if (reply.refusal == ACCEPTED && reply.ahead != ahead_read(call, table))
         fail(at, call, "ahead isn't how many stand before the caller in the list");
     if (!same_reply(reply, expects))
         fail(at, call, "another reply was expected");
-    if (!same_words(table, expected))
+    if (!same_words(at, table, expected))
         fail(at, call, "another table was expected");
     cover_call(&at->seen, before, call, reply, table);
     digest(at, call, CALL_NUMBERS);
     digest(at, (uint32_t[]){reply.refusal, reply.answer, reply.next, reply.ahead}, 4);
-    digest(at, table, WORDS);
+    digest(at, table, words);
     if (at->calls % 16 == 0) {
         check_bytes(at, before, call, reply, table);
         check_summary(at, table, gen_below(&at->random, gen_chance(&at->random, 90) ? 6 : 40));
     }
     if (at->calls % 32 == 0) {
         check_listing(at, table, draw_room(at, table));
-        if (reply.refusal == ACCEPTED && expect_well_formed(before))
+        if (reply.refusal == ACCEPTED && well_formed(at, before))
             cover_pair(&at->seen, check_pair(at, before, table) ? COVER_KEPT : COVER_ADDED);
     }
     return reply;
@@ -312,14 +341,96 @@ static second_reply check_call(bench *at, uint32_t *table, const uint32_t *call)
  * is checked. */
 static second_reply enter_call(bench *at, uint32_t *table, const uint32_t *call, int alone)
 {
-    uint32_t before[WORDS];
+    uint32_t before[WORDS_MOST];
     const char *wrong;
 
-    memcpy(before, table, sizeof before);
-    second_reply reply = alone ? second_call(table, WORDS, call) : check_call(at, table, call);
+    memcpy(before, table, bytes_of(at));
+    second_reply reply = alone ? second_call(table, words_of(at), call)
+                               : check_call(at, table, call);
     if ((wrong = ledger_enter(&at->book, before, call, reply, table)) != NULL)
         fail(at, call, wrong);
     return reply;
+}
+
+/* ---- One move ---------------------------------------------------------- */
+
+typedef uint32_t words_move(const uint32_t *, size_t, uint32_t *, size_t);
+typedef uint32_t bytes_move(const uint8_t *, size_t, uint8_t *, size_t);
+
+static words_move *move_of(const bench *at)
+{
+    return at->form->edition == EDITION_1 ? second_move_up : second_move_down;
+}
+
+static const layout *other_form(const bench *at) { return &layouts[EDITION_2 - at->form->edition]; }
+
+enum { TO_WORDS = WORDS_MOST + 4 }; /* no destination reaches the last two */
+
+/* The same move over bytes, which lie anywhere: reply, and every byte of the destination. */
+static void check_move_bytes(bench *at, const uint32_t *from, size_t length, size_t to_length,
+                             uint32_t refusal, const uint32_t *held, const uint32_t *after)
+{
+    uint8_t source[4 * TO_WORDS + 1], to[4 * TO_WORDS + 1], expected[4 * TO_WORDS + 1];
+    bytes_move *move = at->form->edition == EDITION_1 ? second_move_up_bytes
+                                                      : second_move_down_bytes;
+    size_t place = at->moves[0] % 2;
+
+    memset(source, 0, sizeof source);
+    memset(to, 0, sizeof to);
+    memset(expected, 0, sizeof expected);
+    to_bytes(source + place, from, words_of(at));
+    to_bytes(to + place, held, TO_WORDS);
+    to_bytes(expected + place, after, TO_WORDS);
+    if (move(source + place, length, to + place, to_length) != refusal ||
+        memcmp(to, expected, sizeof to) != 0)
+        fail(at, NULL, "the byte version of the move differs");
+}
+
+/* A move from a table of this edition, of WORDS_MOST words whatever its length, into a
+ * destination of so many words. */
+static uint32_t check_move(bench *at, const uint32_t *from, size_t from_words, size_t to_words,
+                           uint32_t *moved)
+{
+    uint32_t to[TO_WORDS], held[TO_WORDS], expected[TO_WORDS], source[WORDS_MOST];
+    int sizes = from_words == words_of(at) && to_words == other_form(at)->words;
+    cover_moved of = {from_words, to_words, 0, 0, 0};
+
+    for (size_t i = 0; i < TO_WORDS; i++)
+        held[i] = gen_word(&at->other);
+    memcpy(to, held, sizeof to);
+    memcpy(expected, held, sizeof expected);
+    memcpy(source, from, sizeof source);
+    at->moves[at->form->edition - EDITION_1]++;
+    of.refusal = move_of(at)(source, from_words, to, to_words);
+    of.malformed = !well_formed(at, from);
+    of.high_words = at->form->edition == EDITION_2 ? expect_high_words(from) : 0;
+
+    if (of.refusal != (sizes ? expect_move(from, from_words, expected, to_words) : 1))
+        fail(at, NULL, "the move: another refusal was expected");
+    if (memcmp(source, from, sizeof source) != 0)
+        fail(at, NULL, "a move changed its source");
+    if (of.refusal != ACCEPTED && memcmp(to, held, sizeof to) != 0)
+        fail(at, NULL, "a refused move wrote");
+    if (memcmp(to, expected, sizeof to) != 0)
+        fail(at, NULL, "another table moved was expected");
+    if (of.refusal == ACCEPTED && (second_well_formed(to, to_words) != SECOND_RIGHT ||
+                                   !expect_well_formed(to, to_words)))
+        fail(at, NULL, "a move left a table that isn't well formed");
+    if (at->moves[at->form->edition - EDITION_1] % 4 == 0)
+        check_move_bytes(at, from, 4 * from_words, 4 * to_words, of.refusal, held, to);
+    cover_move(&at->seen, from, &of);
+    at->moves_digest = (at->moves_digest ^ of.refusal) * UINT64_C(0x100000001B3);
+    for (size_t i = 0; of.refusal == ACCEPTED && i < to_words; i++)
+        at->moves_digest = (at->moves_digest ^ to[i]) * UINT64_C(0x100000001B3);
+    at->moved[at->form->edition - EDITION_1] += of.refusal == ACCEPTED;
+    memcpy(moved, to, WORDS_MOST * sizeof *to);
+    return of.refusal;
+}
+
+/* The move of a table of this edition to the other: the edition stays as it is. */
+static uint32_t move_table(bench *at, const uint32_t *from, uint32_t *moved)
+{
+    return check_move(at, from, words_of(at), other_form(at)->words, moved);
 }
 
 static void end_run(bench *at, const uint32_t *call, const uint32_t *table)
@@ -335,16 +446,39 @@ static void end_run(bench *at, const uint32_t *call, const uint32_t *table)
 /* One call on the table of the step before, its reply, and up to four words of
  * the table after it ({0, 0} ends them: the edition is never asked for). */
 typedef struct {
-    uint32_t call[7];
+    uint32_t call[8]; /* the high word is 0 where seven numbers are written */
     second_reply reply;
     struct {
         uint32_t at, value;
     } words[5];
 } step;
 
-static void take_steps(bench *at, const char *name, const step *steps, size_t count)
+/* Where edition 2 has what stands at this place of edition 1. */
+static uint32_t place_in_2(uint32_t place)
 {
-    uint32_t table[WORDS] = {0};
+    if (place < 8)
+        return place;
+    if (place < 136)
+        return 8 + (place - 8) / 8 * 9 + (place - 8) % 8 + ((place - 8) % 8 == 7);
+    return place < 472 ? place + 16 : 488 + 2 * (place - 472);
+}
+
+/* In edition 2, with places of edition 1, which are then looked for where edition 2 has
+ * them; the starts of the bodies are 16 more, but for the first. */
+static void look(bench *at, const uint32_t *table, const step *it, int mapped)
+{
+    for (int j = 0; it->words[j].at != 0; j++) {
+        uint32_t place = it->words[j].at, value = it->words[j].value;
+        if (mapped && place > 3 && place < 8)
+            value += 16;
+        if (table[mapped ? place_in_2(place) : place] != value)
+            fail(at, it->call, "the case expects another word");
+    }
+}
+
+static void take_steps_in(bench *at, const char *name, const step *steps, size_t count, int mapped)
+{
+    uint32_t table[WORDS_MOST] = {0};
 
     at->part = name;
     ledger_begin(&at->book);
@@ -352,18 +486,26 @@ static void take_steps(bench *at, const char *name, const step *steps, size_t co
         at->seed = i + 1;
         if (!same_reply(enter_call(at, table, steps[i].call, 0), steps[i].reply))
             fail(at, steps[i].call, "the case expects another reply");
-        for (int j = 0; steps[i].words[j].at != 0; j++)
-            if (table[steps[i].words[j].at] != steps[i].words[j].value)
-                fail(at, steps[i].call, "the case expects another word");
+        look(at, table, &steps[i], mapped);
     }
     end_run(at, NULL, table);
+}
+
+/* On both editions: document 01's cases don't ask for a high word. */
+static void take_steps(bench *at, const char *name, const step *steps, size_t count)
+{
+    for (uint32_t edition = EDITION_2; edition >= EDITION_1; edition--) {
+        set_edition(at, edition);
+        take_steps_in(at, name, steps, count, edition == EDITION_2);
+    }
 }
 
 #define TAKE_STEPS(at, name, steps) take_steps(at, name, steps, sizeof(steps) / sizeof *(steps))
 #define MAX UINT32_C(4294967295)
 
 /* Places: task n's record is at 8 + 8n, hub n's at 136 + 4n, the ready list at
- * 200, hub n's list at 216 + 16n, its store at 472 + 8n. */
+ * 200, hub n's list at 216 + 16n, its store at 472 + 8n; in the cases of edition 2 at 8 + 9n
+ * (its message at 14 + 9n and 15 + 9n), 152 + 4n, 216, 232 + 16n and 488 + 16n. */
 
 static void case_marked(bench *at)
 {
@@ -495,25 +637,25 @@ static void case_stop(bench *at)
  * task 15 stops it. So the ready list is in hub number order, not in the tasks'. */
 static void case_stop_14(bench *at)
 {
-    const uint32_t resource[7] = {10, 0, 5, 0, 0, 1, 0}, sleeps[7] = {7, 0, 0, 0, 0, 9, 0};
-    uint32_t table[WORDS] = {0}, add[7] = {9, 0, 5, 1, 0, 0, 0};
+    const uint32_t resource[8] = {10, 0, 5, 0, 0, 1, 0}, sleeps[8] = {7, 0, 0, 0, 0, 9, 0};
+    uint32_t table[WORDS_MOST] = {0}, add[8] = {9, 0, 5, 1, 0, 0, 0};
 
     begin(at, "14 met by a Stop", 0);
     ledger_begin(&at->book);
-    enter_call(at, table, (uint32_t[7]){0}, 0);
+    enter_call(at, table, (uint32_t[8]){0}, 0);
     enter_call(at, table, add, 0);
     for (uint32_t hub = 0; hub < 14; hub++) {
         enter_call(at, table, resource, 0);
-        enter_call(at, table, (uint32_t[7]){1, 0, hub, 2, 1, 0, 0}, 0);
+        enter_call(at, table, (uint32_t[8]){1, 0, hub, 2, 1, 0, 0}, 0);
     }
     enter_call(at, table, sleeps, 0);
     for (uint32_t task = 1; task <= 14; task++) {
         enter_call(at, table, add, 0);
-        enter_call(at, table, (uint32_t[7]){1, task, 14 - task, 2, 3, 7, 0}, 0);
+        enter_call(at, table, (uint32_t[8]){1, task, 14 - task, 2, 3, 7, 0}, 0);
     }
     add[C_TARGET] = 200;
     enter_call(at, table, add, 0);
-    if (!same_reply(enter_call(at, table, (uint32_t[7]){3, 15, 0, 0, 0, 0, 0}, 0),
+    if (!same_reply(enter_call(at, table, (uint32_t[8]){3, 15, 0, 0, 0, 0, 0}, 0),
                     (second_reply){0, 1, 15, 0}))
         fail(at, NULL, "the waiter for the first Resource runs next");
     for (uint32_t hub = 0; hub < 14; hub++)
@@ -528,10 +670,10 @@ static void case_stop_14(bench *at)
 /* A table that Stop left before M-101: task 1 inactive, and owner of the Resource. */
 static void case_inactive_owner(bench *at)
 {
-    static const uint32_t calls[][7] = {
+    static const uint32_t calls[][8] = {
         {0}, {9, 0, 2, 1, 0, 0, 0}, {9, 0, 2, 0, 0, 0, 0}, {10, 0, 5, 0, 0, 1, 0},
     };
-    uint32_t table[WORDS] = {0};
+    uint32_t table[WORDS_MOST] = {0};
     uint8_t text[LISTING_MOST];
 
     begin(at, "inactive owner", 0);
@@ -539,13 +681,13 @@ static void case_inactive_owner(bench *at)
         check_call(at, table, calls[i]);
     table[137] = 2;
     for (uint32_t service = 1; service <= 11; service++)
-        if (check_call(at, table, (uint32_t[7]){service, 0, 0, 1, 2, 0, 0}).refusal != 2)
+        if (check_call(at, table, (uint32_t[8]){service, 0, 0, 1, 2, 0, 0}).refusal != 2)
             fail(at, NULL, "an inactive owner is refusal 2");
-    if (second_summary(table, WORDS, 0).refusal != 2 ||
-        second_listing(table, WORDS, text, sizeof text).refusal != 2)
+    if (second_summary(table, words_of(at), 0).refusal != 2 ||
+        second_listing(table, words_of(at), text, sizeof text).refusal != 2)
         fail(at, NULL, "an inactive owner is refusal 2 for summary and listing");
     table[137] = 1;
-    if (check_call(at, table, (uint32_t[7]){6, 0, 0, 0, 0, 0, 0}).refusal != 0)
+    if (check_call(at, table, (uint32_t[8]){6, 0, 0, 0, 0, 0, 0}).refusal != 0)
         fail(at, NULL, "an owner that isn't inactive");
     table[137] = 2;
     if (check_call(at, table, calls[0]).refusal != 0)
@@ -626,20 +768,20 @@ static void case_readers(bench *at)
  * order, not in the tasks'. */
 static void case_readers_15(bench *at)
 {
-    uint32_t table[WORDS] = {0};
+    uint32_t table[WORDS_MOST] = {0};
 
     begin(at, "15 met by an update", 0);
     ledger_begin(&at->book);
-    enter_call(at, table, (uint32_t[7]){0}, 0);
-    enter_call(at, table, (uint32_t[7]){10, 0, 6, 0, 0, 1, 0}, 0);
-    enter_call(at, table, (uint32_t[7]){9, 0, 200, 1, 0, 0, 0}, 0);
+    enter_call(at, table, (uint32_t[8]){0}, 0);
+    enter_call(at, table, (uint32_t[8]){10, 0, 6, 0, 0, 1, 0}, 0);
+    enter_call(at, table, (uint32_t[8]){9, 0, 200, 1, 0, 0, 0}, 0);
     for (uint32_t task = 1; task <= 15; task++)
-        enter_call(at, table, (uint32_t[7]){9, 0, 5, 0, 0, 0, 0}, 0);
+        enter_call(at, table, (uint32_t[8]){9, 0, 5, 0, 0, 0, 0}, 0);
     for (uint32_t task = 15; task >= 1; task--) {
-        enter_call(at, table, (uint32_t[7]){2, 0, task, 0, 0, 0, 0}, 0);
-        enter_call(at, table, (uint32_t[7]){1, task, 0, 2, 3, 7, 0}, 0);
+        enter_call(at, table, (uint32_t[8]){2, 0, task, 0, 0, 0, 0}, 0);
+        enter_call(at, table, (uint32_t[8]){1, task, 0, 2, 3, 7, 0}, 0);
     }
-    if (!same_reply(enter_call(at, table, (uint32_t[7]){1, 0, 0, 1, 1, 0, MAX}, 0),
+    if (!same_reply(enter_call(at, table, (uint32_t[8]){1, 0, 0, 1, 1, 0, MAX}, 0),
                     (second_reply){0, 1, 16, 0}))
         fail(at, NULL, "the reader who waited longest runs next");
     for (uint32_t i = 0; i < 15; i++)
@@ -691,23 +833,23 @@ static void case_ahead(bench *at)
  * each is more urgent than those before it. For a Resource one owns it, so 14 at most. */
 static void fill_hub(bench *at, uint32_t kind, uint32_t side, int equals)
 {
-    uint32_t table[WORDS] = {0}, limit = kind == 3 ? 0 : 1, comers = kind == 5 ? 15 : 16;
+    uint32_t table[WORDS_MOST] = {0}, limit = kind == 3 ? 0 : 1, comers = kind == 5 ? 15 : 16;
 
     ledger_begin(&at->book);
-    enter_call(at, table, (uint32_t[7]){0}, 0);
-    enter_call(at, table, (uint32_t[7]){10, 0, 2, 0, 0, 9, 9}, 0); /* nobody waits at hub 0 */
-    enter_call(at, table, (uint32_t[7]){10, 0, kind, 0, 0, limit, 0}, 0);
-    enter_call(at, table, (uint32_t[7]){9, 0, 40, 1, 0, 0, 0}, 0);
+    enter_call(at, table, (uint32_t[8]){0}, 0);
+    enter_call(at, table, (uint32_t[8]){10, 0, 2, 0, 0, 9, 9}, 0); /* nobody waits at hub 0 */
+    enter_call(at, table, (uint32_t[8]){10, 0, kind, 0, 0, limit, 0}, 0);
+    enter_call(at, table, (uint32_t[8]){9, 0, 40, 1, 0, 0, 0}, 0);
     if (kind == 5 || (side == 1 && kind != 3)) /* the lock, the one that there is room for */
-        enter_call(at, table, (uint32_t[7]){1, 0, 1, side, 2, 0, 1}, 0);
+        enter_call(at, table, (uint32_t[8]){1, 0, 1, side, 2, 0, 1}, 0);
     if (kind == 5)
-        enter_call(at, table, (uint32_t[7]){7, 0, 0, 0, 0, 9, 0}, 0);
+        enter_call(at, table, (uint32_t[8]){7, 0, 0, 0, 0, 9, 0}, 0);
     for (uint32_t come = 0; come < comers; come++) {
         uint32_t task = kind == 5 ? come + 1 : come;
         if (task > 0)
-            enter_call(at, table, (uint32_t[7]){9, 0, equals ? 40 : 40 - task, 1, 0, 0, 0}, 0);
+            enter_call(at, table, (uint32_t[8]){9, 0, equals ? 40 : 40 - task, 1, 0, 0, 0}, 0);
         second_reply wanted = {0, 0, 0, equals ? come : 0};
-        uint32_t call[7] = {1, task, 1, side, come % 2 == 0 ? 1 : 3, come % 2 == 0 ? 0 : 50, come};
+        uint32_t call[8] = {1, task, 1, side, come % 2 == 0 ? 1 : 3, come % 2 == 0 ? 0 : 50, come};
         if (!same_reply(enter_call(at, table, call, 0), wanted))
             fail(at, call, "as many ahead as came before, or nobody where it is most urgent");
     }
@@ -718,10 +860,12 @@ static void case_ahead_15(bench *at)
 {
     begin(at, "15 ahead", 0);
     for (uint32_t kind = 1; kind <= 6; kind++)
-        for (uint32_t side = kind < 5 ? 1 : 2; side <= 2; side++) {
-            fill_hub(at, kind, side, 1);
-            fill_hub(at, kind, side, 0);
-        }
+        for (uint32_t side = kind < 5 ? 1 : 2; side <= 2; side++)
+            for (uint32_t edition = EDITION_2; edition >= EDITION_1; edition--) {
+                set_edition(at, edition);
+                fill_hub(at, kind, side, 1);
+                fill_hub(at, kind, side, 0);
+            }
 }
 
 static void case_ticks(bench *at)
@@ -765,10 +909,10 @@ static void case_caller_as_target(bench *at)
 }
 
 /* The 16th and 17th task and hub. */
-static void case_full(bench *at)
+static void fill_table(bench *at)
 {
-    uint32_t table[WORDS] = {0}, task[7] = {ADD_TASK, 0, 255, 1, 0, 0, 0};
-    uint32_t hub[7] = {ADD_HUB, 0, PORT, 0, 0, 0, 0}, blank[7] = {0};
+    uint32_t table[WORDS_MOST] = {0}, task[8] = {ADD_TASK, 0, 255, 1, 0, 0, 0};
+    uint32_t hub[8] = {ADD_HUB, 0, PORT, 0, 0, 0, 0}, blank[8] = {0};
 
     begin(at, "full table", 0);
     check_call(at, table, blank);
@@ -780,6 +924,211 @@ static void case_full(bench *at)
     hub[C_TARGET] = 7;
     if (check_call(at, table, task).refusal != 6 || check_call(at, table, hub).refusal != 6)
         fail(at, task, "6 before 7");
+}
+
+static void case_full(bench *at)
+{
+    for (uint32_t edition = EDITION_2; edition >= EDITION_1; edition--) {
+        set_edition(at, edition);
+        fill_table(at);
+    }
+}
+
+/* M-105: pairs in a FIFO that holds two, in a Port and on a Board, with a putter that waits
+ * at each of the first two; a low word 0 under a high one; an Event, which keeps none; the
+ * caller's own pair, which a Start clears. */
+static void case_pairs(bench *at)
+{
+    static const step steps[] = {
+        {{0, 9, 9, 9, 9, 9, 9, 9}, {0, 0, 0, 0}, {{4, 152}, {5, 216}, {6, 232}, {7, 488}}},
+        {{10, 0, 4, 0, 0, 2, 0, 9}, {0, 0, 0, 0}, {{152, 4}, {153, 0}, {154, 2}, {155, 0}}},
+        {{10, 0, 3, 0, 0, 0, 0, MAX}, {0, 0, 0, 0}, {{0, 0}}},
+        {{10, 0, 6, 0, 0, 1, 0, 1}, {0, 0, 0, 0}, {{0, 0}}},
+        {{10, 0, 1, 0, 0, 1, 0, 0}, {0, 0, 0, 0}, {{0, 0}}},
+        {{9, 0, 5, 1, 0, 0, 0, 7}, {0, 0, 1, 0}, {{8, 2}, {10, 5}, {15, 0}, {216, 1}}},
+        {{1, 0, 0, 1, 2, 0, 11, 21}, {0, 1, 1, 0}, {{488, 11}, {489, 21}, {14, 0}, {16, 1}}},
+        {{1, 0, 0, 1, 2, 0, 0, 22}, {0, 1, 1, 0}, {{490, 0}, {491, 22}, {153, 2}, {15, 0}}},
+        {{9, 0, 3, 1, 0, 0, 0, 0}, {0, 0, 2, 0}, {{17, 2}, {19, 3}, {216, 2}, {217, 1}}},
+        {{1, 1, 0, 1, 1, 0, 13, 23}, {0, 0, 1, 0}, {{17, 3}, {23, 13}, {24, 23}, {25, 0}}},
+        {{1, 0, 0, 2, 2, 0, 99, 98}, {0, 1, 2, 0}, {{14, 11}, {15, 21}, {16, 1}, {490, 13}}},
+        {{11, 0, 0, 0, 0, 0, 0, 0}, {3, 0, 0, 0}, {{488, 0}, {489, 22}, {491, 23}, {153, 2}}},
+        {{11, 0, 0, 0, 0, 0, 0, 5}, {3, 0, 0, 0}, {{23, 0}, {24, 0}, {25, 1}, {232, 0}}},
+        {{1, 1, 0, 2, 2, 0, 0, 0}, {0, 1, 2, 0}, {{23, 0}, {24, 22}, {25, 1}, {153, 1}}},
+        {{2, 1, 0, 0, 0, 0, 0, 3}, {0, 2, 2, 0}, {{23, 0}, {24, 0}, {25, 2}}},
+        {{1, 1, 0, 2, 2, 0, 0, 0}, {0, 1, 2, 0}, {{23, 13}, {24, 23}, {488, 0}, {489, 0}}},
+        {{1, 1, 1, 1, 3, 4, 7, MAX}, {0, 0, 1, 0}, {{21, 4}, {23, 7}, {24, MAX}, {25, 0}}},
+        {{1, 0, 1, 2, 2, 0, 0, 0}, {0, 1, 2, 0}, {{14, 7}, {15, MAX}, {23, 0}, {24, 0}}},
+        {{1, 1, 1, 2, 1, 0, 5, 6}, {0, 0, 1, 0}, {{17, 3}, {23, 0}, {24, 0}, {248, 2}}},
+        {{1, 0, 1, 1, 2, 0, 8, 9}, {0, 1, 2, 0}, {{23, 8}, {24, 9}, {14, 0}, {15, 0}}},
+        {{1, 1, 2, 1, 2, 0, 1, 2}, {0, 1, 2, 0}, {{520, 1}, {521, 2}, {522, 0}, {161, 1}}},
+        {{1, 1, 2, 2, 2, 0, 0, 0}, {0, 1, 2, 0}, {{23, 1}, {24, 2}, {520, 1}, {521, 2}}},
+        {{1, 1, 2, 3, 2, 0, 3, 4}, {0, 1, 2, 0}, {{520, 0}, {521, 0}, {161, 0}, {24, 0}}},
+        {{1, 1, 2, 1, 2, 0, 0, 5}, {0, 1, 2, 0}, {{520, 0}, {521, 5}, {161, 1}, {24, 0}}},
+        {{1, 1, 3, 1, 2, 0, 5, 5}, {0, 1, 2, 0}, {{165, 1}, {536, 0}, {537, 0}, {24, 0}}},
+        {{1, 1, 3, 1, 1, 0, 5, 5}, {0, 0, 1, 0}, {{17, 3}, {23, 0}, {24, 0}, {280, 2}}},
+        {{3, 0, 1, 0, 0, 0, 0, 9}, {0, 1, 1, 0}, {{17, 1}, {19, 3}, {24, 0}, {280, 0}}},
+    };
+    set_edition(at, EDITION_2);
+    take_steps_in(at, "pairs", steps, sizeof steps / sizeof *steps, 0);
+    set_edition(at, EDITION_1);
+}
+
+/* M-105 on edition 1: a high word above 0 is 6 for every kind and side, after 5; every
+ * other service ignores it. */
+static void case_high_on_1(bench *at)
+{
+    static const step steps[] = {
+        {{0, 0, 0, 0, 0, 0, 0, MAX}, {0, 0, 0, 0}, {{3, 8}, {4, 136}, {7, 472}}},
+        {{9, 0, 5, 1, 0, 0, 0, 1}, {0, 0, 1, 0}, {{8, 2}, {15, 0}, {16, 0}}},
+        {{10, 0, 1, 0, 0, 1, 0, 1}, {0, 0, 1, 0}, {{136, 1}}},
+        {{10, 0, 2, 0, 0, 9, 4, 1}, {0, 0, 1, 0}, {{140, 2}, {141, 4}}},
+        {{10, 0, 3, 0, 0, 0, 0, 1}, {0, 0, 1, 0}, {{144, 3}}},
+        {{10, 0, 4, 0, 0, 8, 0, 1}, {0, 0, 1, 0}, {{148, 4}}},
+        {{10, 0, 5, 0, 0, 1, 0, 1}, {0, 0, 1, 0}, {{152, 5}}},
+        {{10, 0, 6, 0, 0, 1, 0, 1}, {0, 0, 1, 0}, {{156, 6}}},
+        {{11, 0, 0, 0, 0, 0, 0, 1}, {3, 0, 0, 0}, {{0, 0}}},
+        {{1, 1, 0, 1, 2, 0, 0, 1}, {4, 0, 0, 0}, {{0, 0}}},
+        {{1, 0, 6, 1, 2, 0, 0, 1}, {5, 0, 0, 0}, {{0, 0}}},
+        {{1, 0, 0, 1, 2, 0, 0, 1}, {6, 0, 0, 0}, {{137, 0}}},
+        {{1, 0, 0, 2, 2, 0, 0, 1}, {6, 0, 0, 0}, {{15, 0}}},
+        {{1, 0, 1, 1, 2, 0, 0, 1}, {6, 0, 0, 0}, {{141, 4}}},
+        {{1, 0, 1, 2, 1, 0, 0, MAX}, {6, 0, 0, 0}, {{141, 4}}},
+        {{1, 0, 2, 1, 2, 0, 0, 1}, {6, 0, 0, 0}, {{0, 0}}},
+        {{1, 0, 2, 2, 3, 5, 0, 1}, {6, 0, 0, 0}, {{8, 2}}},
+        {{1, 0, 3, 1, 2, 0, 77, 1}, {6, 0, 0, 0}, {{149, 0}, {496, 0}}},
+        {{1, 0, 3, 2, 2, 0, 0, 1}, {6, 0, 0, 0}, {{0, 0}}},
+        {{1, 0, 4, 1, 2, 0, 0, 1}, {6, 0, 0, 0}, {{0, 0}}}, /* before the hub table's FAIL */
+        {{1, 0, 4, 2, 2, 0, 0, 1}, {6, 0, 0, 0}, {{153, 0}}},
+        {{1, 0, 5, 1, 2, 0, 0, 1}, {6, 0, 0, 0}, {{157, 0}}},
+        {{1, 0, 5, 2, 2, 0, 0, 1}, {6, 0, 0, 0}, {{0, 0}}},
+        {{1, 0, 5, 3, 2, 0, 0, 1}, {6, 0, 0, 0}, {{0, 0}}},
+        {{1, 0, 3, 1, 2, 0, 77, 0}, {0, 1, 1, 0}, {{149, 1}, {496, 77}}},
+        {{6, 0, 0, 0, 0, 0, 0, 1}, {0, 1, 1, 0}, {{0, 0}}},
+        {{5, 0, 0, 0, 0, 0, 0, 1}, {0, 2, 1, 0}, {{0, 0}}},
+        {{8, 0, 0, 0, 0, 0, 0, 1}, {0, 0, 1, 0}, {{0, 0}}},
+        {{7, 0, 0, 0, 0, 3, 0, 1}, {0, 0, 0, 0}, {{12, 3}}},
+    };
+    set_edition(at, EDITION_1);
+    take_steps_in(at, "high words on edition 1", steps, sizeof steps / sizeof *steps, 0);
+}
+
+/* The next call of the case, which goes on in the table. */
+static void go_on(bench *at, uint32_t *table, const uint32_t *call, second_reply wanted)
+{
+    if (!same_reply(enter_call(at, table, call, 0), wanted))
+        fail(at, call, "the case expects another reply");
+}
+
+static void move_on(bench *at, uint32_t *table, uint32_t refusal)
+{
+    uint32_t moved[WORDS_MOST];
+    const char *wrong;
+
+    if (move_table(at, table, moved) != refusal)
+        fail(at, NULL, "the case expects another refusal of the move");
+    if (refusal != ACCEPTED)
+        return;
+    if ((wrong = ledger_move(&at->book, table, moved)) != NULL)
+        fail(at, NULL, wrong);
+    memcpy(table, moved, sizeof moved);
+    set_edition(at, other_form(at)->edition);
+}
+
+static void words_are(bench *at, const uint32_t *table, const uint32_t (*words)[2], size_t count)
+{
+    for (size_t i = 0; i < count; i++)
+        if (table[words[i][0]] != words[i][1])
+            fail(at, NULL, "the case expects another word after the move");
+}
+
+/* M-105, a run that goes up and down: a FIFO of 1 holds 77, task 1 waits to put 78, task 2
+ * sleeps. Up; a Port's putter brings a high word, so down is 9 until it is taken and
+ * cleared; the FIFO's requests go on in both. */
+static void case_moves(bench *at)
+{
+    static const uint32_t up[][2] = {
+        {0, 2},   {1, 3},   {2, 2},   {3, 8},  {4, 152}, {7, 488}, {8, 2},    {10, 5},  {16, 1},
+        {17, 3},  {19, 4},  {20, 1},  {22, 1}, {23, 78}, {24, 0},  {25, 0},   {26, 4},  {28, 3},
+        {30, 9},  {152, 4}, {153, 1}, {154, 1}, {156, 3}, {216, 1}, {217, 0}, {232, 2}, {233, 0},
+        {488, 77}, {489, 0}, {490, 0}, {504, 0},
+    };
+    static const uint32_t down[][2] = {
+        {0, 1},   {1, 3},  {2, 2},   {4, 136}, {7, 472}, {8, 2},   {14, 77}, {15, 1},  {16, 2},
+        {22, 0},  {23, 1}, {24, 4},  {28, 9},  {136, 4}, {137, 1}, {138, 1}, {200, 2}, {201, 1},
+        {216, 0}, {472, 78}, {473, 0},
+    };
+    uint32_t table[WORDS_MOST] = {0};
+
+    begin(at, "moves in a run", 0);
+    ledger_begin(&at->book);
+    set_edition(at, EDITION_1);
+    go_on(at, table, (uint32_t[8]){0}, (second_reply){0, 0, 0, 0});
+    go_on(at, table, (uint32_t[8]){10, 0, 4, 0, 0, 1, 0}, (second_reply){0, 0, 0, 0});
+    go_on(at, table, (uint32_t[8]){10, 0, 3, 0, 0, 0, 0}, (second_reply){0, 0, 0, 0});
+    go_on(at, table, (uint32_t[8]){9, 0, 5, 1, 0, 0, 0}, (second_reply){0, 0, 1, 0});
+    go_on(at, table, (uint32_t[8]){9, 0, 4, 1, 0, 0, 0}, (second_reply){0, 0, 2, 0});
+    go_on(at, table, (uint32_t[8]){9, 0, 3, 1, 0, 0, 0}, (second_reply){0, 0, 3, 0});
+    go_on(at, table, (uint32_t[8]){7, 2, 0, 0, 0, 9, 0}, (second_reply){0, 0, 2, 0});
+    go_on(at, table, (uint32_t[8]){1, 1, 0, 1, 2, 0, 77}, (second_reply){0, 1, 2, 0});
+    go_on(at, table, (uint32_t[8]){1, 1, 0, 1, 1, 0, 78}, (second_reply){0, 0, 1, 0});
+    go_on(at, table, (uint32_t[8]){6, 0, 0, 0, 0, 0, 0}, (second_reply){0, 1, 1, 0});
+    move_on(at, table, 0);
+    words_are(at, table, up, sizeof up / sizeof *up);
+    go_on(at, table, (uint32_t[8]){1, 0, 0, 2, 2, 0, 0}, (second_reply){0, 1, 2, 0});
+    move_on(at, table, 0);
+    words_are(at, table, down, sizeof down / sizeof *down);
+    move_on(at, table, 0);
+    go_on(at, table, (uint32_t[8]){1, 1, 1, 1, 1, 0, 5, 6}, (second_reply){0, 0, 1, 0});
+    move_on(at, table, 9); /* its high word waits with it */
+    go_on(at, table, (uint32_t[8]){1, 0, 1, 2, 2, 0, 0}, (second_reply){0, 1, 2, 0});
+    move_on(at, table, 9); /* and is in the getter's record then */
+    go_on(at, table, (uint32_t[8]){1, 1, 0, 1, 3, 3, 0, 4}, (second_reply){0, 0, 1, 0});
+    move_on(at, table, 9);
+    go_on(at, table, (uint32_t[8]){6, 0, 0, 0, 0, 0, 0}, (second_reply){0, 1, 1, 0});
+    move_on(at, table, 9); /* the FIFO's putter, alone */
+    go_on(at, table, (uint32_t[8]){1, 0, 0, 2, 2, 0, 0}, (second_reply){0, 1, 2, 0});
+    move_on(at, table, 9); /* in the FIFO now */
+    go_on(at, table, (uint32_t[8]){1, 1, 0, 2, 2, 0, 0}, (second_reply){0, 1, 2, 0});
+    move_on(at, table, 9); /* received: low 0, high 4 */
+    go_on(at, table, (uint32_t[8]){6, 1, 0, 0, 0, 0, 0}, (second_reply){0, 1, 2, 0});
+    move_on(at, table, 0);
+    go_on(at, table, (uint32_t[8]){1, 1, 0, 2, 2, 0, 0}, (second_reply){0, 2, 2, 0});
+    end_run(at, NULL, table);
+    set_edition(at, EDITION_1);
+}
+
+enum { LENGTH_ROUNDS = 12 }; /* every mutant pays for them; enough for the rows */
+
+/* The order of a move's refusals, every pair of lengths around both sizes. */
+static void case_move_lengths(bench *at)
+{
+    static const size_t lengths[] = {0, 1, 599, 600, 601, 743, 744, 745};
+    static const size_t byte_lengths[] = {0,    1,    600,  744,  2396, 2397, 2399, 2400, 2401,
+                                          2402, 2404, 2972, 2975, 2976, 2977, 2978, 2980};
+    uint32_t table[WORDS_MOST] = {0}, moved[WORDS_MOST], held[TO_WORDS] = {0};
+
+    for (uint32_t edition = EDITION_2; edition >= EDITION_1; edition--) {
+        begin(at, "lengths of moves", edition);
+        set_edition(at, edition);
+        for (int round = 0; round < LENGTH_ROUNDS; round++) {
+            memset(table, 0, sizeof table);
+            if (round % 3 == 0)
+                gen_damaged(&at->random, edition, gen_below(&at->random, 100), table);
+            else
+                gen_table(&at->random, edition, table);
+            for (size_t i = 0; i < 8; i++)
+                for (size_t j = 0; j < 8; j++)
+                    check_move(at, table, lengths[i], lengths[j], moved);
+            for (size_t i = 0; i < sizeof byte_lengths / sizeof *byte_lengths; i++)
+                for (size_t j = 0; j < sizeof byte_lengths / sizeof *byte_lengths; j++) {
+                    size_t of = byte_lengths[i], to = byte_lengths[j];
+                    if (of == bytes_of(at) && to == 4 * other_form(at)->words)
+                        continue;
+                    check_move_bytes(at, table, of, to, 1, held, held);
+                    cover_move_bytes(&at->seen, of, to);
+                }
+        }
+    }
 }
 
 /* Another length of the table: 1 whatever the room, and nothing written. */
@@ -801,27 +1150,26 @@ static void listing_length(bench *at, const uint32_t *table, size_t words, const
     cover_listing_byte_length(&at->seen);
 }
 
-/* Any other length is refused for every service, Blank and the summary too. */
-static void case_lengths(bench *at)
+/* Any other length is refused for every service, Blank and the summary too, whatever
+ * edition the contents say. */
+static void refuse_lengths(bench *at)
 {
-    static const size_t lengths[] = {0, 1, WORDS - 1, WORDS + 1, BYTES};
-    static const size_t byte_lengths[] = {0, 1, WORDS, BYTES - 1, BYTES + 1};
-    uint32_t table[BYTES], copy[BYTES];
-    uint8_t bytes[BYTES + 1], bytes_copy[BYTES + 1];
+    static const size_t lengths[] = {0, 1, 599, 601, 743, 745, 2400, 2976, 2976};
+    static const size_t byte_lengths[] = {0, 1, 600, 744, 2399, 2401, 2975, 2977, 2404};
+    static uint32_t table[BYTES_2], copy[BYTES_2];
+    uint8_t bytes[BYTES_2 + 4] = {0}, bytes_copy[BYTES_2 + 4];
     const second_reply refused = {1, 0, 0, 0};
 
-    begin(at, "lengths", 0);
-    for (int round = 0; round < COVER_LEAST; round++) {
-        for (size_t i = 0; i < BYTES; i++)
+    for (int round = 0; round < LENGTH_ROUNDS; round++) {
+        for (size_t i = 0; i < BYTES_2; i++)
             table[i] = gen_word(&at->random);
-        gen_table(&at->random, table);
+        gen_table(&at->random, at->form->edition, table);
         memcpy(copy, table, sizeof copy);
-        to_bytes(bytes, table);
-        bytes[BYTES] = 0;
+        to_bytes(bytes, table, WORDS_MOST);
         memcpy(bytes_copy, bytes, sizeof bytes);
         for (uint32_t service = BLANK; service <= ADD_HUB + 1; service++) {
-            uint32_t call[7] = {service, 0, 0, 1, 2, 0, 0};
-            for (int i = 0; i < 5; i++) {
+            uint32_t call[8] = {service, 0, 0, 1, 2, 0, 0, service % 2};
+            for (int i = 0; i < 9; i++) {
                 second_summary_reply words = second_summary(table, lengths[i], 0);
                 second_summary_reply octets = second_summary_bytes(bytes, byte_lengths[i], 0);
                 if (!same_reply(second_call(table, lengths[i], call), refused) ||
@@ -834,10 +1182,19 @@ static void case_lengths(bench *at)
                 cover_summary(&at->seen, table, lengths[i], words);
             }
         }
-        for (int i = 0; i < 5; i++)
+        for (int i = 0; i < 9; i++)
             listing_length(at, table, lengths[i], bytes, byte_lengths[i]);
         if (memcmp(table, copy, sizeof copy) != 0 || memcmp(bytes, bytes_copy, sizeof bytes) != 0)
             fail(at, NULL, "refusal 1 changed the table");
+    }
+}
+
+static void case_lengths(bench *at)
+{
+    for (uint32_t edition = EDITION_2; edition >= EDITION_1; edition--) {
+        begin(at, "lengths", edition);
+        set_edition(at, edition);
+        refuse_lengths(at);
     }
 }
 
@@ -848,8 +1205,10 @@ static void case_bytes(bench *at)
                                          136, 0, 0, 0, 200, 0, 0, 0, 216, 0, 0, 0, 0xD8, 1, 0, 0};
     static const uint8_t hub[16] = {2,    0,    0, 0, 0x34, 0x12, 0, 0,
                                     0xFF, 0xFF, 0, 0, 0x34, 0x12, 0, 0};
-    static const uint32_t blank[7] = {0}, add[7] = {10, 0, 2, 0, 0, 65535, 0x1234};
+    static const uint32_t blank[8] = {0}, add[8] = {10, 0, 2, 0, 0, 65535, 0x1234};
     uint8_t bytes[BYTES];
+
+    set_edition(at, EDITION_1);
 
     begin(at, "bytes", 0);
     memset(bytes, 0xAA, sizeof bytes);
@@ -863,10 +1222,54 @@ static void case_bytes(bench *at)
         fail(at, add, "the hub record as bytes");
 }
 
+static void case_bytes_2(bench *at)
+{
+    static const uint8_t contents[32] = {2,   0, 0, 0, 0,   0, 0, 0, 0,   0, 0, 0, 8,    0, 0, 0,
+                                         152, 0, 0, 0, 216, 0, 0, 0, 232, 0, 0, 0, 0xE8, 1, 0, 0};
+    static const uint8_t pair[8] = {1, 2, 3, 4, 5, 6, 7, 8};
+    static const uint32_t calls[][8] = {
+        {0}, {9, 0, 1, 1, 0, 0, 0, 0}, {10, 0, 4, 0, 0, 8, 0, 0},
+        {1, 0, 0, 1, 2, 0, 0x04030201, 0x08070605}, {1, 0, 0, 2, 2, 0, 0, 0},
+    };
+    uint8_t bytes[BYTES_2];
+
+    begin(at, "bytes of edition 2", 0);
+    memset(bytes, 0xAA, sizeof bytes);
+    for (size_t i = 0; i < 5; i++) {
+        if (second_call_bytes(bytes, BYTES_2, calls[i]).refusal != 0)
+            fail(at, calls[i], "the case's calls are accepted");
+        for (size_t j = 32; i == 0 && j < BYTES_2; j++)
+            if (bytes[j] != 0)
+                fail(at, calls[i], "the other bytes are 0");
+        if (i == 0 && memcmp(bytes, contents, 32) != 0)
+            fail(at, calls[i], "the contents as bytes");
+        if (i == 3 && memcmp(bytes + 1952, pair, 8) != 0)
+            fail(at, calls[i], "a pair in a store as bytes");
+        if (i == 4 && (memcmp(bytes + 56, pair, 8) != 0 || bytes[1952] != 0 || bytes[64] != 1))
+            fail(at, calls[i], "a pair in a record as bytes");
+    }
+}
+
+/* The listing of a table is that of its move (M-105), refused or not. */
+static void check_same_listing(bench *at, const uint32_t *table)
+{
+    uint8_t text[LISTING_MOST], moved_text[LISTING_MOST];
+    uint32_t moved[WORDS_MOST];
+
+    if (move_of(at)(table, words_of(at), moved, other_form(at)->words) != ACCEPTED)
+        fail(at, NULL, "the move was done before");
+    second_listing_reply reply = second_listing(table, words_of(at), text, sizeof text);
+    second_listing_reply again = second_listing(moved, other_form(at)->words, moved_text,
+                                                sizeof moved_text);
+    if (reply.refusal != again.refusal || reply.length != again.length ||
+        memcmp(text, moved_text, reply.length) != 0)
+        fail(at, NULL, "a table moved has another listing");
+}
+
 /* Texts written out, and the order of the refusals. */
 static void case_listings(bench *at)
 {
-    static const uint32_t calls[][7] = {
+    static const uint32_t calls[][8] = {
         {0, 0, 0, 0, 0, 0, 0},   {9, 7, 5, 1, 7, 7, 7},   {10, 7, 4, 7, 7, 1, 0},
         {9, 0, 130, 0, 0, 0, 0}, {1, 0, 0, 1, 2, 0, 77},  {10, 0, 2, 0, 0, 65535, 40},
         {1, 0, 1, 1, 2, 0, 0},   {10, 0, 3, 0, 0, 0, 0},  {9, 0, 42, 1, 0, 0, 0},
@@ -879,7 +1282,7 @@ static void case_listings(bench *at)
                                "9 0 5 0 0 0 0\n9 0 130 0 0 0 0\n9 0 42 0 0 0 0\n"
                                "10 0 4 0 0 1 0\n10 0 2 0 0 65535 40\n10 0 3 0 0 0 0\n"
                                "10 0 1 0 0 1 0\n10 0 5 0 0 1 0\n10 0 6 0 0 1 0\n";
-    uint32_t table[WORDS] = {0};
+    uint32_t table[WORDS_MOST] = {0};
     uint8_t listed[TEXT_BYTES];
 
     begin(at, "listings written out", 0);
@@ -887,13 +1290,13 @@ static void case_listings(bench *at)
         fail(at, NULL, "all zeros isn't well formed, and 2 comes before 8");
     for (size_t i = 0; i < sizeof calls / sizeof *calls; i++) {
         const char *whole = i == 0 ? blank_text : text;
-        if (second_call(table, WORDS, calls[i]).refusal != 0)
+        if (second_call(table, words_of(at), calls[i]).refusal != 0)
             fail(at, calls[i], "the case's calls are accepted");
         if (i != 0 && i + 1 != sizeof calls / sizeof *calls)
             continue;
         size_t length = strlen(whole);
         memset(listed, '#', sizeof listed);
-        second_listing_reply reply = second_listing(table, WORDS, listed, length + 1);
+        second_listing_reply reply = second_listing(table, words_of(at), listed, length + 1);
         if (reply.refusal != 0 || reply.length != length || memcmp(listed, whole, length) != 0 ||
             listed[length] != '#')
             fail(at, NULL, "the case expects another listing");
@@ -901,24 +1304,25 @@ static void case_listings(bench *at)
             check_listing(at, table, length).refusal != 0)
             fail(at, NULL, "8 exactly if the buffer is shorter");
     }
+    check_same_listing(at, table);
     table[EDITION_AT] = 2;
     if (second_listing(table, WORDS - 1, listed, 0).refusal != 1 ||
-        second_listing(table, WORDS, listed, 0).refusal != 2)
+        second_listing(table, words_of(at), listed, 0).refusal != 2)
         fail(at, NULL, "1 before 2 before 8");
 }
 
 /* The longest listing of all, into every room. */
 static void case_longest(bench *at)
 {
-    static const uint32_t blank[7] = {0}, task[7] = {9, 0, 255, 0, 0, 0, 0};
-    static const uint32_t hub[7] = {10, 0, 2, 0, 0, 65535, 65535};
-    uint32_t table[WORDS] = {0};
+    static const uint32_t blank[8] = {0}, task[8] = {9, 0, 255, 0, 0, 0, 0};
+    static const uint32_t hub[8] = {10, 0, 2, 0, 0, 65535, 65535};
+    uint32_t table[WORDS_MOST] = {0};
 
     begin(at, "longest listing", 0);
-    second_call(table, WORDS, blank);
+    second_call(table, words_of(at), blank);
     for (int i = 0; i < 16; i++) {
-        second_call(table, WORDS, task);
-        second_call(table, WORDS, hub);
+        second_call(table, words_of(at), task);
+        second_call(table, words_of(at), hub);
     }
     for (size_t room = 0; room <= 638 + PAST; room++)
         if (check_listing(at, table, room).length != (room < 638 ? 0u : 638u))
@@ -929,6 +1333,7 @@ static void case_longest(bench *at)
 
 static void part_cases(bench *at)
 {
+    set_edition(at, EDITION_1);
     case_marked(at);
     case_refusal_order(at);
     case_slips(at);
@@ -944,19 +1349,31 @@ static void part_cases(bench *at)
     case_ticks(at);
     case_caller_as_target(at);
     case_full(at);
+    case_pairs(at);
+    case_high_on_1(at);
+    case_moves(at);
+    case_move_lengths(at);
     case_lengths(at);
     case_bytes(at);
+    case_bytes_2(at);
     case_listings(at);
     case_longest(at);
+}
+
+/* Calls with a high word: on edition 1 few, since it refuses the requests among them. */
+static void draw_mood(bench *at, gen_mood *mood)
+{
+    gen_draw_mood(&at->random, mood);
+    mood->high = at->form->edition == EDITION_1 ? 5 : 60;
 }
 
 /* mutants/run asks whether demand 3 alone catches what breaks it. */
 static void one_run(bench *at, uint32_t calls, int alone)
 {
-    uint32_t table[WORDS] = {0}, call[7];
+    uint32_t table[WORDS_MOST] = {0}, call[8];
     gen_mood mood;
 
-    gen_draw_mood(&at->random, &mood);
+    draw_mood(at, &mood);
     ledger_begin(&at->book);
     for (uint32_t i = 0; i < calls; i++) {
         if (i % 64 == 63)
@@ -980,15 +1397,15 @@ static void part_runs(bench *at, const scale *to, int alone)
 
 static void part_tables(bench *at, const scale *to)
 {
-    uint32_t table[WORDS], call[7];
+    uint32_t table[WORDS_MOST], call[8];
     gen_mood mood;
 
     for (uint32_t i = 0; i < to->tables; i++) {
         begin(at, "tables", i);
-        gen_table(&at->random, table);
-        if (second_well_formed(table, WORDS) != SECOND_RIGHT || !expect_well_formed(table))
+        gen_table(&at->random, at->form->edition, table);
+        if (second_well_formed(table, words_of(at)) != SECOND_RIGHT || !well_formed(at, table))
             fail(at, NULL, "a built table isn't well formed");
-        gen_draw_mood(&at->random, &mood);
+        draw_mood(at, &mood);
         mood.tasks = mood.hubs = 0; /* nothing to add first */
         for (uint32_t j = 0; j < to->table_calls; j++) {
             gen_call(&at->random, &mood, table, call);
@@ -999,17 +1416,17 @@ static void part_tables(bench *at, const scale *to)
 
 /* The call drawn with the table, and a few more: whoever was met goes on. */
 static void part_met(bench *at, const char *part, uint32_t tables,
-                     void (*draw)(gen_random *, uint32_t *, uint32_t *))
+                     void (*draw)(gen_random *, uint32_t, uint32_t *, uint32_t *))
 {
-    uint32_t table[WORDS], call[7];
+    uint32_t table[WORDS_MOST], call[8];
     gen_mood mood;
 
     for (uint32_t i = 0; i < tables; i++) {
         begin(at, part, i);
-        draw(&at->random, table, call);
-        if (second_well_formed(table, WORDS) != SECOND_RIGHT || !expect_well_formed(table))
+        draw(&at->random, at->form->edition, table, call);
+        if (second_well_formed(table, words_of(at)) != SECOND_RIGHT || !well_formed(at, table))
             fail(at, NULL, "a built table isn't well formed");
-        gen_draw_mood(&at->random, &mood);
+        draw_mood(at, &mood);
         mood.tasks = mood.hubs = 0; /* nothing to add first */
         for (int j = 0; j < 4; j++) {
             check_call(at, table, call);
@@ -1021,12 +1438,12 @@ static void part_met(bench *at, const char *part, uint32_t tables,
 /* One after the other asks, so the list grows; a Tick comes where nobody is left. */
 static void part_queues(bench *at, const scale *to)
 {
-    uint32_t table[WORDS], call[7];
+    uint32_t table[WORDS_MOST], call[8];
 
     for (uint32_t i = 0; i < to->queues; i++) {
         begin(at, "queues", i);
-        gen_queue(&at->random, table, call);
-        if (second_well_formed(table, WORDS) != SECOND_RIGHT || !expect_well_formed(table))
+        gen_queue(&at->random, at->form->edition, table, call);
+        if (second_well_formed(table, words_of(at)) != SECOND_RIGHT || !well_formed(at, table))
             fail(at, NULL, "a built table isn't well formed");
         for (int j = 0; j < 4; j++) {
             check_call(at, table, call);
@@ -1038,12 +1455,12 @@ static void part_queues(bench *at, const scale *to)
 /* Refused with 2 whatever the call, but for Blank, which is accepted. */
 static void one_damaged(bench *at, size_t family)
 {
-    uint32_t table[WORDS], call[7];
+    uint32_t table[WORDS_MOST], call[8];
     int clause;
 
-    gen_damaged(&at->random, family, table);
-    clause = second_well_formed(table, WORDS);
-    if (expect_well_formed(table) || clause != gen_damage_clause(family))
+    gen_damaged(&at->random, at->form->edition, family, table);
+    clause = second_well_formed(table, words_of(at));
+    if (well_formed(at, table) || clause != gen_damage_clause(family))
         fail(at, NULL, gen_damage_name(family));
     check_summary(at, table, gen_below(&at->random, 17));
     for (uint32_t service = HUB_REQUEST; service <= ADD_HUB + 2; service++) {
@@ -1066,7 +1483,7 @@ static void one_damaged(bench *at, size_t family)
 
 static void part_damaged(bench *at, const scale *to)
 {
-    for (size_t family = 0; family < gen_damages(); family++) {
+    for (size_t family = 0; family < gen_damages(at->form->edition); family++) {
         begin(at, "damaged", family);
         for (uint32_t i = 0; i < to->damages; i++)
             one_damaged(at, family);
@@ -1076,16 +1493,16 @@ static void part_damaged(bench *at, const scale *to)
 /* A few words changed at random: right or not, both readings agree. */
 static void part_flips(bench *at, const scale *to)
 {
-    uint32_t table[WORDS], call[7];
+    uint32_t table[WORDS_MOST], call[8];
     gen_mood mood;
 
     begin(at, "flips", 0);
     for (uint32_t i = 0; i < to->flips; i++) {
-        gen_table(&at->random, table);
-        gen_draw_mood(&at->random, &mood);
+        gen_table(&at->random, at->form->edition, table);
+        draw_mood(at, &mood);
         gen_call(&at->random, &mood, table, call);
         gen_flip(&at->random, table);
-        if ((second_well_formed(table, WORDS) == SECOND_RIGHT) != expect_well_formed(table))
+        if ((second_well_formed(table, words_of(at)) == SECOND_RIGHT) != well_formed(at, table))
             fail(at, call, "the two readings of well formed differ");
         check_call(at, table, call);
     }
@@ -1093,11 +1510,12 @@ static void part_flips(bench *at, const scale *to)
 
 /* The drill runner builds the set-up alone, and takes every line of it. The text
  * comes in two pieces. */
-static void check_built(bench *at, const uint32_t *table, const uint32_t *stripped)
+static void check_built(bench *at, const uint32_t *table)
 {
+    uint32_t stripped[RUNNER_WORDS];
     uint8_t text[LISTING_MOST];
     char printed[512] = {0}; /* 33 lines of 8 bytes at most */
-    second_listing_reply reply = second_listing(table, WORDS, text, sizeof text);
+    second_listing_reply reply = second_listing(table, words_of(at), text, sizeof text);
     size_t cut = gen_below(&at->other, reply.length + 1), lines = 0;
     FILE *out = fmemopen(printed, sizeof printed, "w");
     runner run;
@@ -1114,7 +1532,8 @@ static void check_built(bench *at, const uint32_t *table, const uint32_t *stripp
             fail(at, NULL, "a line of the listing isn't accepted");
     if (run.number != lines || lines != 1 + table[TASKS_IN_USE_AT] + table[HUBS_IN_USE_AT])
         fail(at, NULL, "the listing has another number of lines");
-    if (!same_words(run.table, stripped))
+    expect_stripped(table, words_of(at), stripped, RUNNER_WORDS);
+    if (memcmp(run.table, stripped, sizeof stripped) != 0)
         fail(at, NULL, "the drill runner builds another table from the listing");
 }
 
@@ -1123,11 +1542,11 @@ static void check_built(bench *at, const uint32_t *table, const uint32_t *stripp
 static void check_changed(bench *at, const uint32_t *table, const uint32_t *stripped,
                           gen_place place)
 {
-    uint32_t changed[WORDS];
+    uint32_t changed[WORDS_MOST];
 
     for (int i = 0; i < 4; i++) {
-        memcpy(changed, i < 2 ? table : stripped, sizeof changed);
-        if (!gen_change(&at->random, place, changed) || !expect_well_formed(changed))
+        memcpy(changed, i < 2 ? table : stripped, bytes_of(at));
+        if (!gen_change(&at->random, place, changed) || !well_formed(at, changed))
             continue;
         if (check_pair(at, table, changed) || check_pair(at, changed, stripped))
             fail(at, NULL, "another set-up has the same listing");
@@ -1138,7 +1557,7 @@ static void check_changed(bench *at, const uint32_t *table, const uint32_t *stri
 
 static void every_room(bench *at, const uint32_t *table)
 {
-    size_t needed = expect_listing_length(table);
+    size_t needed = expect_listing_length(table, words_of(at));
 
     for (size_t room = 0; room <= needed + PAST; room++)
         if (check_listing(at, table, room).refusal != (room < needed ? 8u : 0u))
@@ -1148,26 +1567,27 @@ static void every_room(bench *at, const uint32_t *table)
 /* Tables that no run need reach, every second one with numbers of every length. */
 static void part_listings(bench *at, const scale *to)
 {
-    uint32_t table[WORDS], stripped[WORDS], last[WORDS];
+    uint32_t table[WORDS_MOST], stripped[WORDS_MOST], last[WORDS_MOST];
 
-    expect_stripped((uint32_t[WORDS]){EDITION}, last);
+    expect_stripped((uint32_t[WORDS_MOST]){0}, words_of(at), last, words_of(at));
     for (uint32_t i = 0; i < to->set_ups; i++) {
         begin(at, "listings", i);
         if (i % 2 == 0)
-            gen_set_up(&at->random, table);
+            gen_set_up(&at->random, at->form->edition, table);
         else
-            gen_table(&at->random, table);
-        if (second_well_formed(table, WORDS) != SECOND_RIGHT || !expect_well_formed(table))
+            gen_table(&at->random, at->form->edition, table);
+        if (second_well_formed(table, words_of(at)) != SECOND_RIGHT || !well_formed(at, table))
             fail(at, NULL, "a built table isn't well formed");
-        size_t needed = expect_listing_length(table);
+        size_t needed = expect_listing_length(table, words_of(at));
         check_listing(at, table, needed - 1);
         check_listing(at, table, needed);
         check_listing(at, table, draw_room(at, table));
         if (i < to->rooms)
             every_room(at, table);
 
-        expect_stripped(table, stripped);
-        check_built(at, table, stripped);
+        expect_stripped(table, words_of(at), stripped, words_of(at));
+        check_built(at, table);
+        check_same_listing(at, stripped);
         if (!check_pair(at, table, stripped))
             fail(at, NULL, "the set-up alone has another listing");
         cover_pair(&at->seen, COVER_STRIPPED);
@@ -1175,7 +1595,148 @@ static void part_listings(bench *at, const scale *to)
             check_changed(at, table, stripped, (gen_place)place);
         if (!check_pair(at, last, table))
             cover_pair(&at->seen, COVER_ANOTHER);
-        memcpy(last, table, sizeof last);
+        memcpy(last, table, bytes_of(at));
+    }
+}
+
+/* What a table of edition 2 that is to be moved has of high words: none, one, or those it
+ * was drawn with. */
+static void draw_highs(bench *at, uint32_t *table)
+{
+    uint32_t draw = gen_below(&at->random, 10);
+
+    if (at->form->edition == EDITION_1 || draw < 2)
+        return;
+    gen_clear_high(table);
+    if (draw < 6)
+        gen_one_high(&at->random, table);
+}
+
+/* A call without a high word does the same to the table moved as to the table: the same
+ * reply, and the table after it moved. */
+static void check_same_call(bench *at, const uint32_t *table, const uint32_t *moved)
+{
+    uint32_t after[WORDS_MOST], moved_after[WORDS_MOST], again[WORDS_MOST], call[8];
+    gen_mood mood;
+
+    gen_draw_mood(&at->random, &mood);
+    mood.tasks = mood.hubs = 0;
+    gen_call(&at->random, &mood, table, call);
+    memcpy(after, table, bytes_of(at));
+    memcpy(moved_after, moved, 4 * other_form(at)->words);
+    if (!same_reply(second_call(after, words_of(at), call),
+                    second_call(moved_after, other_form(at)->words, call)))
+        fail(at, call, "the table moved gives another reply");
+    if (move_of(at)(after, words_of(at), again, other_form(at)->words) != ACCEPTED ||
+        memcmp(again, moved_after, 4 * other_form(at)->words) != 0)
+        fail(at, call, "the call on the table moved isn't the call, moved");
+}
+
+/* Each way followed by the other gives the first table again. */
+static void check_back(bench *at, const uint32_t *table, const uint32_t *moved)
+{
+    uint32_t back[WORDS_MOST];
+
+    cover_move_back(&at->seen);
+    set_edition(at, other_form(at)->edition);
+    if (move_table(at, moved, back) != ACCEPTED)
+        fail(at, NULL, "a table moved is refused on its way back");
+    set_edition(at, other_form(at)->edition);
+    if (!same_words(at, back, table))
+        fail(at, NULL, "there and back again isn't the first table");
+}
+
+static void one_move(bench *at)
+{
+    static const size_t lengths[] = {0, 1, 599, 600, 601, 743, 744, 745};
+    uint32_t table[WORDS_MOST] = {0}, moved[WORDS_MOST], call[8], edition = at->form->edition;
+    size_t from = words_of(at), to = other_form(at)->words, families = gen_damages(edition);
+
+    switch (gen_below(&at->random, 8)) {
+    case 0:
+        gen_stop(&at->random, edition, table, call);
+        break;
+    case 1:
+        gen_board(&at->random, edition, table, call);
+        break;
+    case 2:
+        gen_queue(&at->random, edition, table, call);
+        break;
+    case 3:
+        gen_set_up(&at->random, edition, table);
+        break;
+    default:
+        gen_table(&at->random, edition, table);
+        break;
+    }
+    draw_highs(at, table);
+    if (gen_chance(&at->random, 10))
+        gen_damaged(&at->random, edition, gen_below(&at->random, (uint32_t)families), table);
+    if (gen_chance(&at->random, 5))
+        from = lengths[gen_below(&at->random, 8)];
+    if (gen_chance(&at->random, 5))
+        to = lengths[gen_below(&at->random, 8)];
+    if (check_move(at, table, from, to, moved) == ACCEPTED) {
+        check_back(at, table, moved);
+        check_same_call(at, table, moved);
+        if (at->moves[0] % 8 == 0)
+            check_same_listing(at, table);
+    }
+}
+
+/* A run that goes on in the other edition wherever a move is accepted; at times without
+ * high words for a while, so that it comes down again. */
+static void moved_run(bench *at, uint32_t calls, int alone)
+{
+    uint32_t table[WORDS_MOST] = {0}, moved[WORDS_MOST], call[8];
+    gen_mood mood;
+    const char *wrong;
+
+    gen_draw_mood(&at->random, &mood);
+    set_edition(at, gen_chance(&at->random, 50) ? EDITION_1 : EDITION_2);
+    ledger_begin(&at->book);
+    for (uint32_t i = 0; i < calls; i++) {
+        if (i % 64 == 63)
+            gen_turn(&at->random, &mood);
+        if (i % 32 == 0)
+            mood.high = gen_chance(&at->random, 70) ? 0 : gen_chance(&at->random, 50) ? 5 : 50;
+        gen_call(&at->random, &mood, table, call);
+        if (at->form->edition == EDITION_1)
+            call[C_HIGH] = gen_chance(&at->random, 98) ? 0 : call[C_HIGH];
+        if (call[C_SERVICE] == BLANK && i > 0)
+            end_run(at, call, table);
+        enter_call(at, table, call, alone);
+        if (!gen_chance(&at->random, 8))
+            continue;
+        uint32_t refusal = alone ? move_of(at)(table, words_of(at), moved, other_form(at)->words)
+                                 : move_table(at, table, moved);
+        if (refusal != ACCEPTED)
+            continue;
+        if ((wrong = ledger_move(&at->book, table, moved)) != NULL)
+            fail(at, NULL, wrong);
+        cover_move_in_run(&at->seen, table);
+        memcpy(table, moved, sizeof table);
+        set_edition(at, other_form(at)->edition);
+    }
+    end_run(at, NULL, table);
+}
+
+static void part_moved_runs(bench *at, const scale *to, int alone)
+{
+    for (uint32_t run = 0; run < to->moved_runs; run++) {
+        begin(at, alone ? "demand 3, moves" : "moved runs", run);
+        moved_run(at, to->calls, alone);
+    }
+}
+
+static void part_moves(bench *at, const scale *to)
+{
+    for (uint32_t i = 0; i < to->moves; i++) {
+        begin(at, "moves", i);
+        for (uint32_t edition = EDITION_1; edition <= EDITION_2; edition++) {
+            set_edition(at, edition);
+            one_move(at);
+        }
     }
 }
 
@@ -1196,21 +1757,28 @@ static void report(const char *part, const char *what, uint64_t count, const cha
     fflush(stdout);
 }
 
-static void run_well_formed(bench *at, const scale *to)
+static void run_cases(bench *at)
 {
-    char what[128];
     uint64_t calls = at->calls;
     double since = seconds();
 
     part_cases(at);
     report("cases",
-           "marked lines, refusal order, lengths, bytes, corners, Stops, Boards, ahead, listings",
+           "marked lines, refusal order, lengths, bytes, corners, Stops, Boards, ahead, pairs, "
+           "moves, listings",
            at->calls - calls, "calls", since);
+}
+
+static void run_well_formed(bench *at, const scale *to)
+{
+    char what[128];
+    uint64_t calls, requests = at->requests;
+    double since;
 
     calls = at->calls, since = seconds();
     part_runs(at, to, 0);
     snprintf(what, sizeof what, "%" PRIu32 " runs from Blank, demand 3 over %" PRIu64 " requests",
-             to->runs, at->requests);
+             to->runs, at->requests - requests);
     report("runs", what, at->calls - calls, "calls", since);
 
     calls = at->calls, since = seconds();
@@ -1244,8 +1812,8 @@ static void run_damaged(bench *at, const scale *to)
     double since = seconds();
 
     part_damaged(at, to);
-    snprintf(what, sizeof what, "%zu families of %" PRIu32 " damaged tables", gen_damages(),
-             to->damages);
+    snprintf(what, sizeof what, "%zu families of %" PRIu32 " damaged tables",
+             gen_damages(at->form->edition), to->damages);
     report("damaged", what, at->calls - calls, "calls", since);
 
     calls = at->calls, since = seconds();
@@ -1267,14 +1835,34 @@ static void run_listings(bench *at, const scale *to)
     report("listings", what, at->listings - listings, "texts", since);
 }
 
-static void check_coverage(bench *at)
+static void run_moves(bench *at, const scale *to)
+{
+    char what[128];
+    uint64_t calls = at->calls, moves;
+    double since = seconds();
+
+    part_moved_runs(at, to, 0);
+    snprintf(what, sizeof what, "%" PRIu32 " runs that move, demand 3: %" PRIu64 " times up, %"
+             PRIu64 " down", to->moved_runs, at->moved[0], at->moved[1]);
+    report("moved runs", what, at->calls - calls, "calls", since);
+
+    moves = at->moves[0] + at->moves[1], since = seconds();
+    part_moves(at, to);
+    snprintf(what, sizeof what, "%" PRIu64 " up, %" PRIu64 " done; %" PRIu64 " down, %" PRIu64
+             " done; all parts", at->moves[0], at->moved[0], at->moves[1], at->moved[1]);
+    report("moves", what, at->moves[0] + at->moves[1] - moves, "moves", since);
+    if (at->moved[0] < to->moves || at->moved[1] < to->moves)
+        fail(at, NULL, "too few moves were done");
+}
+
+static void check_coverage(bench *at, uint32_t edition)
 {
     char name[96];
     size_t rows;
-    uint64_t fewest = cover_fewest(&at->seen, name, sizeof name, &rows);
+    uint64_t fewest = cover_fewest(&at->seen, edition, name, sizeof name, &rows);
 
-    printf("coverage   %zu rows, fewest hits %" PRIu64 " (%s)  %s\n", rows, fewest, name,
-           fewest >= COVER_LEAST ? "ok" : "FAILED");
+    printf("coverage   edition %" PRIu32 ": %zu rows, fewest hits %" PRIu64 " (%s)  %s\n", edition,
+           rows, fewest, name, fewest >= COVER_LEAST ? "ok" : "FAILED");
     if (fewest < COVER_LEAST)
         exit(1);
 }
@@ -1290,18 +1878,32 @@ int main(int count, char **words)
             continue;
         alarm(scales[i].seconds);
         if (alone) {
-            part_runs(&at, &scales[i], alone);
+            for (uint32_t edition = EDITION_1; edition <= EDITION_2; edition++) {
+                set_edition(&at, edition);
+                part_runs(&at, &scales[i], alone);
+            }
+            part_moved_runs(&at, &scales[i], alone);
             return 0;
         }
-        run_well_formed(&at, &scales[i]);
-        run_damaged(&at, &scales[i]);
-        run_listings(&at, &scales[i]);
+        run_cases(&at);
+        run_moves(&at, &scales[i]);
+        for (uint32_t edition = EDITION_1; edition <= EDITION_2; edition++) {
+            uint64_t calls = at.calls;
+            set_edition(&at, edition);
+            run_well_formed(&at, &scales[i]);
+            run_damaged(&at, &scales[i]);
+            run_listings(&at, &scales[i]);
+            printf("edition %" PRIu32 "  %10" PRIu64 " calls\n", edition, at.calls - calls);
+            if (at.calls - calls < scales[i].least)
+                fail(&at, NULL, "too few calls were made on this edition");
+        }
         if (table)
             cover_print(&at.seen);
-        if (scales[i].coverage)
-            check_coverage(&at);
+        for (uint32_t edition = EDITION_1; edition <= EDITION_2 && scales[i].coverage; edition++)
+            check_coverage(&at, edition);
         printf("digest     %016" PRIx64 "\n", at.digest);
         printf("digest     %016" PRIx64 " of the listings\n", at.listings_digest);
+        printf("digest     %016" PRIx64 " of the moves\n", at.moves_digest);
         return 0;
     }
     fprintf(stderr, "usage: test quick|gate|long [coverage|demand3]\n");

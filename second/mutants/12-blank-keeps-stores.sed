@@ -1,2 +1,2 @@
 # Blank leaves the stores.
-/^static void blank/,/^}/s/WORDS \*/STORES_AT */
+/^static void blank/,/^}/s/of->words \*/of->stores_at */

@@ -1,2 +1,2 @@
 # Over bytes nobody is ahead.
-/^second_reply second_call_bytes/,/^}/s/second_call(table, WORDS, call);/& reply.ahead = 0;/
+/^second_reply second_call_bytes/,/^}/s/second_call(table, words, call);/& reply.ahead = 0;/

@@ -1,2 +1,2 @@
 # Stop leaves the suspended flag.
-/^static int stop/,/^}/s/memset(task, 0, TASK_WORDS/memset(task + 2, 0, (TASK_WORDS - 2)/
+/^static int stop/,/^}/s/memset(task, 0, layout_of(table)->task_words/memset(task + 2, 0, (layout_of(table)->task_words - 2)/

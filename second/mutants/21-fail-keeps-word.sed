@@ -1,2 +1,2 @@
 # A failed request leaves the caller's word.
-s/^    caller\[T_WORD\] = received;/    if (out == MET) caller[T_WORD] = received;/
+/^static uint32_t hub_request/,/^}/s/^    set_message(/    if (out == MET) set_message(/

@@ -1,2 +1,2 @@
 # Start takes a sleeper.
-/^static int start/,/^}/s/!= INACTIVE)/!= INACTIVE \&\& table[task_place(target) + T_STATE] != SLEEPING)/
+/^static int start/,/^}/s/!= INACTIVE)/!= INACTIVE \&\& table[task_place(table, target) + T_STATE] != SLEEPING)/

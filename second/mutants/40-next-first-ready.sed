@@ -1,2 +1,2 @@
 # Next is the first ready task.
-s/reply.next = running(table);/reply.next = table[READY_AT];/
+s/reply.next = running(table);/reply.next = table[ready_place(table)];/

@@ -1,2 +1,2 @@
 # Sleep leaves the answer.
-/^static void sleep/,/^}/s/caller\[T_ANSWER\] = NO_ANSWER;/;/
+/^static void sleep/,/^}/s/caller\[answer_at(table)\] = NO_ANSWER;/;/

@@ -1,2 +1,2 @@
 # A wipe keeps the store.
-/^static outcome board_wipe/,/^}/s/^    table\[store_place(number)\] = 0;/    ;/
+/^static outcome board_wipe/,/^}/s/^    set_message(table, store_place(table, number), 0);/    ;/

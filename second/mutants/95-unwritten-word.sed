@@ -1,2 +1,2 @@
 # Well formed lets a Board without a word keep one in its store.
-s/size_t held = holds_words(hub\[H_KIND\]) ? hub\[H_COUNT\] : 0;/size_t held = hub[H_KIND] == BOARD ? 1 : hub[H_KIND] == FIFO ? hub[H_COUNT] : 0;/
+s/uint32_t held = holds_words(hub\[H_KIND\]) ? hub\[H_COUNT\] : 0;/uint32_t held = hub[H_KIND] == BOARD ? 1 : hub[H_KIND] == FIFO ? hub[H_COUNT] : 0;/

@@ -57,7 +57,7 @@ static uint32_t longest_list(const uint32_t *words)
 
     for (uint32_t hub = 0; hub < HUBS; hub++) {
         uint32_t length = 0;
-        while (length < LIST_WORDS && words[list_place(hub) + length] != 0)
+        while (length < LIST_WORDS && words[list_place(words, hub) + length] != 0)
             length++;
         longest = length > longest ? length : longest;
     }

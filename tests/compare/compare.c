@@ -156,6 +156,8 @@ static void lay_words(comparison *at, const uint32_t *words)
 
 /* ---- One call ---------------------------------------------------------- */
 
+/* The C edge has seven numbers and edition 1 so far: every call's high word is 0, and
+ * every table is drawn with EDITION_1. */
 static hub_kernel_reply kernel_call(comparison *at, const uint32_t *call)
 {
     at->calls++;
@@ -328,7 +330,7 @@ static void part_tables(comparison *at, const scale *to)
 
     for (uint32_t i = 0; i < to->tables; i++) {
         begin(at, "tables", i);
-        gen_table(&at->random, words);
+        gen_table(&at->random, EDITION_1, words);
         lay_words(at, words);
         gen_draw_mood(&at->random, &mood);
         mood.tasks = mood.hubs = 0; /* nothing to add first */
@@ -345,8 +347,8 @@ static uint32_t count_met(const uint32_t *before, const uint32_t *after)
     uint32_t met = 0;
 
     for (uint32_t task = 0; task < before[TASKS_IN_USE_AT]; task++)
-        met += before[task_place(task) + T_STATE] == WAITING &&
-               after[task_place(task) + T_STATE] == READY;
+        met += before[task_place(before, task) + T_STATE] == WAITING &&
+               after[task_place(after, task) + T_STATE] == READY;
     return met;
 }
 
@@ -376,7 +378,7 @@ static void part_stops(comparison *at, const scale *to)
 
     for (uint32_t i = 0; i < to->stops; i++) {
         begin(at, "stops", i);
-        gen_stop(&at->random, words, call);
+        gen_stop(&at->random, EDITION_1, words, call);
         at->met_by_stop[compare_met(at, words, call)]++;
     }
 }
@@ -388,7 +390,7 @@ static void part_boards(comparison *at, const scale *to)
 
     for (uint32_t i = 0; i < to->boards; i++) {
         begin(at, "boards", i);
-        gen_board(&at->random, words, call);
+        gen_board(&at->random, EDITION_1, words, call);
         int updates = call[C_SIDE] == PUT;
         uint32_t met = compare_met(at, words, call);
         if (updates)
@@ -405,7 +407,7 @@ static void part_queues(comparison *at, const scale *to)
 
     for (uint32_t i = 0; i < to->queues; i++) {
         begin(at, "queues", i);
-        gen_queue(&at->random, words, call);
+        gen_queue(&at->random, EDITION_1, words, call);
         lay_words(at, words);
         for (int j = 0; j < 4; j++) {
             compare(at, words, call);
@@ -424,9 +426,9 @@ static void part_listings(comparison *at, const scale *to)
     for (uint32_t i = 0; i < to->set_ups; i++) {
         begin(at, "listings", i);
         if (i % 2 == 0)
-            gen_set_up(&at->random, words);
+            gen_set_up(&at->random, EDITION_1, words);
         else
-            gen_table(&at->random, words);
+            gen_table(&at->random, EDITION_1, words);
         to_bytes(bytes, words);
         lay(at, bytes, BYTES);
         size_t needed = needed_room(at, bytes);
@@ -454,16 +456,16 @@ static void part_damaged(comparison *at, const scale *to)
     uint32_t words[WORDS], call[CALL_NUMBERS];
     uint8_t bytes[BYTES];
 
-    for (size_t family = 0; family < gen_damages(); family++) {
+    for (size_t family = 0; family < gen_damages(EDITION_1); family++) {
         begin(at, gen_damage_name(family), family);
         for (uint32_t i = 0; i < to->damages; i++) {
-            gen_damaged(&at->random, family, words);
+            gen_damaged(&at->random, EDITION_1, family, words);
             lay_words(at, words);
             to_bytes(bytes, words);
             listing_rooms(at, bytes);
             for (uint32_t service = HUB_REQUEST; service <= ADD_HUB + 3; service++) {
                 for (int j = 0; j < CALL_NUMBERS; j++)
-                    call[j] = gen_below(&at->random, 4);
+                    call[j] = j == C_HIGH ? 0 : gen_below(&at->random, 4);
                 call[C_SERVICE] = service <= ADD_HUB + 1   ? service
                                   : service == ADD_HUB + 2 ? UINT32_MAX
                                                            : BLANK;
@@ -480,7 +482,7 @@ static void part_flips(comparison *at, const scale *to)
 
     begin(at, "flips", 0);
     for (uint32_t i = 0; i < to->flips; i++) {
-        gen_table(&at->random, words);
+        gen_table(&at->random, EDITION_1, words);
         gen_draw_mood(&at->random, &mood);
         gen_call(&at->random, &mood, words, call);
         gen_flip(&at->random, words);
@@ -501,7 +503,7 @@ static void part_lengths(comparison *at, const scale *to)
         for (uint32_t j = 0; j < to->lengths; j++) {
             uint32_t hub = draw_hub(at);
 
-            gen_table(&at->random, words);
+            gen_table(&at->random, EDITION_1, words);
             gen_draw_mood(&at->random, &mood);
             gen_call(&at->random, &mood, words, call);
             if (j % 16 == 0)

@@ -22,7 +22,7 @@ int LLVMFuzzerTestOneInput(const uint8_t *data, size_t size)
             continue;
         }
         memcpy(wanted, table, sizeof table);
-        second_reply want = expect_call(wanted, step.call);
+        second_reply want = expect_call(wanted, WORDS, step.call);
         second_reply reply = second_call(table, WORDS, step.call);
         if (memcmp(&reply, &want, sizeof reply) != 0 || memcmp(table, wanted, sizeof table) != 0)
             abort();

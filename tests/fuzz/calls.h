@@ -21,7 +21,7 @@ typedef struct {
     uint32_t place, value;
 } fuzz_step;
 
-static const uint32_t fuzz_blank[CALL_NUMBERS] = {0, 0, 0, 0, 0, 0, 0};
+static const uint32_t fuzz_blank[CALL_NUMBERS] = {0};
 
 /* 0 to 247 as they are, then the numbers at which a rule turns */
 static uint32_t fuzz_number(uint8_t byte)
@@ -37,9 +37,9 @@ static fuzz_step fuzz_step_of(const uint8_t *at)
 
     if (step.is_call) {
         step.call[0] = at[0] % 12;
-        for (int i = 1; i < CALL_NUMBERS - 1; i++)
+        for (int i = 1; i < C_WORD; i++)
             step.call[i] = fuzz_number(at[i]);
-        step.call[CALL_NUMBERS - 1] = fuzz_number(at[6]) + 256u * at[7];
+        step.call[C_WORD] = fuzz_number(at[6]) + 256u * at[7]; /* the high word is 0 */
     } else {
         step.place = (at[1] + 256u * at[2]) % WORDS;
         step.value = at[3] + 256u * at[4] + 65536u * at[5] + 16777216u * at[6];

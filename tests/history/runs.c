@@ -46,7 +46,7 @@ typedef struct {
     ledger book;
     /* what the record of a request's task showed as its word in the call that
      * settled the request, or shows now */
-    uint32_t received[LEDGER_REQUESTS];
+    uint64_t received[LEDGER_REQUESTS];
     int settled[LEDGER_REQUESTS];
 } drawn_run;
 
@@ -68,7 +68,7 @@ static void stop(uint64_t seed, const char *wrong)
 
 static uint32_t kind_of(const drawn_run *run, uint32_t hub)
 {
-    return run->table[hub_place(hub) + H_KIND];
+    return run->table[hub_place(run->table, hub) + H_KIND];
 }
 
 static int bears_word(uint32_t kind) { return kind == PORT || kind == FIFO || kind == BOARD; }
@@ -87,7 +87,7 @@ static void read_received(drawn_run *run)
     for (size_t i = 0; i < run->book.requests; i++) {
         const ledger_request *request = &run->book.request[i];
         if (!run->settled[i])
-            run->received[i] = run->table[task_place(request->task) + T_WORD];
+            run->received[i] = task_message(run->table, request->task);
         run->settled[i] = request->class != IS_WAITING;
     }
 }
@@ -210,7 +210,7 @@ static void print_calls(const drawn_run *run)
     printf("  calls =\n");
     for (size_t i = 0; i < CALLS; i++) {
         printf("      %scall", i > 0 ? "∷ " : "");
-        for (int number = 0; number < CALL_NUMBERS; number++)
+        for (int number = 0; number < C_HIGH; number++) /* every high word is 0 */
             printf(" %" PRIu32, run->call[i][number]);
         if (run->reply[i].refusal != ACCEPTED)
             printf("  -- refused with %" PRIu32, run->reply[i].refusal);
@@ -225,7 +225,7 @@ static void print_requests(const drawn_run *run)
     for (size_t i = 0; i < run->book.requests; i++) {
         const ledger_request *request = &run->book.request[i];
         int puts_word = request->side == PUT && bears_word(kind_of(run, request->hub));
-        printf("        %srow %" PRIu32 " %" PRIu32 " %" PRIu32 " %" PRIu32 " %s %" PRIu32 "\n",
+        printf("        %srow %" PRIu32 " %" PRIu32 " %" PRIu32 " %" PRIu64 " %s %" PRIu64 "\n",
                i > 0 ? "∷ " : "", request->task, request->hub, request->side,
                puts_word ? request->word : 0, classes[request->class], run->received[i]);
     }
@@ -233,18 +233,19 @@ static void print_requests(const drawn_run *run)
 }
 
 /* Words that the hub doesn't bear are 0. */
-static void print_words(const char *name, const uint32_t *words, uint32_t count, int borne)
+static void print_words(const char *name, const uint64_t *words, uint32_t count, int borne)
 {
     printf("    %s = ", name);
     for (uint32_t i = 0; i < count; i++)
-        printf("%" PRIu32 " ∷ ", borne ? words[i] : 0);
+        printf("%" PRIu64 " ∷ ", borne ? words[i] : 0);
     printf("[];\n");
 }
 
 static void print_run(const drawn_run *run, int number)
 {
     const ledger_hub *hub = &run->book.hub[0];
-    uint32_t kind = kind_of(run, 0), count = run->table[hub_place(0) + H_COUNT];
+    uint32_t kind = kind_of(run, 0), count = run->table[hub_place(run->table, 0) + H_COUNT];
+    uint64_t held[HELD_MOST];
 
     printf("\n-- hub 0 is %s\nunfoldable pub drawn-%d : Drawn\ndrawn-%d = record {\n", kinds[kind],
            number, number);
@@ -255,7 +256,9 @@ static void print_run(const drawn_run *run, int number)
     print_words("gets", hub->got, hub->gets, 1);
     printf("    removed = %" PRIu32 ";\n", hub->owners_removed);
     printf("    count = %" PRIu32 ";\n", count);
-    print_words("held", run->table + store_place(0), holds_words(kind) ? count : 0, 1);
+    for (uint32_t i = 0; i < HELD_MOST; i++)
+        held[i] = message_at(run->table, held_place(run->table, 0, i));
+    print_words("held", held, holds_words(kind) ? count : 0, 1);
     printf("  };\n}\n\nagrees-%d : Agrees drawn-%d\nunfolding drawn-%d shows\nagrees-%d = refl\n",
            number, number, number, number);
 }

@@ -12,7 +12,7 @@ int main(void)
 
     while (scanf("%lu %lu %lu %lu %lu %lu %lu %lu", &words, &n[0], &n[1], &n[2], &n[3], &n[4],
                  &n[5], &n[6]) == 8) {
-        uint32_t call[7];
+        uint32_t call[8] = {0}; /* the high word is 0 */
         for (int i = 0; i < 7; i++)
             call[i] = (uint32_t)n[i];
         second_reply reply = second_call(table, words, call);

@@ -9,7 +9,7 @@ use Rattle.rules.proofs.Cases.{condCase}
 use Rattle.rules.proofs.Hubs.{core}
 use Rattle.rules.proofs.Verdicts.{hubAfter}
 use Rattle.rules.specs.Calls.{kept}
-use Rattle.rules.specs.HubTable.{Meeting, Verdict, alone, fail, getEvent, getFifo, getPort, getResource, getSemaphore, met, notNow, onGet, onPut, onSide, pass, putEvent, putFifo, putPort, putResource, putSemaphore}
+use Rattle.rules.specs.HubTable.{Meeting, Verdict, alone, fail, getEvent, getFifo, getPort, getResource, getSemaphore, message, met, notNow, onGet, onPut, onSide, pass, putEvent, putFifo, putPort, putResource, putSemaphore}
 use Rattle.rules.specs.Lists.{firstWaiting, holding, queued}
 use Rattle.rules.specs.Table.{Board, Event, Fifo, Get, Hub, Kind, NoKind, NoSide, Port, Put, Resource, Semaphore, Side, State, Wipe, kindOf, sideOf, task}
 use Rattle.rules.specs.WellFormed.{bearsWord}
@@ -198,7 +198,7 @@ law-get Resource s f h i x =
     (λ b. condCase (Law Resource Get s h x) (eqb (h .count) (suc i)) fail notNow (λ _. law-not Resource Get s h x) (λ _. law-not Resource Get s h x))
 law-get Board s f h i x = tt
 
-kept-word : (h : Hub) (c : Call) → c .side ≡ 1 → bearsWord (kindOf (h .kind)) ≡ true → c .word ≡ kept h c
+kept-word : (h : Hub) (c : Call) → c .side ≡ 1 → bearsWord (kindOf (h .kind)) ≡ true → message c ≡ kept h c
 unfolding kept
 kept-word h c e f = rw (e, f)
 
@@ -209,7 +209,7 @@ pub law-side : (s : State) (h : Hub) (c : Call) → Sided (kindOf (h .kind)) (c 
 unfolding Share onSide sideOf
 law-side s h c (inl e) f =
     subst (λ (d : Side). Law (kindOf (h .kind)) d s h (kept h c) (onSide d s h c)) (ap sideOf (sym e))
-    (law-put (kindOf (h .kind)) s (firstWaiting s 2 (h .waiters)) h (c .caller) (c .word) (kept h c) (kept-word h c e) f)
+    (law-put (kindOf (h .kind)) s (firstWaiting s 2 (h .waiters)) h (c .caller) (message c) (kept h c) (kept-word h c e) f)
 law-side s h c (inr (inl e)) f =
     subst (λ (d : Side). Law (kindOf (h .kind)) d s h (kept h c) (onSide d s h c)) (ap sideOf (sym e))
     (law-get (kindOf (h .kind)) s _ h (c .caller) (kept h c))

@@ -15,7 +15,7 @@ use Rattle.rules.proofs.Quiet.{isAddTask, isResume, isSleep, isStart, isSuspend
 use Rattle.rules.proofs.Valid.{Listed}
 use Rattle.rules.proofs.Verdicts.{after-kind, hubAfter}
 use Rattle.rules.specs.Calls.{AddHub, AddTask, Blank, HubRequest, Resume, Service, Sleep, Start, Stop, Suspend, Tick, Unknown, Yield, addHub, blank, deactivate, grant, heir, newHub, serve, settle, stop}
-use Rattle.rules.specs.HubTable.{getBoard, met, onGet, onPut, onSide, onWipe, putBoard, readers, verdict}
+use Rattle.rules.specs.HubTable.{getBoard, message, met, onGet, onPut, onSide, onWipe, putBoard, readers, verdict}
 use Rattle.rules.specs.Lists.{holding, queued}
 use Rattle.rules.specs.Refusals.{refusalFor}
 use Rattle.rules.specs.Table.{Board, Event, Fifo, Hub, Kind, NoKind, Port, Resource, Semaphore, State, hub, kindOf, noHub, owns, sideOf}
@@ -74,7 +74,7 @@ boards-same s s′ cs e m = record {
 -- ---- Hub request: an update writes, a read leaves, a wipe takes away
 
 module _ (s : State) (c : Call) (b : kindOf (hub s (c .target) .kind) ≡ Board) where
-  pub update-row : c .side ≡ 1 → verdict s c ≡ met 1 (c .word ∷ []) 0 (readers s (hub s (c .target) .waiters) (c .word))
+  pub update-row : c .side ≡ 1 → verdict s c ≡ met 1 (message c ∷ []) 0 (readers s (hub s (c .target) .waiters) (message c))
   unfolding onPut onSide putBoard sideOf verdict
   update-row e = rw (e, b) refl
 
@@ -100,7 +100,7 @@ module _ (s : State) (c : Call) (b : kindOf (hub s (c .target) .kind) ≡ Board)
       by (inr (inr e)) = unfold boardBy holding hubAfter sideOf written in rw (wipe-row (e .0), e .0) refl
 
   -- the word of an update stands there after it
-  pub update-word : (cs : List Call) → c .side ≡ 1 → boardWord (c .target) (cs ++ c ∷ []) ≡ some (c .word)
+  pub update-word : (cs : List Call) → c .side ≡ 1 → boardWord (c .target) (cs ++ c ∷ []) ≡ some (message c)
   unfolding boardBy sideOf
   update-word cs e = board-next (c .target) none cs c ∙ rw (eq-eqb (c .target) (c .target) refl, e) refl
 

@@ -5,7 +5,7 @@ use Rattle.history.proofs.Asked.{Outcome, isFailed, isMet, isOpen, outc
 use Rattle.history.proofs.Classes.{is-class}
 use Rattle.history.proofs.Fates.{Fate, Older, fate-serve, meets, rests, stops, ticksOf, times}
 use Rattle.history.proofs.Following.{continues-at, continues-history, continues-length, continues-next, own-place, own-there, table-next}
-use Rattle.history.proofs.Run.{Sound, accepted-service, refusal-shown, shown-next, sound-next}
+use Rattle.history.proofs.Run.{Sound, accepted-service, refusal-other, shown-next, sound-next}
 use Rattle.history.proofs.Those.{each-at, howMany-cons}
 use Rattle.history.specs.History.{History, Request, asked, history, isClass, isWaiting, next, reread, shown, those, waiting}
 use Rattle.history.specs.Statements.{Each, NoBlank, Stands, noRequest, requestAt, ticksIn}
@@ -24,7 +24,7 @@ use Rattle.rules.specs.Reply.{tableAfter}
 use Rattle.rules.specs.Table.{State, Task, hub, kindOf, task}
 use Rattle.rules.specs.WellFormed.{urgency, within}
 use Rattle.rules.specs.declared.Call.{Call}
-use borrow.Author.Tests.{ne-eqb}
+use borrow.Author.Tests.{eqb-false, eqb-true, ne-eqb}
 use lib.Dec.{eqb, ltb}
 use lib.ListN.{length}
 use mathlib.Core.Bool.{false, false≢true, true}
@@ -77,12 +77,19 @@ fate-older w c j t t′ (times q a b) e = absurd (omega (arith, e, a))
 module _ (x : History) (g : Sound x) (c : Call) (b : serviceOf (c .service) ≢ Blank) (j : ℕ) (st : task (shown (x .table)) j .state ≡ 3) where
   older-by : (n : ℕ) → refusalOf (x .table) c ≡ n → task (shown (tableAfter (x .table) c)) j .state ≡ 3
       → Older (ticksOf (serviceOf (c .service))) (task (shown (x .table)) j) (task (shown (tableAfter (x .table) c)) j)
+  unfolding serviceOf
   older-by zero e =
       rw (shown-next x c e)
       (λ k. fate-older (serviceOf (c .service)) c j _ _ (fate-serve _ (serviceOf (c .service)) b (shown (x .table)) c (g .valid) (accepted-service x c e) j st) k)
   older-by (suc n) e =
-      rw (refused-leaves (x .table) c n e .0, refused-ticks (serviceOf (c .service)) (shown (x .table)) c n (sym (refusal-shown x g c) ∙ e))
+      rw (refused-leaves (x .table) c n e .0, no-tick)
       (λ k l. (omega arith, l))
+    where
+      no-tick : ticksOf (serviceOf (c .service)) ≡ 0
+      no-tick =
+          boolCase (eqb (c .service) 1)
+          (λ b. ap (λ (m : ℕ). ticksOf (serviceOf m)) (eqb-true (c .service) 1 b))
+          (λ b. refused-ticks (serviceOf (c .service)) (shown (x .table)) c n (sym (refusal-other x g c (eqb-false (c .service) 1 b)) ∙ e))
 
 -- ---- the request at place p, while it waits
 

@@ -1,5 +1,5 @@
 -- Demand 3, for every run: `demand3`, and its consequences `each-met`, `each-read` and `one-each` (the statements: specs/Statements.antt).
--- A Blank on any 600 words begins a run (`blank-begins`).
+-- A Blank on any words of either size begins a run (`blank-begins`).
 use Prim.Native.Nat.{_+_, _<_, _≤_, suc, zero, ℕ}
 use Rattle.history.proofs.Again.{Entry}
 use Rattle.history.proofs.Balance.{Balanced}
@@ -7,7 +7,7 @@ use Rattle.history.proofs.Bound.{bound}
 use Rattle.history.proofs.Following.{continues-history, own-place}
 use Rattle.history.proofs.Meetings.{met-in}
 use Rattle.history.proofs.Reasons.{class-own, one-met, turned-failed, turned-met, turned-reads, turned-timed, turned-withdrawn}
-use Rattle.history.proofs.Run.{Sound, accepted-service, refusal-shown, shown-next, sound-run}
+use Rattle.history.proofs.Run.{Sound, accepted-service, refusal-other, shown-next, sound-run}
 use Rattle.history.proofs.Those.{each-both, each-imp}
 use Rattle.history.specs.History.{Class, History, Request, asked, at, begun, boardWord, failed, history, howMany, isOwned, metCount, next, nextBy, opened, partOf, removedAt, reread, rowClass, shown, those, timedOut, turned, turnedBy, turnedTo, withdrawn, wordsOf}
 use Rattle.history.specs.Statements.{Bears, Begins, Demand3, Each, EachMet, EachRead, Met, MetBy, OneEach, Own, addedAs, requestAt}
@@ -16,26 +16,31 @@ use Rattle.lists.specs.Lists.{bit}
 use Rattle.rules.proofs.After.{well-formed-not-2}
 use Rattle.rules.proofs.Promise.{blank-accepted}
 use Rattle.rules.proofs.Valid.{Range}
-use Rattle.rules.specs.Calls.{HubRequest, Stop, Tick, serve, serviceOf}
+use Rattle.rules.specs.Calls.{HubRequest, Service, Stop, Tick, serve, serviceOf}
 use Rattle.rules.specs.HubTable.{verdict}
 use Rattle.rules.specs.Refusals.{refusalFor, refusalOf}
 use Rattle.rules.specs.Reply.{tableAfter}
-use Rattle.rules.specs.Table.{Board, Event, Fifo, Hub, Kind, NoKind, Port, Resource, Semaphore, State, hub, kindOf, noHub}
+use Rattle.rules.specs.Table.{Board, Event, Fifo, Hub, Kind, NoKind, Port, Resource, Semaphore, State, editionOf, hub, kindOf, noHub, size}
 use Rattle.rules.specs.WellFormed.{urgency}
 use Rattle.rules.specs.declared.Call.{Call}
 use borrow.Author.Tests.{ltb-false, ltb-true}
 use lib.Dec.{ltb}
 use lib.ListN.{List·getD-eq-default, length, length-map}
 use mathlib.Core.List.{List, []}
+use mathlib.Core.Bool.{false≢true}
 use mathlib.Core.Logic.{_≢_, _⊎_, inl, inr}
 use mathlib.Core.Option.{some}
 use mathlib.Core.Path.{_∙_, _≡_, ap, refl, subst, sym}
 use native.Mathlib.Omega.{arith}
 
--- a Blank on any 600 words begins a run
-pub blank-begins : (w : List ℕ) (b : Call) → length w ≡ 600 → b .service ≡ 0 → Begins w b
+-- a Blank on any words of either size begins a run
+pub blank-begins : (w : List ℕ) (b : Call) → length w ≡ size (editionOf w) → b .service ≡ 0 → Begins w b
 unfolding serviceOf
 blank-begins w b l z = record { blank = rw z; accepted = blank-accepted w b l z }
+
+not-request : (c : Call) {v : Service} → serviceOf (c .service) ≡ v → (HubRequest ≡ v → ⊥) → c .service ≢ 1
+unfolding serviceOf
+not-request c e n z = n (sym (ap serviceOf z) ∙ e)
 
 module _ (x : History) (g : Sound x) where
   abbrev s : State
@@ -135,8 +140,8 @@ module _ (x : History) (g : Sound x) where
     bound = λ c ds sv e m b l. bound x g c sv e m ds b l;
     formed = g .formed;
     neverTwo = λ c. well-formed-not-2 (x .table) c (g .formed);
-    blanks = λ c e. refusal-shown x g c ∙ (unfold refusalFor in rw e);
-    ticks = λ c e. refusal-shown x g c ∙ (unfold refusalFor in rw e);
+    blanks = λ c e. refusal-other x g c (not-request c e (λ q. false≢true cc)) ∙ (unfold refusalFor in rw e);
+    ticks = λ c e. refusal-other x g c (not-request c e (λ q. false≢true cc)) ∙ (unfold refusalFor in rw e);
   }
 
   sound-one : OneEach x

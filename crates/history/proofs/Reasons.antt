@@ -24,7 +24,7 @@ use Rattle.rules.proofs.Standing.{listed-waits}
 use Rattle.rules.proofs.Valid.{Listed, Valid}
 use Rattle.rules.proofs.Verdicts.{Few, across, few, hubAfter, meets-all, meets-first, meets-later, meets-never, meets-none, waitersMet}
 use Rattle.rules.specs.Calls.{AddHub, AddTask, Blank, HubRequest, Resume, Service, Sleep, Start, Stop, Suspend, Tick, Unknown, Yield, grant, mayStop, serve, serviceOf, settle, stop}
-use Rattle.rules.specs.HubTable.{Meeting, Verdict, fail, getBoard, met, notNow, readers, verdict}
+use Rattle.rules.specs.HubTable.{Meeting, Verdict, fail, getBoard, message, met, notNow, readers, verdict}
 use Rattle.rules.specs.Lists.{answer, answered, firstWaiting, holding, queued}
 use Rattle.rules.specs.Refusals.{refusalFor}
 use Rattle.rules.specs.Table.{Board, Fifo, Hub, Kind, State, Task, hub, kindOf, owns, sideOf, task}
@@ -163,10 +163,10 @@ module _ (key : ℕ → ℕ) (s : State) (c : Call) (sv : serviceOf (c .service)
 
   -- the update of a Board: its readers, and the caller
   met-update : (rs : List Request) → Agree s rs → Listed s → kindOf (hub s (c .target) .kind) ≡ Board → c .side ≡ 1
-      → Each (MetBy s (settle key (updates s c (c .word)) s c) c) (turned Class.met (settle key (updates s c (c .word)) s c) (rs ++ asked s c ∷ []))
+      → Each (MetBy s (settle key (updates s c (message c)) s c) c) (turned Class.met (settle key (updates s c (message c)) s c) (rs ++ asked s c ∷ []))
   unfolding reread waitersMet
   met-update rs a l b d =
-      turned-update key s c (t .run) rs a (c .word) _ p
+      turned-update key s c (t .run) rs a (message c) _ p
       (λ r k o e w. updated (record {
         service = sv;
         board = b;
@@ -175,11 +175,11 @@ module _ (key : ℕ → ℕ) (s : State) (c : Call) (sv : serviceOf (c .service)
         side = sym (k .side) ∙ e;
         waited = o;
         word = w;
-        caller = class-of-met key s c (t .run) (settle key (updates s c (c .word)) s c) 0 (met-caller key s c (t .run) 1 (c .word ∷ []) 0 (readers s (hub s (c .target) .waiters) (c .word)) p);
+        caller = class-of-met key s c (t .run) (settle key (updates s c (message c)) s c) 0 (met-caller key s c (t .run) 1 (message c ∷ []) 0 (readers s (hub s (c .target) .waiters) (message c)) p);
       }))
-      (itself (by-row 1 (c .word ∷ []) 0 (readers s (hub s (c .target) .waiters) (c .word)) (update-row s c b d) p))
+      (itself (by-row 1 (message c ∷ []) 0 (readers s (hub s (c .target) .waiters) (message c)) (update-row s c b d) p))
     where
-      p : Partners s c (readers s (hub s (c .target) .waiters) (c .word))
+      p : Partners s c (readers s (hub s (c .target) .waiters) (message c))
       p = subst (λ (v : Verdict). Partners s c (waitersMet v)) (update-row s c b d) (partners s l c)
 
 -- and at most one of each side
@@ -288,7 +288,7 @@ met-case P key w s rs c a g ok f k z = by w (meets-by w) ok f k
 -- a hub request's own list: an update of a Board, or by the hub table's row
 request-case : (P : Verdict → List Request → Type 0) (key : ℕ → ℕ) (s : State) (rs : List Request) (c : Call) → Agree s rs → Valid s → (t : Asked s c)
     → (kindOf (hub s (c .target) .kind) ≡ Board → c .side ≡ 1
-    → P (updates s c (c .word)) (turned Class.met (settle key (updates s c (c .word)) s c) (rs ++ asked s c ∷ [])))
+    → P (updates s c (message c)) (turned Class.met (settle key (updates s c (message c)) s c) (rs ++ asked s c ∷ [])))
     → ((kindOf (hub s (c .target) .kind) ≡ Board → across (sideOf (c .side)) ≡ 2 → ⊥) → P (verdict s c) (metIn s c (verdict s c)))
     → P (verdict s c) (turned Class.met (settle key (verdict s c) s c) (rs ++ asked s c ∷ []))
 request-case P key s rs c a g t up row = by (board-or (kindOf (hub s (c .target) .kind)))
@@ -323,7 +323,7 @@ pub one-met : (key : ℕ → ℕ) (w : Service) (s : State) (rs : List Request) 
 one-met key w s rs c a g ok h d k =
     met-case (λ s′ l. howMany (at h d) l ≤ 1) key w s rs c a g ok
     (λ e t. request-case (λ v l. howMany (at h d) l ≤ 1) key s rs c a g t
-    (λ b e. let z = ap length (those-off (c .target) h d _ (λ q. clash (cc)) (turned-place key s c (t .run) rs a (updates s c (c .word))
+    (λ b e. let z = ap length (those-off (c .target) h d _ (λ q. clash (cc)) (turned-place key s c (t .run) rs a (updates s c (message c))
     (subst (λ (v : Verdict). Partners s c (waitersMet v)) (update-row s c b e) (partners s (g .listed) c)))) in omega (arith, z))
     (λ nu. one-row s c h d (t .side) _ _ (verdict s c) (few s c) nu))
     (λ e run u. stop-one key s c g run u rs a h d)
@@ -337,10 +337,10 @@ Read s cs′ r = kindOf (hub s (r .hub) .kind) ≡ Board → r .side ≡ 2 → b
 module _ (key : ℕ → ℕ) (s : State) (rs : List Request) (c : Call) (cs : List Call) (a : Agree s rs) (g : Valid s) (m : Boards s cs) (t : Asked s c) where
   -- an update: its readers bear its word
   read-update : kindOf (hub s (c .target) .kind) ≡ Board → c .side ≡ 1
-      → Each (Read s (cs ++ c ∷ [])) (turned Class.met (settle key (updates s c (c .word)) s c) (rs ++ asked s c ∷ []))
+      → Each (Read s (cs ++ c ∷ [])) (turned Class.met (settle key (updates s c (message c)) s c) (rs ++ asked s c ∷ []))
   unfolding reread waitersMet
   read-update b d =
-      turned-update key s c (t .run) rs a (c .word) (Read s (cs ++ c ∷ [])) (subst (λ (v : Verdict). Partners s c (waitersMet v)) (update-row s c b d) (partners s (g .listed) c))
+      turned-update key s c (t .run) rs a (message c) (Read s (cs ++ c ∷ [])) (subst (λ (v : Verdict). Partners s c (waitersMet v)) (update-row s c b d) (partners s (g .listed) c))
       (λ r k o e w _ _. rw (place r k o, w) (update-word s c b cs d))
       (λ _ e. absurd (omega (arith, d, e)))
     where

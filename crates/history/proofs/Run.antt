@@ -6,19 +6,20 @@ use Rattle.history.proofs.Boards.{Boards, boards-blank, boards-serve}
 use Rattle.history.proofs.Made.{Makes, makes-blank, makes-serve}
 use Rattle.history.specs.History.{History, begun, history, next, nextBy, shown, turnedBy}
 use Rattle.history.specs.Statements.{Begins}
-use Rattle.rules.proofs.After.{accepted, read-valid, well-formed-long}
+use Rattle.rules.proofs.After.{accepted, at-other, read-valid, well-formed-long}
 use Rattle.rules.proofs.Promise.{read-after, refused-leaves, well-formed-after}
 use Rattle.rules.proofs.Valid.{Valid}
 use Rattle.rules.specs.Calls.{blank, serve, served, serviceOf}
-use Rattle.rules.specs.Refusals.{isBlank, need, refusal, refusalFor, refusalIn, refusalOf}
+use Rattle.rules.specs.Refusals.{isBlank, need, refusal, refusalAt, refusalFor, refusalIn, refusalOf}
 use Rattle.rules.specs.Reply.{tableAfter}
-use Rattle.rules.specs.Table.{one, size}
+use Rattle.rules.specs.Table.{editionOf, size}
 use Rattle.rules.specs.WellFormed.{urgency, wellFormed}
 use Rattle.rules.specs.declared.Call.{Call}
 use borrow.Author.Tests.{eq-eqb}
 use lib.ListN.{length}
 use mathlib.Core.Bool.{or-true, true}
 use mathlib.Core.List.{List, [], _∷_}
+use mathlib.Core.Logic.{_≢_}
 use mathlib.Core.Path.{_∙_, _≡_, refl}
 
 pub record Sound (x : History) : Type 0 where
@@ -31,13 +32,18 @@ pub record Sound (x : History) : Type 0 where
 -- ---- a call, by its service on the state shown
 
 module _ (x : History) (g : Sound x) (c : Call) where
-  pub refusal-shown : refusalOf (x .table) c ≡ refusalFor (serviceOf (c .service)) (shown (x .table)) c
-  unfolding need refusal refusalIn
-  refusal-shown = rw (eq-eqb (length (x .table)) (size one) (well-formed-long (x .table) (g .formed)), g .formed, or-true (isBlank c)) refl
+  pub refusal-shown : refusalOf (x .table) c ≡ refusalAt (editionOf (x .table)) (shown (x .table)) c
+  unfolding need refusalIn
+  refusal-shown = rw (eq-eqb (length (x .table)) (size (editionOf (x .table))) (well-formed-long (x .table) (g .formed)), g .formed, or-true (isBlank c)) refl
+
+  -- of any service but a hub request
+  pub refusal-other : c .service ≢ 1 → refusalOf (x .table) c ≡ refusalFor (serviceOf (c .service)) (shown (x .table)) c
+  unfolding refusal
+  refusal-other n = refusal-shown ∙ at-other (editionOf (x .table)) (shown (x .table)) c n
 
 module _ (x : History) (c : Call) (e : refusalOf (x .table) c ≡ 0) where
   pub accepted-service : refusalFor (serviceOf (c .service)) (shown (x .table)) c ≡ 0
-  accepted-service = unfold refusal in accepted one (x .table) c e .1
+  accepted-service = unfold refusal in accepted (editionOf (x .table)) (x .table) c e .1
 
   pub shown-next : shown (tableAfter (x .table) c) ≡ serve (urgency (shown (x .table))) (serviceOf (c .service)) (shown (x .table)) c
   shown-next = unfold served in read-after (x .table) c e

@@ -4,10 +4,10 @@
 -- Not here: what is promised of a run (Statements.antt), a run worked out (Worked.antt).
 use Prim.Native.Nat.{suc, zero, ℕ}
 use Rattle.rules.specs.Calls.{AddHub, AddTask, Blank, HubRequest, Resume, Service, Sleep, Start, Stop, Suspend, Tick, Unknown, Yield, kept, serviceOf}
-use Rattle.rules.specs.HubTable.{Verdict, fail, notNow}
+use Rattle.rules.specs.HubTable.{Verdict, fail, message, notNow}
 use Rattle.rules.specs.Refusals.{refusalOf}
 use Rattle.rules.specs.Reply.{tableAfter}
-use Rattle.rules.specs.Table.{Get, Hub, Inactive, NoSide, NoStage, Put, Ready, Side, Sleeping, Stage, State, Task, Waiting, Wipe, hub, one, owns, read, sideOf, stageOf, tab, task}
+use Rattle.rules.specs.Table.{Get, Hub, Inactive, NoSide, NoStage, Put, Ready, Side, Sleeping, Stage, State, Task, Waiting, Wipe, hub, owns, sideOf, stageOf, stateOf, tab, task}
 use Rattle.rules.specs.declared.Call.{Call}
 use lib.Dec.{eqb}
 use lib.ListN.{getD, length}
@@ -55,9 +55,9 @@ classOf t = classBy (stageOf (t .state)) (t .answer)
 
 -- ---- a request
 
--- what stands in a table of words
+-- what stands in a table of words, of either edition
 abbrev pub shown : List ℕ → State
-shown t = read one t
+shown t = stateOf t
 
 -- an accepted hub request: its task, hub and side, the word it puts (0 where it puts none), its class, the word received
 pub record Request : Type 0 where
@@ -261,7 +261,7 @@ wordsOf h d rs = map passed (those (at h d) rs)
 -- one more accepted request of it: an update writes its word, a read leaves what stands there, a wipe takes it away
 unfoldable pub boardBy : Side → Call → Option ℕ → Option ℕ
 boardBy NoSide c o = o
-boardBy Put c o = some (c .word)
+boardBy Put c o = some (message c)
 boardBy Get c o = o
 boardBy Wipe c o = none
 

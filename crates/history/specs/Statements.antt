@@ -1,13 +1,13 @@
 -- Demand 3: what holds of every run. `Demand3` is the whole of it, a field for each sentence; `EachMet`, `EachRead` and `OneEach`
 -- are consequences, said by themselves. The proofs are elsewhere: `demand3`, `each-met`, `each-read`, `one-each` of
 -- proofs/Promise.antt.
--- A run: a Blank, accepted, on any 600 words (`Begins`), and then any calls, any seven numbers each, refused ones included;
+-- A run: a Blank, accepted, on any 600 or 744 words (`Begins`), and then any calls, any seven numbers each, refused ones included;
 -- x is its history (History.antt), and x .table the table as it stands.
 use Prim.Native.Nat.{_+_, _<_, _≤_, suc, ℕ}
 use Rattle.history.specs.History.{History, Request, at, boardWord, classOf, failed, history, howMany, isMet, isOwned, met, metCount, next, removedAt, rowClass, shown, timedOut, turnedTo, unread, waiting, waitsBy, withdrawn, wordsOf, written}
 use Rattle.lists.specs.Lists.{bit, occ}
 use Rattle.rules.specs.Calls.{Blank, HubRequest, Stop, Tick, serviceOf}
-use Rattle.rules.specs.HubTable.{Meeting, Verdict, verdict}
+use Rattle.rules.specs.HubTable.{Meeting, Verdict, message, verdict}
 use Rattle.rules.specs.Lists.{firstWaiting}
 use Rattle.rules.specs.Refusals.{WT, modeOf, refusalOf}
 use Rattle.rules.specs.Reply.{tableAfter}
@@ -29,7 +29,7 @@ unfoldable pub Each : {A : Type 0} → (A → Type 0) → List A → Type 0
 Each P [] = Unit {0}
 Each P (x ∷ xs) = P x × Each P xs
 
--- an accepted Blank (on 600 words: on any other length it is refused)
+-- an accepted Blank (on 600 words or 744: on any other length it is refused)
 pub record Begins (w : List ℕ) (b : Call) : Type 0 where
   pub blank : serviceOf (b .service) ≡ Blank
   pub accepted : refusalOf w b ≡ 0
@@ -71,7 +71,7 @@ pub record MadeBy (c : Call) (h : Hub) : Type 0 where
 
 -- what is read where no call, or no request, stands at a place: a request that is missing counts as waiting
 unfoldable pub noCall : Call
-noCall = record { service = 0; caller = 0; target = 0; side = 0; mode = 0; ticks = 0; word = 0 }
+noCall = record { service = 0; caller = 0; target = 0; side = 0; mode = 0; ticks = 0; word = 0; high = 0 }
 
 unfoldable pub noRequest : Request
 noRequest = record { task = 0; hub = 0; side = 0; word = 0; class = waiting; received = 0 }
@@ -129,7 +129,7 @@ pub record ByUpdate (s s′ : State) (c : Call) (r : Request) : Type 0 where
   pub place : r .hub ≡ c .target
   pub side : r .side ≡ 2
   pub waited : 1 ≤ occ (r .task) (hub s (c .target) .waiters)
-  pub word : r .received ≡ c .word
+  pub word : r .received ≡ message c
   pub caller : classOf (task s′ (c .caller)) ≡ met
 
 -- who met r in call c

@@ -8,9 +8,9 @@ use Rattle.rules.specs.Calls.{addHub, addStarted, addTask, blank, carryOut, dea
 use Rattle.rules.specs.HubTable.{getBoard, getEvent, getFifo, getPort, getResource, getSemaphore, onGet, onPut, onSide, onWipe, pass, putBoard, putEvent, putFifo, putPort, putResource, putSemaphore, readers, verdict}
 use Rattle.rules.specs.Lists.{answer, answered, asleep, counted, firstFree, firstWaiting, flagged, holding, joinHub, joinReady, leave, queued, readied, unqueue, waits, wake}
 use Rattle.rules.specs.Lists.{next as running}
-use Rattle.rules.specs.Refusals.{byRunning, goodHub, goodWait, lastSide, modeOf, need, onTask, refusal, refusalFor, refusalIn}
+use Rattle.rules.specs.Refusals.{behind, byRunning, goodHub, goodWait, lastSide, modeOf, need, onTask, refusal, refusalAt, refusalFor, refusalIn}
 use Rattle.rules.specs.Reply.{tableAfter, tableBy, tableIn}
-use Rattle.rules.specs.Table.{contents, heldIn, hub, hubAt, inactive, isResource, kindOf, noHub, owns, read, rows, setHub, setReady, setTask, sideOf, stageOf, tab, taskAt, words}
+use Rattle.rules.specs.Table.{contents, editionOf, heldIn, hub, hubAt, inactive, isResource, kindOf, noHub, owns, read, rows, setHub, setReady, setTask, sideOf, stageOf, tab, taskAt, words}
 use Rattle.rules.specs.WellFormed.{bearsWord, contentsRight, every, exactly, fieldsRight, forAll, hubsRight, inOrder, kindRight, listsExact, listsPacked, mayWait, oneSide, ownerRight, ownersRight, rising, stageRight, storeRight, storesRight, tasksRight, unusedZero, valid, waitersRight, wellFormedIn, written}
 use Rattle.rules.specs.declared.Call.{Call}
 use lib.ListN.{replicate}
@@ -18,7 +18,7 @@ use mathlib.Core.List.{List, [], _∷_}
 use mathlib.Core.Path.{_≡_, refl}
 
 abbrev pub call : ℕ → ℕ → ℕ → ℕ → ℕ → ℕ → ℕ → Call
-call sv ca ta si mo ti wo = record { service = sv; caller = ca; target = ta; side = si; mode = mo; ticks = ti; word = wo }
+call sv ca ta si mo ti wo = record { service = sv; caller = ca; target = ta; side = si; mode = mo; ticks = ti; word = wo; high = 0 }
 
 abbrev pub row : ℕ → ℕ → ℕ → ℕ → Class → ℕ → Request
 row i h d w k x = record { task = i; hub = h; side = d; word = w; class = k; received = x }
@@ -49,7 +49,7 @@ seen x = record {
 
 -- what is seen of a run; to unfold it is to unfold all that it computes with
 unfoldable pub shows : List Call → Seen
-unfolding addHub addStarted addTask again allZero answer answered asked asleep bearsWord begun blank byRunning called carryOut classBy classOf contents contentsRight counted deactivate entries every exactly fieldsRight firstFree firstWaiting flag flagged forAll getBoard getEvent getFifo getPort getResource getSemaphore goodHub goodWait grant heldIn history hold holding hubAt hubsRight inOrder inactive insert isResource joinHub joinReady kept kindOf kindRight lastSide leave listsExact listsPacked made mayWait meetAll metCount modeOf need newHub next nextBy noHub numbers occ onGet onPut onSide onTask onWipe oneSide opened ownerRight ownersRight owns packed partOf pass passAll passOne putBoard putEvent putFifo putPort putResource putSemaphore queued read readers readied refusal refusalFor refusalIn removedBy reread rising rows run running seen serve served serviceOf setHub setReady setTask settle sideOf sinceBlank slept stageOf stageRight start stop storeRight storesRight tab tableBy tableIn taskAt tasksRight those tickAll tickBy tickOne turned turnedBy turnedTo unqueue unusedZero valid verdict wait waitersRight waits wake wellFormedIn without words wordsOf written yielded
+unfolding addHub addStarted addTask again allZero answer answered asked asleep bearsWord begun behind blank byRunning called carryOut classBy classOf contents contentsRight counted deactivate editionOf entries every exactly fieldsRight firstFree firstWaiting flag flagged forAll getBoard getEvent getFifo getPort getResource getSemaphore goodHub goodWait grant heldIn history hold holding hubAt hubsRight inOrder inactive insert isResource joinHub joinReady kept kindOf kindRight lastSide leave listsExact listsPacked made mayWait meetAll metCount modeOf need newHub next nextBy noHub numbers occ onGet onPut onSide onTask onWipe oneSide opened ownerRight ownersRight owns packed partOf pass passAll passOne putBoard putEvent putFifo putPort putResource putSemaphore queued read readers readied refusal refusalAt refusalFor refusalIn removedBy reread rising rows run running seen serve served serviceOf setHub setReady setTask settle sideOf sinceBlank slept stageOf stageRight start stop storeRight storesRight tab tableBy tableIn taskAt tasksRight those tickAll tickBy tickOne turned turnedBy turnedTo unqueue unusedZero valid verdict wait waitersRight waits wake wellFormedIn without words wordsOf written yielded
 shows cs = seen (run cs)
 
 -- the marked calls behind the Blank

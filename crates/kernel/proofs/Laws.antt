@@ -5,27 +5,29 @@ use Prim.Native.Nat.{_<_, _≤_, suc, zero, ℕ}
 use Rattle.kernel.specs.Promise.{CalledIn, ServedIn}
 use Rattle.lists.proofs.Laws.{boolCase}
 use Rattle.moves.specs.Moves.{keyOf}
-use Rattle.records.specs.Records.{Table}
+use Rattle.messages.specs.Messages.{messages}
+use Rattle.records.specs.Records.{Table, taskSizeOf, width}
 use Rattle.rules.proofs.Accepted.{caller-ready, on-task, request-tests}
 use Rattle.rules.proofs.After.{accepted, accepted-formed, accepted-long, valid-in, words-in}
 use Rattle.rules.proofs.Changes.{inUse}
-use Rattle.rules.proofs.Layouts.{Laid, store-place}
+use Rattle.rules.proofs.Layouts.{Laid, one-laid, store-place, two-laid}
 use Rattle.rules.proofs.Lengths.{length-serve, tasksAfter}
 use Rattle.rules.proofs.Numbers.{bears-answer, silent-first, silent-past}
 use Rattle.rules.proofs.Valid.{Valid}
 use Rattle.rules.specs.Calls.{AddHub, AddTask, Blank, HubRequest, Resume, Service, Sleep, Start, Stop, Suspend, Tick, Unknown, Yield, serve, served, serviceOf}
+use Rattle.rules.specs.HubTable.{message}
 use Rattle.rules.specs.Lists.{next}
-use Rattle.rules.specs.Refusals.{need, refusal, refusalFor, refusalIn}
+use Rattle.rules.specs.Refusals.{behind, goodMessage, need, refusal, refusalAt, refusalFor, refusalIn}
 use Rattle.rules.specs.Reply.{outcome, outcomeOf, replyBy, replyIn, tableBy, tableIn}
-use Rattle.rules.specs.Table.{Layout, State, read, size, task, words}
+use Rattle.rules.specs.Table.{Layout, State, editionOf, read, size, task, words}
 use Rattle.rules.specs.WellFormed.{urgency, wellFormedIn}
 use Rattle.rules.specs.declared.Answer.the-variants.{Accepted, Refused}
 use Rattle.rules.specs.declared.Call.{Call}
 use Rattle.rules.specs.declared.Outcome.the-variants.{NothingYet}
 use Rattle.rules.specs.declared.Outcome.{Outcome}
 use Rattle.rules.specs.declared.Served.{Served}
-use borrow.Author.Tests.{eq-eqb, leb-false, leb-true, ne-eqb}
-use lib.Dec.{leb}
+use borrow.Author.Tests.{eq-eqb, eqb-true, leb-false, leb-true, ne-eqb}
+use lib.Dec.{eqb, leb}
 use lib.ListN.{List·getD-eq-default, getD, length}
 use mathlib.Core.Bool.{false, true}
 use mathlib.Core.List.{List, [], _∷_}
@@ -53,6 +55,13 @@ module _ (s : State) (c : Call) (v : Service) (e : serviceOf (c .service) ≡ v)
 pub key-is : (ks : List ℕ) (key : ℕ → ℕ) → ((j : ℕ) → getD ks j 0 ≡ key j) → keyOf ks ≡ key
 key-is ks key e = λ i j. e j i
 
+-- ---- the edition that fits the length, as the code has it
+
+pub edition-laid-of : (t : List ℕ) (ts : ℕ) → ts ≡ taskSizeOf (length t) → Laid ts (editionOf t)
+unfolding editionOf
+edition-laid-of t ts e =
+    rw e (boolCase (eqb (length t) 744) (λ b. rw b two-laid) (λ b. rw b one-laid))
+
 -- ---- the refusal of a table, test by test
 
 module _ (L : Layout) (t : List ℕ) (c : Call) where
@@ -62,7 +71,7 @@ module _ (L : Layout) (t : List ℕ) (c : Call) where
 
   module _ (long : length t ≡ size L) where
     pub blank-0 : c .service ≡ 0 → 0 ≡ refusalIn L t c
-    unfolding need refusal refusalFor refusalIn serviceOf
+    unfolding behind need refusal refusalAt refusalFor refusalIn serviceOf
     blank-0 e = rw (eq-eqb (length t) (size L) long, e) refl
 
     module _ (n : c .service ≡ 0 → ⊥) where
@@ -70,7 +79,7 @@ module _ (L : Layout) (t : List ℕ) (c : Call) where
       unfolding need refusalIn
       refused-2 e = rw (eq-eqb (length t) (size L) long, ne-eqb (c .service) 0 n, e) refl
 
-      pub refused-by-service : wellFormedIn L t ≡ true → refusal (read L t) c ≡ refusalIn L t c
+      pub refused-by-service : wellFormedIn L t ≡ true → refusalAt L (read L t) c ≡ refusalIn L t c
       unfolding need refusalIn
       refused-by-service e = rw (eq-eqb (length t) (size L) long, ne-eqb (c .service) 0 n, e) refl
 
@@ -129,6 +138,16 @@ module _ (s : State) (g : Valid s) (c : Call) (a : refusal s c ≡ 0) where
     where
       past : (n : ℕ) → 10 < n → serviceOf n ≡ Unknown
       past n h = let far : 11 ≤ n = omega arith in List·getD-eq-default (Blank ∷ HubRequest ∷ Start ∷ Stop ∷ Suspend ∷ Resume ∷ Yield ∷ Sleep ∷ Tick ∷ AddTask ∷ AddHub ∷ []) Unknown far
+
+-- the message of a hub request that is accepted is one of the edition's
+pub message-fits : (ts : ℕ) (L : Layout) → Laid ts L → 8 ≤ ts → ts ≤ 9 → (c : Call) → goodMessage L c ≡ true → c .service ≡ 1
+    → c .word < 4294967296 → c .high < 4294967296 → message c < messages (width ts)
+message-fits ts L y low high c m one w h =
+    boolCase (leb 2 (L .width))
+    (λ b. let nine : ts ≡ 9 = omega (arith, leb-true 2 (L .width) b, y .size) in rw nine (omega (arith, w, h)))
+    (λ b. let none : c .high ≡ 0 = eqb-true (c .high) 0 (rw (one, b) at m) in
+    let eight : ts ≡ 8 = omega (arith, leb-false 2 (L .width) b, y .size) in
+    rw (none, eight) (omega (arith, w)))
 
 -- services 1 to 7 keep the tasks in use
 pub keeps-tasks : (key : ℕ → ℕ) (s : State) (c : Call) → 1 ≤ c .service → c .service ≤ 7 → length (serve key (serviceOf (c .service)) s c .tasks) ≡ length (s .tasks)

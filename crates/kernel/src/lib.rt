@@ -1,5 +1,5 @@
 // The hub kernel: one call on one table, for any words and any seven numbers. Numbers in, one look at the table, one service,
-// numbers out. `call` and `summary` are the public promise, over edition 1; each function above them says what it does to
+// numbers out. `call` and `summary` are the public promise, over both editions; each function above them says what it does to
 // every state that a table of any layout holds.
 use records::TaskNo;
 use rules::Answer;
@@ -196,16 +196,18 @@ fn call_in(t: &mut [u32], ts: usize, c: Call) -> Reply
     }
 }
 
-// A call on a table of edition 1.
+// A call on a table of either edition: the one that fits its length.
 pub fn call(t: &mut [u32], c: Call) -> Reply
     ensures { λ r. ⌜ Called (now (t .entry)) c r (now (t .exit)) ⌝ }
 {
-    call_in(t, records::TASK_SIZE, c)
+    let ts = records::task_size(t.len());
+    call_in(t, ts, c)
 }
 
 // "Hub summary: given a table and a hub, one word with bit i set when task i waits there, and the number of set bits as count."
 pub fn summary(t: &[u32], hub: u32) -> Summary
     ensures { λ r. ⌜ r ≡ summaryOf (now (t .entry)) hub ⌝ }
 {
-    summaries::summarise(t, records::TASK_SIZE, hub)
+    let ts = records::task_size(t.len());
+    summaries::summarise(t, ts, hub)
 }

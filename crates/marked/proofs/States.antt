@@ -7,7 +7,7 @@ use Rattle.lines.specs.declared.Line.{Line}
 use Rattle.rules.proofs.States.{reply-words, stateAfter, table-words, valid-after}
 use Rattle.rules.proofs.Valid.{Valid}
 use Rattle.rules.specs.Calls.{served}
-use Rattle.rules.specs.Refusals.{refusal}
+use Rattle.rules.specs.Refusals.{refusalAt}
 use Rattle.rules.specs.Reply.{replyBy}
 use Rattle.rules.specs.Table.{State, one, words}
 use Rattle.runner.specs.Runner.{callOf, replyText, textThrough}
@@ -16,7 +16,7 @@ use mathlib.Core.Path.{_≡_, ap, refl}
 
 unfoldable pub textFrom : State → List Line → List ℕ
 textFrom s [] = []
-textFrom s (Good x ∷ ls) = replyText (replyBy (refusal s (callOf x)) (served s (callOf x)) (callOf x)) ++ textFrom (stateAfter s (callOf x)) ls
+textFrom s (Good x ∷ ls) = replyText (replyBy (refusalAt one s (callOf x)) (served s (callOf x)) (callOf x)) ++ textFrom (stateAfter s (callOf x)) ls
 textFrom s (Bad n ∷ ls) = badText n ++ textFrom s ls
 
 pub on-words : (s : State) → Valid s → (ls : List Line) → textThrough (words one s) ls ≡ textFrom s ls
@@ -24,5 +24,5 @@ unfolding textFrom textThrough
 on-words s v [] = refl
 on-words s v (Good x ∷ ls) =
     rw (reply-words s v (callOf x), table-words s v (callOf x))
-    (ap (λ (t : List ℕ). replyText (replyBy (refusal s (callOf x)) (served s (callOf x)) (callOf x)) ++ t) (on-words (stateAfter s (callOf x)) (valid-after s v (callOf x)) ls))
+    (ap (λ (t : List ℕ). replyText (replyBy (refusalAt one s (callOf x)) (served s (callOf x)) (callOf x)) ++ t) (on-words (stateAfter s (callOf x)) (valid-after s v (callOf x)) ls))
 on-words s v (Bad n ∷ ls) = ap (λ (t : List ℕ). badText n ++ t) (on-words s v ls)

@@ -26,6 +26,7 @@ fn say(
             mode,
             ticks,
             word,
+            high: 0,
         },
     );
     let answer = reply.answer;

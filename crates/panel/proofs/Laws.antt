@@ -9,7 +9,7 @@ use Rattle.panel.specs.Edge.{Called, ListedBytes, edgeAfter, edgeListing
 use Rattle.panel.specs.declared.HubKernelReply.{HubKernelReply}
 use Rattle.panel.specs.declared.HubKernelSummaryReply.{HubKernelSummaryReply}
 use Rattle.rules.specs.Reply.{refusalNumber, replyBy, replyIn, replyTo, summaryOf, tableAfter, tableBy, tableIn}
-use Rattle.rules.specs.Table.{State, one}
+use Rattle.rules.specs.Table.{Layout, State, one}
 use Rattle.rules.specs.declared.Call.{Call}
 use Rattle.rules.specs.declared.Reply.{Reply}
 use Rattle.rules.specs.declared.Summary.{Summary}
@@ -20,14 +20,14 @@ use mathlib.Core.Path.{_≡_, refl, sym}
 
 -- ---- "no word of the table changes" where the reply bears a refusal
 
-refused-keeps-by : (n : ℕ) (t : List ℕ) (s : State) (c : Call) → (refusalNumber (replyBy n s c .answer) ≡ 0 → ⊥) → tableBy one n t s ≡ t
+refused-keeps-by : (L : Layout) (n : ℕ) (t : List ℕ) (s : State) (c : Call) → (refusalNumber (replyBy n s c .answer) ≡ 0 → ⊥) → tableBy L n t s ≡ t
 unfolding replyBy tableBy
-refused-keeps-by zero t s c r = absurd (r refl)
-refused-keeps-by (suc n) t s c r = refl
+refused-keeps-by L zero t s c r = absurd (r refl)
+refused-keeps-by L (suc n) t s c r = refl
 
 refused-keeps : (t : List ℕ) (c : Call) → (refusalNumber (replyTo t c .answer) ≡ 0 → ⊥) → tableAfter t c ≡ t
 unfolding replyIn tableIn
-refused-keeps t c r = refused-keeps-by _ t _ c r
+refused-keeps t c r = refused-keeps-by _ _ t _ c r
 
 -- ---- the ways out of a call
 

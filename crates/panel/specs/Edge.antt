@@ -19,10 +19,10 @@ use mathlib.Core.Bool.{cond}
 use mathlib.Core.List.{List}
 use mathlib.Core.Path.{_≡_}
 
--- "and the call's numbers", in the order of the arguments
+-- "and the call's numbers", in the order of the arguments; the edge has no high word yet (M-105)
 abbrev pub callOf : ℕ → ℕ → ℕ → ℕ → ℕ → ℕ → ℕ → Call
 callOf service caller target side mode ticks word =
-    record { service = service; caller = caller; target = target; side = side; mode = mode; ticks = ticks; word = word }
+    record { service = service; caller = caller; target = target; side = side; mode = mode; ticks = ticks; word = word; high = 0 }
 
 -- the paper's numbers of a reply, with M-104 four
 abbrev pub numbersOf : Reply → HubKernelReply

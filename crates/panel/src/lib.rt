@@ -76,6 +76,7 @@ pub extern "C" fn hub_kernel_call(
             mode,
             ticks,
             word,
+            high: 0,
         },
     );
     let numbers = numbers_of(reply);

@@ -5,19 +5,21 @@ use Rattle.lines.specs.Lines.{numbersOf, printed}
 use Rattle.listing.specs.Listing.{HubSetUp, hubLine, newHub as hubFrom, taskLine, textOfLines}
 use Rattle.rebuilt.proofs.Reading.{good}
 use Rattle.rebuilt.specs.Rebuilt.{Every, GoodHub, allAccepted}
+use Rattle.rules.proofs.After.{zero-at}
 use Rattle.rules.proofs.States.{reply-words, stateAfter, stateBy, table-words, valid-after}
 use Rattle.rules.proofs.Valid.{Valid}
 use Rattle.rules.specs.Calls.{addHub, addTask, newHub, serve, served, serviceOf}
 use Rattle.rules.specs.Lists.{firstFree, next}
-use Rattle.rules.specs.Refusals.{need, refusal, refusalFor}
+use Rattle.rules.specs.Refusals.{need, refusal, refusalAt, refusalFor}
 use Rattle.rules.specs.Reply.{ahead, aheadFor, bearsAnswer, outcome, replyBy, replyTo, tableAfter}
 use Rattle.rules.specs.Table.{State, inactive, one, words}
 use Rattle.rules.specs.declared.Call.{Call}
 use Rattle.runner.proofs.Runs.{table-append}
 use Rattle.runner.specs.Runner.{callOf, replyText, tableThrough, textThrough}
 use borrow.Author.Tests.{le-leb, lt-ltb}
+use lib.Dec.{eqb}
 use lib.ListN.{length, length-append}
-use mathlib.Core.Bool.{false}
+use mathlib.Core.Bool.{false, not, or-true}
 use mathlib.Core.List.{List, [], _++_, _∷_, append-assoc, append-nil, map}
 use mathlib.Core.Path.{_∙_, _≡_, ap, ap₂, refl, subst, sym}
 use native.Mathlib.Nat.{zero-add}
@@ -45,16 +47,20 @@ module _ (s : State) (v : Valid s) (l : List ℕ) (s₁ : State)
   abbrev c : Call
   c = callOf (numbersOf l)
 
+  -- a line has no high word
+  accept-all : refusalAt one s c ≡ 0
+  accept-all = zero-at one s c accept (or-true (not (eqb (c .service) 1)))
+
   after : stateAfter s c ≡ s₁
   unfolding stateAfter stateBy
-  after = rw accept served-is
+  after = rw accept-all served-is
 
   one-table : tableAfter (words one s) c ≡ words one s₁
   one-table = table-words s v c ∙ ap (words one) after
 
   one-text : replyText (replyTo (words one s) c) ≡ printed accepted
   unfolding firstFree next outcome replyBy replyText
-  one-text = rw (reply-words s v c, accept, served-is, silent, alone, none)
+  one-text = rw (reply-words s v c, accept-all, served-is, silent, alone, none)
 
   pub step-valid : Valid s₁
   step-valid = subst Valid after (valid-after s v c)

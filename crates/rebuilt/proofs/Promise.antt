@@ -10,19 +10,19 @@ use Rattle.lists.proofs.Laws.{boolCase}
 use Rattle.rebuilt.proofs.Building.{Steps, add-hubs, add-tasks, moreTasks, steps-append}
 use Rattle.rebuilt.proofs.Reading.{Seven, good, text-read}
 use Rattle.rebuilt.specs.Rebuilt.{Acceptable, Every, GoodHub, allAccepted}
-use Rattle.rules.proofs.After.{read-valid}
+use Rattle.rules.proofs.After.{valid-in}
 use Rattle.rules.proofs.Kept.{valid-blank}
-use Rattle.rules.proofs.Layouts.{one-laid}
+use Rattle.rules.proofs.Layouts.{edition-one, one-laid}
 use Rattle.rules.proofs.Promise.{blank-accepted}
 use Rattle.rules.proofs.Reading.{read-words}
 use Rattle.rules.proofs.Room.{valid-room}
 use Rattle.rules.proofs.Valid.{Range, Valid}
 use Rattle.rules.specs.Calls.{blank, serve, served, serviceOf}
 use Rattle.rules.specs.Lists.{firstFree, next}
-use Rattle.rules.specs.Refusals.{goodHub}
+use Rattle.rules.specs.Refusals.{goodHub, refusalOf}
 use Rattle.rules.specs.Reply.{ahead, aheadFor, bearsAnswer, outcome, replyBy, replyIn, tableAfter, tableBy, tableIn}
-use Rattle.rules.specs.Table.{Board, Event, Fifo, Hub, Kind, NoKind, Port, Resource, Semaphore, State, hub, inactive, kindOf, noHub, one, read, size, words}
-use Rattle.rules.specs.WellFormed.{wellFormed, within as between}
+use Rattle.rules.specs.Table.{Board, Event, Fifo, Hub, Kind, NoKind, Port, Resource, Semaphore, State, editionOf, hub, inactive, kindOf, noHub, one, read, size, words}
+use Rattle.rules.specs.WellFormed.{wellFormedIn, within as between}
 use Rattle.runner.specs.Runner.{callOf, drillText, replyText, tableThrough, textThrough, zeros}
 use borrow.Author.Tests.{eqb-true, le-leb, leb-false, leb-true}
 use lib.Dec.{eqb, leb}
@@ -77,8 +77,8 @@ set-up-acceptable s v = record {
   kinds = every-at GoodHub hubSetUp noHub (s .hubs) (λ i h. good-range (kindOf (hub s i .kind)) (length (s .tasks)) (hub s i) (v .ranges .range i h));
 }
 
-pub listing-acceptable : (t : List ℕ) → wellFormed t ≡ true → Acceptable (setUp (read one t))
-listing-acceptable t w = set-up-acceptable (read one t) (read-valid t w)
+pub listing-acceptable : (t : List ℕ) → wellFormedIn one t ≡ true → Acceptable (setUp (read one t))
+listing-acceptable t w = set-up-acceptable (read one t) (valid-in one t w)
 
 -- ---- the numbers of an acceptable hub
 
@@ -149,15 +149,22 @@ module _ (u : SetUp) (a : Acceptable u) where
   unfolding zeros
   long = length-replicate {A = ℕ} (size one) 0
 
+  edition : editionOf zeros ≡ one
+  edition = edition-one zeros long
+
+  accepts-blank : refusalOf zeros (callOf (numbersOf blankLine)) ≡ 0
+  unfolding numbersOf
+  accepts-blank = blank-accepted zeros (callOf (numbersOf blankLine)) (rw edition long) refl
+
   blanked : tableThrough zeros (map good (blankLine ∷ added)) ≡ tableThrough (words one blank) (map good added)
   unfolding blank numbersOf serve served serviceOf tableBy tableIn tableThrough
   blanked =
-      let e : tableAfter zeros (callOf (numbersOf blankLine)) ≡ words one blank = rw (blank-accepted zeros (callOf (numbersOf blankLine)) long refl) in
+      let e : tableAfter zeros (callOf (numbersOf blankLine)) ≡ words one blank = rw (accepts-blank, edition) refl in
       ap (λ (t : List ℕ). tableThrough t (map good added)) e
 
   blank-text : textThrough zeros (map good (blankLine ∷ added)) ≡ printed (0 ∷ 0 ∷ 0 ∷ 0 ∷ []) ++ textThrough (words one blank) (map good added)
   unfolding ahead aheadFor bearsAnswer blank firstFree next numbersOf outcome replyBy replyIn replyText serve served serviceOf tableBy tableIn textThrough
-  blank-text = rw (blank-accepted zeros (callOf (numbersOf blankLine)) long refl)
+  blank-text = rw (accepts-blank, edition) refl
 
   pub form-builds : tableThrough zeros (readLines (setUpText u)) ≡ words one (built u)
   unfolding setUpLines setUpText
@@ -200,7 +207,7 @@ same-set-up u v a b e =
 
 -- ---- the promises
 
-module _ (t : List ℕ) (w : wellFormed t ≡ true) where
+module _ (t : List ℕ) (w : wellFormedIn one t ≡ true) where
   -- "Run through the drill runner, the listing must build the same table with every task inactive, every count at its start, and
   -- all lists and stores empty."
   pub listing-builds : tableThrough zeros (readLines (listing t)) ≡ words one (stripped (read one t))
@@ -219,7 +226,7 @@ module _ (t : List ℕ) (w : wellFormed t ≡ true) where
       ap setUpText (same-set-up u (setUp (read one t)) a (listing-acceptable t w) (sym (form-builds u a) ∙ e ∙ listing-builds))
 
 -- two well-formed tables have the same listing exactly if their set-ups are equal
-pub listing-same : (t₁ t₂ : List ℕ) → wellFormed t₁ ≡ true → wellFormed t₂ ≡ true → (listing t₁ ≡ listing t₂) ↔ (setUp (read one t₁) ≡ setUp (read one t₂))
+pub listing-same : (t₁ t₂ : List ℕ) → wellFormedIn one t₁ ≡ true → wellFormedIn one t₂ ≡ true → (listing t₁ ≡ listing t₂) ↔ (setUp (read one t₁) ≡ setUp (read one t₂))
 unfolding listingIn
 listing-same t₁ t₂ w₁ w₂ = (
   λ e. same-set-up (setUp (read one t₁)) (setUp (read one t₂)) (listing-acceptable t₁ w₁) (listing-acceptable t₂ w₂)
@@ -303,6 +310,6 @@ form-most u a =
       a .hubs,
     )
 
-pub listing-most : (t : List ℕ) → wellFormed t ≡ true → length (listing t) ≤ 638
+pub listing-most : (t : List ℕ) → wellFormedIn one t ≡ true → length (listing t) ≤ 638
 unfolding listingIn
 listing-most t w = form-most (setUp (read one t)) (listing-acceptable t w)

@@ -5,7 +5,9 @@ use Prim.Native.Nat.{_*_, _+_, _-_, _<_, _≤_, suc, zero, ℕ}
 use Rattle.messages.specs.Messages.{messageAt, messageWords, messages}
 use Rattle.records.specs.declared.HubRecord.{HubRecord}
 use Rattle.records.specs.declared.TaskRecord.{TaskRecord}
+use lib.Dec.{eqb}
 use lib.ListN.{getD, length}
+use mathlib.Core.Bool.{cond}
 use mathlib.Core.List.{List, [], _++_, _∷_}
 use mathlib.Core.Option.{Option, none, some}
 use mathlib.Core.Path.{_≡_}
@@ -33,6 +35,10 @@ storeSize ts = 8 * width ts
 
 abbrev pub tableSize : ℕ → ℕ
 tableSize ts = storesAt ts + 16 * storeSize ts
+
+-- how many words a task record has in a table of n words: 9 in edition 2, which has 744; else 8, as in edition 1
+abbrev pub taskSizeOf : ℕ → ℕ
+taskSizeOf n = cond (eqb n (tableSize 9)) 9 8
 
 -- a table of an edition: 600 words, or 744
 pub record Table (ts : ℕ) (t : List ℕ) : Type 0 where

@@ -1,9 +1,9 @@
 // The table's words by name: where each body stands, the two kinds of number, and a record's words read and written, in a
 // lent slice of any length. What an edition fixes follows from one value, the number of words in a task record: `ts`, 8 in
-// edition 1. What lies past the end of a slice reads as 0 and is not written.
+// edition 1, 9 in edition 2. What lies past the end of a slice reads as 0 and is not written.
 // Not here: what the words of a record mean (crate rules), and which records are in use.
 ghost use Prim.Native.Nat.{_*_, _+_, _-_, _<_, _≤_};
-ghost use Rattle.records.specs.Records.{RecordAt, RowAt, TaskRead, hubAt, hubWords, hubsAt, readyAt, storeSize, storesAt, tableSize, taskWords, waitsAt, width};
+ghost use Rattle.records.specs.Records.{RecordAt, RowAt, TaskRead, hubAt, hubWords, hubsAt, readyAt, storeSize, storesAt, tableSize, taskSizeOf, taskWords, waitsAt, width};
 ghost use lib.ListN.{getD, set};
 ghost use lib.Seq.{sets};
 ghost use mathlib.Core.Path.{_≡_};
@@ -12,6 +12,9 @@ ghost use mathlib.Core.Path.{_≡_};
 pub const TABLE_SIZE: usize = 600;
 
 pub const TASK_SIZE: usize = 8;
+
+// and 9 in edition 2, which has 744 words
+pub const TASK_SIZE_TWO: usize = 9;
 
 // "contents: edition 1, tasks T, hubs H": the words that hold T and H
 pub const TASKS: usize = 1;
@@ -81,7 +84,7 @@ pub struct HubRecord {
 }
 
 // The words from word p on.
-fn set_words(t: &mut [u32], p: usize, words: &[u32])
+pub fn set_words(t: &mut [u32], p: usize, words: &[u32])
     requires { ⌜ p ≤ 281474976710655 ⌝ }
     ensures { λ _. ⌜ now (t .exit) ≡ sets (now (t .entry)) p (now (words .entry)) ⌝ }
 {
@@ -160,6 +163,19 @@ pub fn table_size(ts: usize) -> usize
     ensures { λ r. ⌜ r ≡ tableSize ts ⌝ }
 {
     stores_at(ts) + 16 * store_size(ts)
+}
+
+// How many words a task record has in a table of n words: the edition is the one that fits the length.
+pub fn task_size(n: usize) -> usize
+    ensures { λ r. ⌜ r ≡ taskSizeOf n ⌝ }
+    ensures { λ r. ⌜ 8 ≤ r ⌝ }
+    ensures { λ r. ⌜ r ≤ 9 ⌝ }
+{
+    if n == table_size(TASK_SIZE_TWO) {
+        TASK_SIZE_TWO
+    } else {
+        TASK_SIZE
+    }
 }
 
 // Where the i-th of 16 records of `size` words starts, if the first starts at word `at`.

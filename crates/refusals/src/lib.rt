@@ -10,7 +10,7 @@ ghost use Rattle.refusals.specs.Lookup.{foundHub, foundTask, hubsIn, kin
 ghost use Rattle.rules.proofs.Layouts.{Laid};
 ghost use Rattle.rules.proofs.Valid.{Listed, Room, Valid};
 ghost use Rattle.rules.specs.Lists.{next};
-ghost use Rattle.rules.specs.Refusals.{goodHub, goodRequest, goodWait, lastSide, modeOf, need, refusal};
+ghost use Rattle.rules.specs.Refusals.{goodHub, goodMessage, goodRequest, goodWait, lastSide, modeOf, need, refusal, refusalAt};
 ghost use Rattle.rules.specs.Table.{Layout, State, kindOf, words};
 ghost use Rattle.rules.specs.WellFormed.{within};
 ghost use lib.Dec.{eqb, leb, ltb};
@@ -233,8 +233,8 @@ fn for_caller(t: &[u32], ts: usize, c: Call) -> u32
     }
 }
 
-// A call on a table that is well formed: its refusal number, or 0. Blank and Tick are never refused here.
-pub fn for_service(t: &[u32], ts: usize, c: Call) -> u32
+// Document 01's tests of a call on a table that is well formed. Blank and Tick are never refused here.
+fn by_service(t: &[u32], ts: usize, c: Call) -> u32
     requires { ⌜ 8 ≤ ts ⌝ }
     requires { ⌜ ts ≤ 9 ⌝ }
     ensures { λ r. ⌜ ((L : Layout) (s : State) → Laid ts L → Valid s → Room s → now (t .entry) ≡ words L s
@@ -247,5 +247,31 @@ pub fn for_service(t: &[u32], ts: usize, c: Call) -> u32
         rules::ADD_HUB => for_add_hub(t, c),
         rules::HUB_REQUEST..=rules::SLEEP => for_caller(t, ts, c),
         _ => rules::UNKNOWN_SERVICE,
+    }
+}
+
+// "with a high word above 0 a hub request on them is refusal 6" (M-105): only edition 2 has messages of two words.
+fn good_message(ts: usize, c: Call) -> bool
+    requires { ⌜ 8 ≤ ts ⌝ }
+    ensures { λ r. ⌜ ((L : Layout) → Laid ts L → r ≡ goodMessage L c) ⌝ }
+{
+    (c.service != rules::HUB_REQUEST) | ((2 <= records::width_of(ts)) | (c.high == 0))
+}
+
+// A call on a table that is well formed: its refusal number, or 0.
+pub fn for_service(t: &[u32], ts: usize, c: Call) -> u32
+    requires { ⌜ 8 ≤ ts ⌝ }
+    requires { ⌜ ts ≤ 9 ⌝ }
+    ensures { λ r. ⌜ ((L : Layout) (s : State) → Laid ts L → Valid s → Room s → now (t .entry) ≡ words L s
+        → r ≡ refusalAt L s c) ⌝ }
+{
+    let refused = by_service(t, ts, c);
+    if refused != 0 {
+        return refused;
+    }
+    if good_message(ts, c) {
+        0
+    } else {
+        rules::BAD_ARGUMENT
     }
 }

@@ -20,7 +20,7 @@ use Rattle.rules.proofs.Standing.{listed-waiting}
 use Rattle.rules.proofs.Valid.{Held, MayWait, PutWaits, Range, Valid}
 use Rattle.rules.proofs.Verdicts.{side-get}
 use Rattle.rules.specs.Calls.{HubRequest, hold, meetAll, serve, settle}
-use Rattle.rules.specs.HubTable.{onPut, onSide, putBoard, readers, verdict}
+use Rattle.rules.specs.HubTable.{message, onPut, onSide, putBoard, readers, verdict}
 use Rattle.rules.specs.Lists.{answer, holding, queued, unqueue, wake}
 use Rattle.rules.specs.Refusals.{refusalFor}
 use Rattle.rules.specs.Table.{Board, Get, Hub, NoSide, Put, Side, State, Wipe, hub, kindOf, setTask, sideOf, task}
@@ -139,17 +139,17 @@ module _ (s : State) (g : Valid s) (c : Call) (a : refusalFor HubRequest s c ≡
 
   -- the word before goes out, if there is one, and the new one in
   abbrev pub written : Store
-  written = TakeAppend (c .word)
+  written = TakeAppend (message c)
 
   pub update-fits : StoreFits written (hub s (c .target) .count) (hub s (c .target) .held)
   unfolding StoreFits
   update-fits = (one-held .0, omega (arith, one-held .1))
 
-  holds-it : storeAfter written (hub s (c .target) .held) ≡ c .word ∷ []
+  holds-it : storeAfter written (hub s (c .target) .held) ≡ message c ∷ []
   unfolding storeAfter
   holds-it = by (hub s (c .target) .held) (one-held .1)
     where
-      by : (l : List ℕ) → length l ≤ 1 → drop 1 l ++ c .word ∷ [] ≡ c .word ∷ []
+      by : (l : List ℕ) → length l ≤ 1 → drop 1 l ++ message c ∷ [] ≡ message c ∷ []
       by [] n = refl
       by (x ∷ []) n = refl
       by (x ∷ (y ∷ l)) n = absurd (omega arith)
@@ -157,9 +157,9 @@ module _ (s : State) (g : Valid s) (c : Call) (a : refusalFor HubRequest s c ≡
   abbrev pub told : State
   told = answer (c .caller) 1 0 (hold (c .target) 1 (storeAfter written (hub s (c .target) .held)) s)
 
-  pub update-state : (key : ℕ → ℕ) → c .side ≡ 1 → meetAll key (meetings (c .word) (hub told (c .target) .waiters)) told ≡ serve key HubRequest s c
+  pub update-state : (key : ℕ → ℕ) → c .side ≡ 1 → meetAll key (meetings (message c) (hub told (c .target) .waiters)) told ≡ serve key HubRequest s c
   unfolding onPut onSide putBoard serve settle sideOf verdict
   update-state key d =
       let same : hub told (c .target) .waiters ≡ hub s (c .target) .waiters =
       unfold answer hold setTask in hub-set-keeps s (c .target) (holding 1 (storeAfter written (hub s (c .target) .held)) (hub s (c .target))) (λ (x : Hub). x .waiters) (unfold holding in refl) (c .target) in
-      rw (same, d, is-board, all-read s (c .word) (hub s (c .target) .waiters) (only-readers s g (c .target) is-board), holds-it) refl
+      rw (same, d, is-board, all-read s (message c) (hub s (c .target) .waiters) (only-readers s g (c .target) is-board), holds-it) refl

@@ -27,7 +27,7 @@ use Rattle.rules.proofs.Standing.{first-waits}
 use Rattle.rules.proofs.Valid.{Held, Range, Valid}
 use Rattle.rules.proofs.Verdicts.{Each, held-side, hubAfter, range-side, waitersMet}
 use Rattle.rules.specs.Calls.{HubRequest, hold, kept, meetAll, serve, settle, wait}
-use Rattle.rules.specs.HubTable.{Verdict, fail, met, notNow, onPut, onSide, putBoard, readers, verdict}
+use Rattle.rules.specs.HubTable.{Verdict, fail, message, met, notNow, onPut, onSide, putBoard, readers, verdict}
 use Rattle.rules.specs.Lists.{answer, firstWaiting, holding, leave, queued, unqueue}
 use Rattle.rules.specs.Refusals.{refusalFor}
 use Rattle.rules.specs.Reply.{aheadFor}
@@ -171,7 +171,7 @@ module _ (h : Hub) (c : Call) where
   unfolding kept
   kept-get n = rw (ne-eqb (c .side) 1 n) refl
 
-  pub kept-put : c .side ≡ 1 → (b : Bool) → bears (h .kind) ≡ b → cond b (c .word) 0 ≡ kept h c
+  pub kept-put : c .side ≡ 1 → (b : Bool) → bears (h .kind) ≡ b → cond b (message c) 0 ≡ kept h c
   unfolding kept
   kept-put e b q = rw (eq-eqb (c .side) 1 e, bears-number (h .kind), q) refl
 
@@ -216,7 +216,7 @@ module _ (key : ℕ → ℕ) (s : State) (g : Valid s) (c : Call) (a : refusalFo
   pub refused-ahead : c .mode ≡ 2 → 0 ≡ aheadFor HubRequest (serve key HubRequest s c) c
   refused-ahead m = nobody (λ q. m)
 
-  update-met : hub s (c .target) .kind ≡ 6 → c .side ≡ 1 → verdict s c ≡ met 1 (c .word ∷ []) 0 (readers s (hub s (c .target) .waiters) (c .word))
+  update-met : hub s (c .target) .kind ≡ 6 → c .side ≡ 1 → verdict s c ≡ met 1 (message c ∷ []) 0 (readers s (hub s (c .target) .waiters) (message c))
   unfolding kindOf onPut onSide putBoard sideOf verdict
   update-met k d = rw (d, k) refl
 

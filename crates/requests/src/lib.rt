@@ -21,7 +21,7 @@ ghost use Rattle.requests.specs.Requests.{Leaves, StoreFits, meetOne, me
 ghost use Rattle.rules.proofs.Layouts.{Laid};
 ghost use Rattle.rules.proofs.Valid.{Valid};
 ghost use Rattle.rules.specs.Calls.{HubRequest, hold, kept, meetAll, serve, wait};
-ghost use Rattle.rules.specs.HubTable.{verdict};
+ghost use Rattle.rules.specs.HubTable.{message, verdict};
 ghost use Rattle.rules.specs.Lists.{answer, waits};
 ghost use Rattle.rules.specs.Refusals.{refusalFor};
 ghost use Rattle.rules.specs.Table.{Hub, Layout, State, hub, setTask, task, words};
@@ -72,6 +72,7 @@ fn judge(t: &[u32], ts: usize, c: Call) -> Verdict
     requires { ⌜ Table ts (now t) ⌝ }
     requires { ⌜ c .target < 16 ⌝ }
     requires { ⌜ c .caller < 16 ⌝ }
+    requires { ⌜ message c < messages (width ts) ⌝ }
     ensures { λ r. ⌜ Below (messages (width ts)) r ⌝ }
     ensures { λ r. ⌜ ((L : Layout) (s : State) → Laid ts L → Valid s → refusalFor HubRequest s c ≡ 0
         → (hub s (c .target) .kind ≡ 6 → c .side ≡ 1 → ⊥)
@@ -84,7 +85,7 @@ fn judge(t: &[u32], ts: usize, c: Call) -> Verdict
     }
     if c.side == rules::PUT {
         let waiter = moves::first_waiter(t, ts, h, rules::GET);
-        return hubtable::on_put(x, waiter, c.caller, c.word as u64);
+        return hubtable::on_put(x, waiter, c.caller, messages::joined(c.word, c.high));
     }
     let waiter = moves::first_waiter(t, ts, h, rules::PUT);
     let its = word_of(t, ts, waiter);
@@ -227,13 +228,14 @@ fn update(t: &mut [u32], ts: usize, keys: &[u32], c: Call)
     requires { ⌜ Table ts (now t) ⌝ }
     requires { ⌜ c .caller < 16 ⌝ }
     requires { ⌜ c .target < 16 ⌝ }
+    requires { ⌜ message c < messages (width ts) ⌝ }
     ensures { λ _. ⌜ ((L : Layout) (s : State) → Laid ts L → Valid s → refusalFor HubRequest s c ≡ 0
         → hub s (c .target) .kind ≡ 6 → c .side ≡ 1 → now (t .entry) ≡ words L s
         → now (t .exit) ≡ words L (serve (keyOf (now (keys .entry))) HubRequest s c)) ⌝ }
 {
     let caller = TaskNo(c.caller as usize);
     let h = HubNo(c.target as usize);
-    let word = c.word as u64;
+    let word = messages::joined(c.word, c.high);
     let m = Meeting {
         count: 1,
         store: Store::TakeAppend(word),
@@ -249,7 +251,7 @@ fn update(t: &mut [u32], ts: usize, keys: &[u32], c: Call)
 // "The word of a put to a Port or FIFO is kept; any other word is stored as 0."
 fn kept_word(kind: u32, side: u32, word: u64) -> u64
     ensures { λ r. ⌜ r ≤ word ⌝ }
-    ensures { λ r. ⌜ ((h : Hub) (c : Call) → kind ≡ h .kind → side ≡ c .side → word ≡ c .word → r ≡ kept h c) ⌝ }
+    ensures { λ r. ⌜ ((h : Hub) (c : Call) → kind ≡ h .kind → side ≡ c .side → word ≡ message c → r ≡ kept h c) ⌝ }
 {
     if side != rules::PUT {
         return 0;
@@ -296,6 +298,7 @@ fn wait_there(t: &mut [u32], ts: usize, keys: &[u32], c: Call) -> u32
     requires { ⌜ Table ts (now t) ⌝ }
     requires { ⌜ c .caller < 16 ⌝ }
     requires { ⌜ c .target < 16 ⌝ }
+    requires { ⌜ message c < messages (width ts) ⌝ }
     ensures { λ r. ⌜ ((L : Layout) (s : State) → Laid ts L → Sound s → c .caller < length (s .tasks)
         → c .target < length (s .hubs)
         → now (t .entry) ≡ words L s → Leaves L (wait (keyOf (now (keys .entry))) s c) c r (now (t .exit))) ⌝ }
@@ -303,7 +306,7 @@ fn wait_there(t: &mut [u32], ts: usize, keys: &[u32], c: Call) -> u32
     let caller = TaskNo(c.caller as usize);
     let h = HubNo(c.target as usize);
     let x = hub_at(&*t, ts, h);
-    let word = kept_word(x.kind, c.side, c.word as u64);
+    let word = kept_word(x.kind, c.side, messages::joined(c.word, c.high));
     moves::leave_list(t, ts, caller);
     make_waiting(t, ts, c, word);
     moves::join_hub(t, ts, keys, h, caller) as u32
@@ -325,6 +328,7 @@ fn settle(t: &mut [u32], ts: usize, keys: &[u32], c: Call) -> u32
     requires { ⌜ Table ts (now t) ⌝ }
     requires { ⌜ c .caller < 16 ⌝ }
     requires { ⌜ c .target < 16 ⌝ }
+    requires { ⌜ message c < messages (width ts) ⌝ }
     ensures { λ r. ⌜ ((L : Layout) (s : State) → Laid ts L → Valid s → refusalFor HubRequest s c ≡ 0
         → (hub s (c .target) .kind ≡ 6 → c .side ≡ 1 → ⊥) → now (t .entry) ≡ words L s
         → Leaves L (serve (keyOf (now (keys .entry))) HubRequest s c) c r (now (t .exit))) ⌝ }
@@ -356,6 +360,7 @@ pub fn request(t: &mut [u32], ts: usize, keys: &[u32], c: Call) -> Served
     requires { ⌜ Table ts (now t) ⌝ }
     requires { ⌜ c .caller < 16 ⌝ }
     requires { ⌜ c .target < 16 ⌝ }
+    requires { ⌜ message c < messages (width ts) ⌝ }
     ensures { λ r. ⌜ ((L : Layout) (s : State) → Laid ts L → Valid s → refusalFor HubRequest s c ≡ 0
         → now (t .entry) ≡ words L s
         → Leaves L (serve (keyOf (now (keys .entry))) HubRequest s c) c (r .ahead) (now (t .exit))) ⌝ }

@@ -19,7 +19,7 @@ use Rattle.rules.specs.HubTable.{Verdict, fail, met, notNow, verdict}
 use Rattle.rules.specs.Lists.{answered, joinHub, leave, queued, unqueue, waits}
 use Rattle.rules.specs.Refusals.{refusal, refusalFor, refusalOf}
 use Rattle.rules.specs.Reply.{ahead, aheadFor, replyBy, replyIn, replyTo, tableAfter}
-use Rattle.rules.specs.Table.{Hub, State, Task, hub, one, read, setHub, setTask, task}
+use Rattle.rules.specs.Table.{Hub, State, Task, editionOf, hub, setHub, setTask, stateOf, task}
 use Rattle.rules.specs.WellFormed.{urgency}
 use Rattle.rules.specs.declared.Call.{Call}
 use borrow.Author.Tests.{eq-eqb, eqb-true, ne-eqb}
@@ -158,10 +158,10 @@ module _ (s : State) (c : Call) where
 
 module _ (t : List ℕ) (c : Call) (e : refusalOf t c ≡ 0) where
   abbrev pub before : State
-  before = read one t
+  before = stateOf t
 
   abbrev pub after : State
-  after = read one (tableAfter t c)
+  after = stateOf (tableAfter t c)
 
   pub ahead-after : replyTo t c .ahead ≡ ahead after c
   unfolding replyBy replyIn
@@ -177,11 +177,11 @@ module _ (t : List ℕ) (c : Call) (e : refusalOf t c ≡ 0) where
 
     -- the request, on the state that stood in the table
     formed : Valid before
-    formed = valid-in one t (accepted-formed one t c e (ne-eqb (c .service) 0 (λ z. omega (arith, z, request))))
+    formed = valid-in (editionOf t) t (accepted-formed (editionOf t) t c e (ne-eqb (c .service) 0 (λ z. omega (arith, z, request))))
 
     passed : refusalFor HubRequest before c ≡ 0
     unfolding refusal serviceOf
-    passed = subst (λ (n : ℕ). refusalFor (serviceOf n) before c ≡ 0) request (accepted one t c e .1)
+    passed = subst (λ (n : ℕ). refusalFor (serviceOf n) before c ≡ 0) request (accepted (editionOf t) t c e .1)
 
     asked : Asked before c
     asked = request-tests before (formed .listed) c passed

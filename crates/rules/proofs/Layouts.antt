@@ -1,6 +1,6 @@
 -- What the rules, and every contract inside the kernel, ask of a layout: `Laid`. In order: the condition; what follows from it
--- for a task record and a store; edition 1, and edition 2, which no code uses yet, so that what is proved of every such
--- layout is proved of both; and that there are no other sizes.
+-- for a task record and a store; edition 1 and edition 2, so that what is proved of every such layout is proved of both; the
+-- edition that fits a length; and that there are no other sizes.
 -- Not here: where the parts of a state stand (Places.antt), a table read (Reading.antt, Written.antt). Assumes nothing.
 use Prim.Native.Nat.{_%_, _*_, _+_, _-_, _/_, _<_, _≤_, suc, zero, ℕ}
 use Rattle.lists.proofs.Laws.{boolCase}
@@ -8,8 +8,8 @@ use Rattle.lists.specs.Lists.{padded}
 use Rattle.messages.proofs.Laws.{length-message, message-back, words-low}
 use Rattle.messages.specs.Messages.{messageAt, messageWords, messages}
 use Rattle.rules.proofs.Rows.{length-rows}
-use Rattle.rules.specs.Table.{Layout, Task, one, rows, storeSize, storeWords, storesAt, taskSize, taskWords}
-use borrow.Author.Tests.{eqb-false, eqb-true}
+use Rattle.rules.specs.Table.{Layout, Task, editionOf, one, rows, size, storeSize, storeWords, storesAt, taskSize, taskWords, two}
+use borrow.Author.Tests.{eq-eqb, eqb-false, eqb-true, ne-eqb}
 use lib.Dec.{eqb}
 use lib.ListN.{List·getD-append, getD, length, length-append}
 use lib.Seq.{ext-getD, getD-append-add}
@@ -108,14 +108,6 @@ one-store = one-rows 8
 
 -- ---- edition 2: "every message is a low and a high word"
 
-abbrev pub two : Layout
-two = record {
-  edition = 2;
-  width = 2;
-  message = λ m. m % 4294967296 ∷ m / 4294967296 ∷ [];
-  messageFrom = λ w. w 0 + 4294967296 * w 1;
-}
-
 pub two-laid : Laid 9 two
 two-laid = record {
   size = refl;
@@ -130,6 +122,25 @@ two-laid = record {
     word w low zero h = add-mul-mod-self-left (w 0) 4294967296 (w 1) ∙ mod-eq-of-lt (low 0)
     word w low (suc zero) h = add-mul-div-left (w 0) (w 1) (omega arith) ∙ omega (arith, div-eq-of-lt (low 0))
     word w low (suc (suc k)) h = absurd (omega arith)
+
+-- ---- the edition that fits a length
+
+module _ (t : List ℕ) where
+  pub edition-one : length t ≡ size one → editionOf t ≡ one
+  unfolding editionOf
+  edition-one e = rw (ne-eqb (length t) (size two) (λ z. omega (arith, e, z))) refl
+
+  pub edition-two : length t ≡ size two → editionOf t ≡ two
+  unfolding editionOf
+  edition-two e = rw (eq-eqb (length t) (size two) e) refl
+
+  -- either way
+  pub by-edition : (P : Layout → Type 0) → P one → P two → P (editionOf t)
+  unfolding editionOf
+  by-edition P p q = boolCase (eqb (length t) (size two)) (λ b. rw b q) (λ b. rw b p)
+
+  pub edition-laid : Laid (taskSize (editionOf t)) (editionOf t)
+  edition-laid = by-edition (λ L. Laid (taskSize L) L) one-laid two-laid
 
 -- ---- each size that the code takes is an edition's
 

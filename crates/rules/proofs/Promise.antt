@@ -3,14 +3,14 @@
 -- equal. Each statement has a short proof here, by After.antt. `replyTo`, `tableAfter` and `summaryOf` are in specs/Reply.antt.
 -- Not here: that the code does it (crate kernel). Assumes nothing.
 use Prim.Native.Nat.{_≤_, suc, zero, ℕ}
-use Rattle.rules.proofs.After.{after-answer, after-valid, well-formed-not-2, words-well-formed}
-use Rattle.rules.proofs.Layouts.{one-laid}
+use Rattle.rules.proofs.After.{after-answer, after-valid, edition-words, well-formed-not-2, words-well-formed}
+use Rattle.rules.proofs.Layouts.{edition-laid}
 use Rattle.rules.proofs.Reading.{read-words}
 use Rattle.rules.proofs.Room.{valid-room}
 use Rattle.rules.specs.Calls.{served, serviceOf}
-use Rattle.rules.specs.Refusals.{need, refusal, refusalFor, refusalIn, refusalOf}
+use Rattle.rules.specs.Refusals.{behind, need, refusal, refusalAt, refusalFor, refusalIn, refusalOf}
 use Rattle.rules.specs.Reply.{answerNumber, refusalNumber, replyBy, replyIn, replyTo, summaryOf, tableAfter, tableBy, tableIn}
-use Rattle.rules.specs.Table.{one, read, task}
+use Rattle.rules.specs.Table.{editionOf, size, stateOf, task}
 use Rattle.rules.specs.WellFormed.{wellFormed}
 use Rattle.rules.specs.declared.Answer.the-variants.{Accepted, Refused}
 use Rattle.rules.specs.declared.Answer.{Answer}
@@ -33,7 +33,7 @@ pub refusal-is : (t : List ℕ) (c : Call) → refusalNumber (replyTo t c .answe
 unfolding replyBy replyIn
 refusal-is t c = by (refusalOf t c)
   where
-    by : (n : ℕ) → refusalNumber (replyBy n (served (read one t) c) c .answer) ≡ n
+    by : (n : ℕ) → refusalNumber (replyBy n (served (stateOf t) c) c .answer) ≡ n
     by zero = refl
     by (suc r) = refl
 
@@ -45,19 +45,25 @@ refused-leaves t c r e = (rw e, rw e)
 
 -- "0 Blank: ... whatever stood there"
 
-pub blank-accepted : (t : List ℕ) (c : Call) → length t ≡ 600 → c .service ≡ 0 → refusalOf t c ≡ 0
-unfolding need refusal refusalFor refusalIn serviceOf
-blank-accepted t c long e = rw (eq-eqb (length t) 600 long, eq-eqb (c .service) 0 e, e)
+pub blank-accepted : (t : List ℕ) (c : Call) → length t ≡ size (editionOf t) → c .service ≡ 0 → refusalOf t c ≡ 0
+unfolding behind need refusal refusalAt refusalFor refusalIn serviceOf
+blank-accepted t c long e = rw (eq-eqb (length t) (size (editionOf t)) long, eq-eqb (c .service) 0 e, e)
 
 -- ---- an accepted call leaves a well-formed table, in which the state after the call stands
 
 pub well-formed-after : (t : List ℕ) (c : Call) → refusalOf t c ≡ 0 → wellFormed (tableAfter t c) ≡ true
 unfolding tableBy tableIn
-well-formed-after t c e = rw e (words-well-formed (served (read one t) c) (after-valid one t c e))
+well-formed-after t c e = rw e (words-well-formed t (served (stateOf t) c) (after-valid (editionOf t) t c e))
 
-pub read-after : (t : List ℕ) (c : Call) → refusalOf t c ≡ 0 → read one (tableAfter t c) ≡ served (read one t) c
+pub edition-after : (t : List ℕ) (c : Call) → refusalOf t c ≡ 0 → editionOf (tableAfter t c) ≡ editionOf t
 unfolding tableBy tableIn
-read-after t c e = rw e (read-words one one-laid (served (read one t) c) (valid-room (served (read one t) c) (after-valid one t c e)))
+edition-after t c e = rw e (edition-words t (served (stateOf t) c))
+
+pub read-after : (t : List ℕ) (c : Call) → refusalOf t c ≡ 0 → stateOf (tableAfter t c) ≡ served (stateOf t) c
+unfolding tableBy tableIn
+read-after t c e =
+    let s′ = served (stateOf t) c in
+    rw (edition-after t c e, e) (read-words (editionOf t) (edition-laid t) s′ (valid-room s′ (after-valid (editionOf t) t c e)))
 
 -- ---- calls in a row: once a table is well formed it stays so, whatever is called, and refusal 2 never comes
 
@@ -75,8 +81,8 @@ stays-well-formed t (c ∷ cs) w = stays-well-formed (tableAfter t c) cs (one-ca
     one-call zero e = well-formed-after t c e
     one-call (suc r) e = ap wellFormed (refused-leaves t c r e .0) ∙ w
 
--- after a Blank on any 600 words
-pub never-2 : (t : List ℕ) (b : Call) → length t ≡ 600 → b .service ≡ 0 → (cs : List Call) (c : Call) → refusalOf (tableAfterAll t (b ∷ cs)) c ≢ 2
+-- after a Blank on any table of either size
+pub never-2 : (t : List ℕ) (b : Call) → length t ≡ size (editionOf t) → b .service ≡ 0 → (cs : List Call) (c : Call) → refusalOf (tableAfterAll t (b ∷ cs)) c ≢ 2
 unfolding tableAfterAll
 never-2 t b long blank cs c =
     well-formed-not-2 (tableAfterAll (tableAfter t b) cs) c
@@ -84,7 +90,7 @@ never-2 t b long blank cs c =
 
 -- ---- the answer
 
-pub answer-is-word : (t : List ℕ) (c : Call) → refusalOf t c ≡ 0 → 1 ≤ c .service → c .service ≤ 7 → answerNumber (replyTo t c .answer) ≡ task (read one (tableAfter t c)) (c .caller) .answer
+pub answer-is-word : (t : List ℕ) (c : Call) → refusalOf t c ≡ 0 → 1 ≤ c .service → c .service ≤ 7 → answerNumber (replyTo t c .answer) ≡ task (stateOf (tableAfter t c)) (c .caller) .answer
 unfolding replyBy replyIn
 answer-is-word t c e lo hi = rw (e, read-after t c e) (after-answer t c e lo hi)
 

@@ -8,7 +8,7 @@ use Rattle.lists.proofs.Laws.{boolCase}
 use Rattle.lists.specs.Lists.{occ}
 use Rattle.rules.proofs.Cases.{condCase, sameOr}
 use Rattle.rules.proofs.Valid.{GetWaits, Held, MayWait, PutWaits, Range}
-use Rattle.rules.specs.HubTable.{Meeting, Verdict, alone, fail, getBoard, getEvent, getFifo, getPort, getResource, getSemaphore, met, notNow, onGet, onPut, onSide, onWipe, pair, pass, putBoard, putEvent, putFifo, putPort, putResource, putSemaphore, readers, verdict}
+use Rattle.rules.specs.HubTable.{Meeting, Verdict, alone, fail, getBoard, getEvent, getFifo, getPort, getResource, getSemaphore, message, met, notNow, onGet, onPut, onSide, onWipe, pair, pass, putBoard, putEvent, putFifo, putPort, putResource, putSemaphore, readers, verdict}
 use Rattle.rules.specs.Lists.{firstWaiting, holding}
 use Rattle.rules.specs.Table.{Board, Event, Fifo, Get, Hub, Kind, NoKind, NoSide, Port, Put, Resource, Semaphore, Side, State, Wipe, hub, kindOf, sideOf, task}
 use Rattle.rules.specs.declared.Call.{Call}
@@ -113,7 +113,7 @@ across Wipe = 0
 few-side : (d : Side) (s : State) (h : Hub) (c : Call) → Few (kindOf (h .kind)) s (h .waiters) (across d) (firstWaiting s (across d) (h .waiters)) (onSide d s h c)
 unfolding across onSide
 few-side NoSide s h c = meets-never
-few-side Put s h c = few-put (kindOf (h .kind)) s _ h (c .caller) (c .word)
+few-side Put s h c = few-put (kindOf (h .kind)) s _ h (c .caller) (message c)
 few-side Get s h c = few-get (kindOf (h .kind)) s _ h (c .caller)
 few-side Wipe s h c = few-wipe (kindOf (h .kind)) s (h .waiters) _
 
@@ -200,7 +200,7 @@ pub range-side : (d : Side) (T : ℕ) (s : State) (h : Hub) (c : Call) → c .ca
     → Range (kindOf (h .kind)) T h → RangeLaw (kindOf (h .kind)) T h (onSide d s h c)
 unfolding hubAfter onSide
 range-side NoSide T s h c a b r = r
-range-side Put T s h c a b r = range-put (kindOf (h .kind)) T s _ h (c .caller) (c .word) b r
+range-side Put T s h c a b r = range-put (kindOf (h .kind)) T s _ h (c .caller) (message c) b r
 range-side Get T s h c a b r = range-get (kindOf (h .kind)) T s _ h (c .caller) a r
 range-side Wipe T s h c a b r = range-wipe (kindOf (h .kind)) T h r
 
@@ -266,7 +266,7 @@ held-wipe Board h e = refl
 pub held-side : (d : Side) (s : State) (h : Hub) (c : Call) → Held (kindOf (h .kind)) h → HeldLaw (kindOf (h .kind)) h (onSide d s h c)
 unfolding hubAfter onSide
 held-side NoSide s h c e = e
-held-side Put s h c e = held-put (kindOf (h .kind)) s _ h (c .caller) (c .word) e
+held-side Put s h c e = held-put (kindOf (h .kind)) s _ h (c .caller) (message c) e
 held-side Get s h c e = held-get (kindOf (h .kind)) s _ h (c .caller) e
 held-side Wipe s h c e = held-wipe (kindOf (h .kind)) h e
 
@@ -407,7 +407,7 @@ pub wait-side : (d : Side) (n T : ℕ) (s : State) (h : Hub) (c : Call) (j : ℕ
 unfolding across hubAfter onSide
 wait-side NoSide n T s h c j r e m o is a p = m
 wait-side Put n T s h c j r e m o is a p =
-    wait-put (kindOf (h .kind)) (sideOf n) T s _ h (c .caller) (c .word) j r m (λ f g. a f (side-get n g)) (λ g. in-readers s (h .waiters) (c .word) j o (is ∙ side-get n g)) p
+    wait-put (kindOf (h .kind)) (sideOf n) T s _ h (c .caller) (message c) j r m (λ f g. a f (side-get n g)) (λ g. in-readers s (h .waiters) (message c) j o (is ∙ side-get n g)) p
 wait-side Get n T s h c j r e m o is a p = wait-get (kindOf (h .kind)) (sideOf n) s _ h (c .caller) j e m (λ f g. a f (side-put n g))
 wait-side Wipe n T s h c j r e m o is a p = wait-wipe (kindOf (h .kind)) (sideOf n) h j m
 
@@ -500,7 +500,7 @@ pub join-side : (d : Side) (T : ℕ) (s : State) (h : Hub) (c : Call) → Range 
     → JoinLaw (kindOf (h .kind)) d h (c .caller) (firstWaiting s (across d) (h .waiters)) (onSide d s h c)
 unfolding JoinLaw across onSide
 join-side NoSide T s h c r e m = tt
-join-side Put T s h c r e m = join-put (kindOf (h .kind)) T s _ h (c .caller) (c .word) r
+join-side Put T s h c r e m = join-put (kindOf (h .kind)) T s _ h (c .caller) (message c) r
 join-side Get T s h c r e m = join-get (kindOf (h .kind)) T s _ h (c .caller) r e m
 join-side Wipe T s h c r e m = join-wipe (kindOf (h .kind)) h (c .caller) _
 

@@ -1,7 +1,7 @@
 -- "The calls": services 0 to 10, each as the paper has it, on the state that stands in the table.
 -- A call fixes a key for each task before it does anything: lists are joined by it. Not here: when a call is refused.
 use Prim.Native.Nat.{suc, zero, ℕ}
-use Rattle.rules.specs.HubTable.{Meeting, Verdict, fail, met, notNow, pass, verdict}
+use Rattle.rules.specs.HubTable.{Meeting, Verdict, fail, message, met, notNow, pass, verdict}
 use Rattle.rules.specs.Lists.{answer, asleep, counted, firstWaiting, flagged, holding, joinHub, joinReady, leave, readied, waits, wake}
 use Rattle.rules.specs.Table.{Hub, State, Task, hub, inactive, isInactive, isSuspended, kindOf, owns, setHub, setTask, task}
 use Rattle.rules.specs.WellFormed.{bearsWord, urgency, within}
@@ -29,7 +29,7 @@ blank = record { tasks = []; hubs = []; ready = [] }
 
 -- "The word of a put to a Port or FIFO is kept; any other word is stored as 0."
 unfoldable pub kept : Hub → Call → ℕ
-kept h c = cond (eqb (c .side) 1 && bearsWord (kindOf (h .kind))) (c .word) 0
+kept h c = cond (eqb (c .side) 1 && bearsWord (kindOf (h .kind))) (message c) 0
 
 -- "the caller leaves the ready list, gets state 3, the hub, side and ticks, answer 0, and joins the hub's list"
 unfoldable pub wait : (ℕ → ℕ) → State → Call → State

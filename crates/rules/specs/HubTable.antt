@@ -1,6 +1,6 @@
 -- The hub table: what a hub says of a put, a get or a wipe, by its kind; a row of the paper for each definition. What a verdict does
 -- to the table is in Calls.antt.
-use Prim.Native.Nat.{pred, suc, ℕ}
+use Prim.Native.Nat.{_*_, _+_, pred, suc, ℕ}
 use Rattle.rules.specs.Lists.{firstWaiting}
 use Rattle.rules.specs.Table.{Board, Event, Fifo, Get, Hub, Kind, NoKind, NoSide, Port, Put, Resource, Semaphore, Side, State, Wipe, hub, kindOf, sideOf, task}
 use Rattle.rules.specs.declared.Call.{Call}
@@ -8,6 +8,10 @@ use lib.Dec.{eqb, ltb}
 use mathlib.Core.Bool.{cond}
 use mathlib.Core.List.{List, [], _++_, _∷_}
 use mathlib.Core.Option.{Option, none, some}
+
+-- the message that a call bears (M-105): "what 01 says of a message word holds of the pair", low word and high word as one number
+abbrev pub message : Call → ℕ
+message c = c .word + 4294967296 * c .high
 
 -- a waiter that is met, and the word it has afterwards
 pub record Meeting : Type 0 where
@@ -133,7 +137,7 @@ onGet Board s f h caller = getBoard (h .held) h
 
 unfoldable pub onSide : Side → State → Hub → Call → Verdict
 onSide NoSide s h c = fail
-onSide Put s h c = onPut (kindOf (h .kind)) s (firstWaiting s 2 (h .waiters)) h (c .caller) (c .word)
+onSide Put s h c = onPut (kindOf (h .kind)) s (firstWaiting s 2 (h .waiters)) h (c .caller) (message c)
 onSide Get s h c = onGet (kindOf (h .kind)) s (firstWaiting s 1 (h .waiters)) h (c .caller)
 onSide Wipe s h c = onWipe (kindOf (h .kind))
 

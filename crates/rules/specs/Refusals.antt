@@ -1,13 +1,13 @@
 -- "Refusal numbers, tested in this order": 3 to 7 by the service, on the state; 1 and 2 on the words.
-use Prim.Native.Nat.{suc, ℕ}
+use Prim.Native.Nat.{suc, zero, ℕ}
 use Rattle.rules.specs.Calls.{AddHub, AddTask, Blank, HubRequest, Resume, Service, Sleep, Start, Stop, Suspend, Tick, Unknown, Yield, serviceOf}
 use Rattle.rules.specs.Lists.{next}
-use Rattle.rules.specs.Table.{Board, Event, Fifo, Kind, Layout, NoKind, Port, Resource, Semaphore, State, hub, kindOf, one, read, size}
+use Rattle.rules.specs.Table.{Board, Event, Fifo, Kind, Layout, NoKind, Port, Resource, Semaphore, State, editionOf, hub, kindOf, read, size}
 use Rattle.rules.specs.WellFormed.{wellFormedIn, within}
 use Rattle.rules.specs.declared.Call.{Call}
 use lib.Dec.{eqb, leb, ltb}
 use lib.ListN.{getD, length}
-use mathlib.Core.Bool.{Bool, _&&_, _||_, false, true}
+use mathlib.Core.Bool.{Bool, _&&_, _||_, false, not, true}
 use mathlib.Core.List.{List, [], _∷_}
 
 -- the test must pass, or the call is refused with number r; 0 is no refusal
@@ -85,15 +85,30 @@ refusalFor Unknown s c = 3
 unfoldable pub refusal : State → Call → ℕ
 refusal s c = refusalFor (serviceOf (c .service)) s c
 
--- ---- 1 "length isn't 600 words", 2 "not well formed (never for Blank)"; then the service's own
+-- ---- M-105: an edition 1 table "with a high word above 0": "a hub request on them is refusal 6". Of a hub request nothing is tested
+-- behind it
+
+abbrev pub goodMessage : Layout → Call → Bool
+goodMessage L c = not (eqb (c .service) 1) || (leb 2 (L .width) || eqb (c .high) 0)
+
+-- the next test, where none before it refused
+unfoldable pub behind : ℕ → ℕ → ℕ
+behind zero rest = rest
+behind (suc r) rest = suc r
+
+unfoldable pub refusalAt : Layout → State → Call → ℕ
+refusalAt L s c = behind (refusal s c) (need (goodMessage L c) 6 0)
+
+-- ---- 1 "length isn't 600 words", with M-105 "a length that is neither size"; 2 "not well formed (never for Blank)", with M-105 also
+-- "a contents edition that doesn't fit the length"; then the service's own
 
 abbrev pub isBlank : Call → Bool
 isBlank c = eqb (c .service) 0
 
 unfoldable pub refusalIn : Layout → List ℕ → Call → ℕ
 refusalIn L t c =
-    need (eqb (length t) (size L)) 1 (need (isBlank c || wellFormedIn L t) 2 (refusal (read L t) c))
+    need (eqb (length t) (size L)) 1 (need (isBlank c || wellFormedIn L t) 2 (refusalAt L (read L t) c))
 
--- edition 1
+-- in the edition that fits the length
 abbrev pub refusalOf : List ℕ → Call → ℕ
-refusalOf = refusalIn one
+refusalOf t c = refusalIn (editionOf t) t c

@@ -6,7 +6,7 @@ use Rattle.lists.specs.Lists.{bit, indexOf}
 use Rattle.rules.specs.Calls.{AddHub, AddTask, Blank, HubRequest, Resume, Service, Sleep, Start, Stop, Suspend, Tick, Unknown, Yield, served, serviceOf}
 use Rattle.rules.specs.Lists.{next}
 use Rattle.rules.specs.Refusals.{need, refusalIn}
-use Rattle.rules.specs.Table.{Layout, State, hub, one, read, size, task, words}
+use Rattle.rules.specs.Table.{Layout, State, editionOf, hub, read, size, task, words}
 use Rattle.rules.specs.WellFormed.{waitsFor, wellFormedIn}
 use Rattle.rules.specs.declared.Answer.the-variants.{Accepted, Refused}
 use Rattle.rules.specs.declared.Answer.{Answer}
@@ -91,9 +91,9 @@ replyBy (suc r) s′ c = record { answer = Refused (suc r); next = 0; ahead = 0 
 unfoldable pub replyIn : Layout → List ℕ → Call → Reply
 replyIn L t c = replyBy (refusalIn L t c) (served (read L t) c) c
 
--- edition 1
+-- in the edition that fits the table's length (M-105)
 abbrev pub replyTo : List ℕ → Call → Reply
-replyTo = replyIn one
+replyTo t c = replyIn (editionOf t) t c
 
 -- ---- the table after the call: "no word of the table changes" where it is refused
 
@@ -104,9 +104,9 @@ tableBy L (suc r) t s′ = t
 unfoldable pub tableIn : Layout → List ℕ → Call → List ℕ
 tableIn L t c = tableBy L (refusalIn L t c) t (served (read L t) c)
 
--- edition 1
+-- in the edition that fits its length: "Blank makes the edition that fits the length"
 abbrev pub tableAfter : List ℕ → Call → List ℕ
-tableAfter = tableIn one
+tableAfter t c = tableIn (editionOf t) t c
 
 -- ---- "Hub summary: given a table and a hub"
 
@@ -127,6 +127,6 @@ summaryIn L t h =
     (need (eqb (length t) (size L)) 1 (need (wellFormedIn L t) 2 (need (ltb h (length (read L t .hubs))) 5 0)))
     (maskBelow 16 (waitsFor (read L t) h))
 
--- edition 1
+-- in the edition that fits the length
 abbrev pub summaryOf : List ℕ → ℕ → Summary
-summaryOf = summaryIn one
+summaryOf t h = summaryIn (editionOf t) t h

@@ -1,11 +1,11 @@
 -- "The table: contents first, then the bodies": what stands in a table of words, as records and lists; the words of it, and
 -- the table read back. In the paper's order: task record, hub record, the state, the layout, the words, reading.
 -- Not here: when a table is well formed (WellFormed.antt), what a call does (Calls.antt). The laws are in proofs/.
-use Prim.Native.Nat.{_*_, _+_, suc, zero, ℕ}
+use Prim.Native.Nat.{_%_, _*_, _+_, _/_, suc, zero, ℕ}
 use Rattle.lists.specs.Lists.{entries, numbers}
 use lib.Dec.{eqb}
 use lib.ListN.{drop, getD, length, replicate, set, take}
-use mathlib.Core.Bool.{Bool, _&&_, false, not, true}
+use mathlib.Core.Bool.{Bool, _&&_, cond, false, not, true}
 use mathlib.Core.List.{List, [], _++_, _∷_}
 
 -- ---- "Task record"
@@ -123,7 +123,16 @@ pub record Layout : Type 0 where
 abbrev pub one : Layout
 one = record { edition = 1; width = 1; message = λ m. m ∷ []; messageFrom = λ w. w 0 }
 
--- a task record in the paper's order: 8 words in edition 1
+-- edition 2 (M-105): "every message is a low and a high word", the low word first
+abbrev pub two : Layout
+two = record {
+  edition = 2;
+  width = 2;
+  message = λ m. m % 4294967296 ∷ m / 4294967296 ∷ [];
+  messageFrom = λ w. w 0 + 4294967296 * w 1;
+}
+
+-- a task record in the paper's order: 8 words in edition 1, 9 in edition 2
 abbrev pub taskSize : Layout → ℕ
 taskSize L = 7 + L .width
 
@@ -143,11 +152,11 @@ taskFrom L w = record {
   answer = w (6 + L .width);
 }
 
--- a store of 8 messages: 8 words in edition 1
+-- a store of 8 messages: 8 words in edition 1, 16 in edition 2
 abbrev pub storeSize : Layout → ℕ
 storeSize L = 8 * L .width
 
--- "where each body starts": in edition 1 8, 136, 200, 216, 472, and 600 words in all
+-- "where each body starts": in edition 1 8, 136, 200, 216, 472, and 600 words in all; in edition 2 8, 152, 216, 232, 488, and 744
 abbrev pub tasksAt : ℕ
 tasksAt = 8
 
@@ -165,6 +174,10 @@ storesAt L = waitsAt L + 16 * 16
 
 abbrev pub size : Layout → ℕ
 size L = storesAt L + 16 * storeSize L
+
+-- the edition that fits a table's length (M-105): 744 words are of edition 2, all others are tested as edition 1, which has 600
+unfoldable pub editionOf : List ℕ → Layout
+editionOf t = cond (eqb (length t) (size two)) two one
 
 -- ---- the words
 
@@ -264,3 +277,7 @@ read L t = record {
   hubs = tab (getD t 2 0) 0 (hubAt L t);
   ready = numbers (part (readyAt L) 16 t);
 }
+
+-- the state that stands in a table, in its edition
+abbrev pub stateOf : List ℕ → State
+stateOf t = read (editionOf t) t

@@ -1,10 +1,10 @@
 -- "Well formed means the above, and": a computed test for each of the paper's clauses, in its order, over the words where it
 -- speaks of words and over the state read from them where it speaks of tasks and hubs. `wellFormedIn` is the whole of it, `wellFormed` that of
--- edition 1.
+-- the edition that fits the length.
 -- Not here: what each test says as a statement, and that calls keep it (proofs/).
 use Prim.Native.Nat.{_*_, _+_, _-_, pred, suc, zero, ℕ}
 use Rattle.lists.specs.Lists.{allZero, bit, occ, packed}
-use Rattle.rules.specs.Table.{Board, Event, Fifo, Get, Hub, Inactive, Kind, Layout, NoKind, NoSide, NoStage, Port, Put, Ready, Resource, Semaphore, Side, Sleeping, Stage, State, Task, Waiting, Wipe, hub, hubWordAt, hubsAt, isInactive, isResource, kindOf, one, part, read, readyAt, sideOf, size, stageOf, storePart, storeSize, storesAt, task, taskSize, tasksAt, waitPart, waitsAt}
+use Rattle.rules.specs.Table.{Board, Event, Fifo, Get, Hub, Inactive, Kind, Layout, NoKind, NoSide, NoStage, Port, Put, Ready, Resource, Semaphore, Side, Sleeping, Stage, State, Task, Waiting, Wipe, editionOf, hub, hubWordAt, hubsAt, isInactive, isResource, kindOf, part, read, readyAt, sideOf, size, stageOf, storePart, storeSize, storesAt, task, taskSize, tasksAt, waitPart, waitsAt}
 use lib.Dec.{eqb, leb, ltb}
 use lib.ListN.{drop, getD, length}
 use mathlib.Core.Bool.{Bool, _&&_, _||_, false, not, true}
@@ -209,6 +209,6 @@ valid s =
 unfoldable pub wellFormedIn : Layout → List ℕ → Bool
 wellFormedIn L t = written L t && valid (read L t)
 
--- edition 1
+-- in the edition that fits its length
 abbrev pub wellFormed : List ℕ → Bool
-wellFormed = wellFormedIn one
+wellFormed t = wellFormedIn (editionOf t) t

@@ -94,7 +94,10 @@ pub const BAD_ARGUMENT: u32 = 6;
 
 pub const FULL: u32 = 7;
 
-// "A call is seven numbers, each any 32-bit value."
+// M-105, of a move back to edition 1: some high word isn't 0
+pub const HIGH_WORD: u32 = 9;
+
+// "A call is seven numbers, each any 32-bit value", with M-105 eight: the message's high word.
 pub struct Call {
     pub service: u32,
     pub caller: u32,
@@ -103,6 +106,7 @@ pub struct Call {
     pub mode: u32,
     pub ticks: u32,
     pub word: u32,
+    pub high: u32,
 }
 
 // "carries one of three outcomes: nothing yet (answer 0), OK 1, FAIL 2"

@@ -19,7 +19,7 @@ use mathlib.Core.Path.{_≡_}
 
 -- ---- a line, on table t
 
--- "A call is seven numbers": those of a good line, in the paper's order
+-- "A call is seven numbers": those of a good line, in the paper's order; a line has no high word yet (M-105)
 abbrev pub callOf : Numbers → Call
 callOf x =
     record {
@@ -30,6 +30,7 @@ callOf x =
       mode = x .mode;
       ticks = x .ticks;
       word = x .word;
+      high = 0;
     }
 
 -- "It prints refusal, answer and next", and M-104: "The drill runner prints four numbers per call."

@@ -1,8 +1,9 @@
 -- `kernel::serve_call` meets its contract. Assumes nothing.
 use Prim.Native.Nat.{ℕ}
-use Rattle.kernel.proofs.Laws.{caller-in, fits-table, key-is, known, service-is, target-low, task-named}
+use Rattle.kernel.proofs.Laws.{caller-in, fits-table, key-is, known, message-fits, service-is, target-low, task-named}
 use Rattle.kernel.proofs.serve_call.Statement.{statement}
 use Rattle.kernel.proofs.serve_call.Tie as tie
+use Rattle.rules.proofs.After.{accepted-message}
 use Rattle.rules.proofs.Ahead.{ahead-other, ahead-request}
 use Rattle.rules.specs.Calls.{HubRequest, Service, serve, served, serviceOf}
 use Rattle.rules.specs.Reply.{aheadFor}
@@ -28,7 +29,7 @@ request-requires c κs =
     let s = read (e .edition .layout) (b .args .t .now) in
     let one = c .before .before .before .before .if1 .taken in
     let q = known (e .edition .laid) (b .pre .0) (b .pre .1 .0) (b .args .t .now) k (e .none) (c .before .before .before .before .before .before .slice-known .given) (λ z. omega (arith, z, one)) in
-    (q .fits, (omega (arith, one, caller-in s (q .valid) k (q .accepted) (omega (arith, one)) (omega (arith, one)), q .valid .tasks), target-low s (q .valid) k (q .accepted) (omega (arith, one)) (omega (arith, one))))
+    (q .fits, (omega (arith, one, caller-in s (q .valid) k (q .accepted) (omega (arith, one)) (omega (arith, one)), q .valid .tasks), (target-low s (q .valid) k (q .accepted) (omega (arith, one)) (omega (arith, one)), message-fits _ _ (e .edition .laid) (b .pre .0) (b .pre .1 .0) k (accepted-message (e .edition .layout) (b .args .t .now) k (e .none)) one (search needs) (search needs))))
 
 same-length : tie.Need-same-length
 same-length c = search needs

@@ -1,59 +1,40 @@
--- `refusals::for_service` meets its contract: each service's function has its row of the rules. Assumes nothing.
-use Rattle.refusals.proofs.Numbers.{unknown}
+-- `refusals::for_service` meets its contract. Assumes nothing.
+use Prim.Native.Nat.{suc, zero, ℕ}
 use Rattle.refusals.proofs.for_service.Statement.{statement}
 use Rattle.refusals.proofs.for_service.Tie as tie
-use Rattle.rules.proofs.Places.{hubs-word, tasks-word}
-use Rattle.rules.specs.Calls.{serviceOf}
-use Rattle.rules.specs.Refusals.{refusal, refusalFor}
+use Rattle.rules.specs.Refusals.{behind, need, refusalAt}
 use borrow.Author.Needs.{needs}
-use mathlib.Core.Logic.{inl, inr, ⊎-elim}
-use mathlib.Core.Path.{_≡_}
-use native.Mathlib.Omega.{arith}
+use mathlib.Core.Path.{_∙_, _≡_, refl, sym}
 
-for-add-task-requires : tie.Need-for-add-task-requires
-for-add-task-requires c κs = search needs
+-- a refusal stands, whatever is tested behind it; where there is none, the next test decides
+first : (r n rest : ℕ) → r ≡ n → (r ≡ 0 → ⊥) → r ≡ behind n rest
+unfolding behind
+first r zero rest e z = absurd (z e)
+first r (suc n) rest e z = e
 
-for-add-hub-requires : tie.Need-for-add-hub-requires
-for-add-hub-requires c κs = search needs
+then : (r n rest : ℕ) → r ≡ n → r ≡ 0 → rest ≡ behind n rest
+unfolding behind
+then r n rest e z = rw (sym e ∙ z) refl
 
-for-caller-requires : tie.Need-for-caller-requires
-for-caller-requires c κs = search needs
+by-service-requires : tie.Need-by-service-requires
+by-service-requires c κs = search needs
 
 returns : tie.Need-returns
-unfolding refusal refusalFor serviceOf
-returns c L s y valid room e = ⊎-elim (λ k. rw k) (λ k. rw k) (c .match .keys1)
+unfolding refusalAt
+returns c L s y valid room e = first _ _ _ (c .before .by-service .ensures L s y valid room e) (c .if1 .taken)
+
+good-message-requires : tie.Need-good-message-requires
+good-message-requires c κs = search needs
 
 returns-2 : tie.Need-returns-2
-unfolding refusal refusalFor serviceOf
-returns-2 c L s y valid room e = rw (c .before .match .keys2, c .for-add-task .ensures, e, tasks-word L s)
+unfolding need refusalAt
+returns-2 c L s y valid room e =
+    rw (sym (c .before .good-message .ensures L y) ∙ c .if2 .taken) (then _ _ 0 (c .before .before .before .by-service .ensures L s y valid room e) (c .before .before .if1 .left))
 
 returns-3 : tie.Need-returns-3
-unfolding refusal refusalFor serviceOf
-returns-3 c L s y valid room e = rw (c .before .match .keys3, c .for-add-hub .ensures, e, hubs-word L s)
-
-returns-4 : tie.Need-returns-4
-returns-4 c L s y valid room e =
-    let n = c .before .before .match .rest in
-    let service = c .before .before .before .before .args .c .service in
-    let not-blank : service ≡ 0 → ⊥ = λ k. n .0 .0 .1 (inl k) in
-    c .for-caller .ensures (omega arith) (omega arith) L s y room (valid .listed) e
-
-returns-5 : tie.Need-returns-5
-unfolding refusal refusalFor
-returns-5 c L s y valid room e =
-    let n = c .before .match .rest in
-    let service = c .before .before .before .args .c .service in
-    rw (unknown service (c .if1 .left) (λ k. n .0 .0 .1 (inr k)) (n .0 .1) (n .1))
+unfolding need refusalAt
+returns-3 c L s y valid room e =
+    rw (sym (c .before .good-message .ensures L y) ∙ c .if2 .left) (then _ _ 6 (c .before .before .before .by-service .ensures L s y valid room e) (c .before .before .if1 .left))
 
 pub for-service-spec : {M : Type 1} → statement M
-for-service-spec =
-    tie.close
-    (tie.spec
-    for-add-task-requires
-    for-add-hub-requires
-    for-caller-requires
-    returns
-    returns-2
-    returns-3
-    returns-4
-    returns-5)
+for-service-spec = tie.close (tie.spec by-service-requires returns good-message-requires returns-2 returns-3)

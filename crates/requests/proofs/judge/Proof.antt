@@ -35,8 +35,8 @@ returns c = (
 first-waiter-requires : tie.Need-first-waiter-requires
 first-waiter-requires c κs = search needs
 
-cast-on-put : tie.Need-cast-on-put
-cast-on-put c = search needs
+joined-requires : tie.Need-joined-requires
+joined-requires c κs = search needs
 
 on-put-requires : tie.Need-on-put-requires
 on-put-requires c κs = search needs
@@ -53,7 +53,7 @@ returns-2 c = (
       let w = c .before .before .first-waiter .ensures L s y (valid-sound s g) (g .waits) (q .named) e in
       let put = c .before .before .before .if2 .taken in
       c .on-put .ensures .0 x s (length (s .tasks)) r (g .ranges .range (k .target) (q .named)) (λ b. n b put)
-      ∙ rw (w, put) refl,
+      ∙ rw (w, put, c .before .joined .ensures) refl,
 )
 
 first-waiter-requires-2 : tie.Need-first-waiter-requires-2
@@ -93,7 +93,7 @@ judge-spec =
     on-wipe-requires
     returns
     first-waiter-requires
-    cast-on-put
+    joined-requires
     on-put-requires
     returns-2
     first-waiter-requires-2

@@ -16,8 +16,8 @@ cast-t9 c = search needs
 cast-t9-2 : tie.Need-cast-t9-2
 cast-t9-2 c = search needs
 
-cast-word : tie.Need-cast-word
-cast-word c = search needs
+joined-requires : tie.Need-joined-requires
+joined-requires c κs = search needs
 
 hold-hub-requires : tie.Need-hold-hub-requires
 unfolding StoreBelow
@@ -38,9 +38,10 @@ returns c = λ L s y g r b d e.
     let a = c .before .before .before .before .before .before .before .before .before .before .before .before .before .before .before .before .before .args in
     let k = a .c in
     let after = storeAfter (written s g k r b) (hub s (k .target) .held) in
-    let wrote = c .before .before .before .before .before .before .before .before .before .before .hold-hub .ensures L s y (g .hubs) (asked s g k r .named) (update-fits s g k r b) e in
+    let j = c .before .before .before .before .before .before .before .before .before .before .before .before .joined .ensures in
+    let wrote = rw j at (c .before .before .before .before .before .before .before .before .before .before .hold-hub .ensures L s y (g .hubs) (asked s g k r .named) (rw j (update-fits s g k r b)) e) in
     let said = c .before .before .before .before .before .before .give-answer .ensures L (hold (k .target) 1 after s) y (g .tasks) (caller-used s g k r) wrote in
-    c .before .before .meet-all .ensures L (told s g k r b) y (told-sound s g k r 1 0 after) (told-used s g k r 1 0 after) said
+    (rw j at (c .before .before .meet-all .ensures L (told s g k r b) y (told-sound s g k r 1 0 after) (told-used s g k r 1 0 after) said))
     ∙ ap (words L) (update-state s g k r b (keyOf (a .keys .now)) d)
 
 pub update-spec : {M : Type 1} → statement M
@@ -49,7 +50,7 @@ update-spec =
     (tie.spec
     cast-t9
     cast-t9-2
-    cast-word
+    joined-requires
     hold-hub-requires
     give-answer-requires
     meet-all-requires

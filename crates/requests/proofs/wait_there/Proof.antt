@@ -21,8 +21,8 @@ cast-result-2 c = search needs
 hub-at-requires : tie.Need-hub-at-requires
 hub-at-requires c κs = search needs
 
-cast-kept-word : tie.Need-cast-kept-word
-cast-kept-word c = search needs
+joined-requires : tie.Need-joined-requires
+joined-requires c κs = search needs
 
 kept-word-requires : tie.Need-kept-word-requires
 kept-word-requires c κs = search needs
@@ -47,7 +47,7 @@ unfolding leave setTask wait
 returns c = λ L s y sound caller used e.
     let k = c .before .before .before .before .before .before .before .before .before .before .before .before .before .before .before .before .before .before .before .before .args .c in
     let r = c .before .before .before .before .before .before .before .before .before .before .before .before .before .before .hub-at .ensures L s y (sound .hubs) used e in
-    let word = c .before .before .before .before .before .before .before .before .before .before .before .before .kept-word .ensures .1 (hub s (k .target)) k (r .kind) refl refl in
+    let word = c .before .before .before .before .before .before .before .before .before .before .before .before .kept-word .ensures .1 (hub s (k .target)) k (r .kind) refl (c .before .before .before .before .before .before .before .before .before .before .before .before .before .joined .ensures) in
     let left = c .before .before .before .before .before .before .before .before .before .before .leave-list .ensures L s y sound caller e in
     let made = rw word at (c .before .before .before .before .before .before .make-waiting .ensures L (leave (k .caller) s) y (sound .tasks) caller left) in
     let named : k .target < length (leave (k .caller) s .hubs) = rw (length-map (s .hubs) (unqueue (k .caller))) used in
@@ -67,7 +67,7 @@ wait-there-spec =
     cast-result
     cast-result-2
     hub-at-requires
-    cast-kept-word
+    joined-requires
     kept-word-requires
     leave-list-requires
     make-waiting-requires

@@ -1,0 +1,3 @@
+# A Port's waiting getter receives the low word only.
+# Demand 3 alone catches it.
+/^static outcome port_put/,/^}/s/meet_first(table, number, word)/meet_first(table, number, (uint32_t)word)/
