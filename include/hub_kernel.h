@@ -1,26 +1,42 @@
-/* The hub kernel for C and C++ hosts: three functions over a table of 2,400 bytes.
+/* The hub kernel for C and C++ hosts: five functions over a table of 2,976 bytes, or of
+ * 2,400 (edition 1, whose messages have 32 bits instead of 64).
  *
- *     uint8_t table[HUB_KERNEL_TABLE_BYTES];
- *     hub_kernel_call(table, sizeof table, HUB_KERNEL_BLANK, 0, 0, 0, 0, 0, 0);
+ *     uint8_t table[HUB_KERNEL_TABLE_BYTES_2];
+ *     hub_kernel_call(table, sizeof table, HUB_KERNEL_BLANK, 0, 0, 0, 0, 0, 0, 0);
  *
  * Link with libpanel.a (`rt staticlib panel` writes target/staticlib/libpanel.a, for
- * x86-64 Linux). It exports the three functions below and uses nothing but the C
+ * x86-64 Linux). It exports the five functions below and uses nothing but the C
  * library's memcpy, memmove and memset.
  *
- * THE TABLE is 600 words of 32 bits, each as four bytes, the least first, whatever
- * the machine. The table may stand at any address; no alignment is asked for.
+ * THE TABLE is words of 32 bits, each as four bytes, the least first, whatever the
+ * machine. The table may stand at any address; no alignment is asked for. There are two
+ * editions, and the length alone says which one is meant: 600 words or 2,400 bytes are
+ * edition 1, 744 words or 2,976 bytes edition 2.
  *
- *   words       bytes          holds
- *   0 to 7      0 to 31        contents: edition 1, tasks T, hubs H, then 8, 136, 200, 216, 472
- *   8 to 135    32 to 543      16 task records of 8 words
- *   136 to 199  544 to 799     16 hub records of 4 words
- *   200 to 215  800 to 863     ready list
- *   216 to 471  864 to 1887    16 waiting lists of 16 words, one per hub
- *   472 to 599  1888 to 2399   16 stores of 8 words, one per hub
+ *                      edition 1                    edition 2
+ *                      words       bytes            words       bytes
+ *   contents           0 to 7      0 to 31          0 to 7      0 to 31
+ *   16 task records    8 to 135    32 to 543        8 to 151    32 to 607
+ *   16 hub records     136 to 199  544 to 799       152 to 215  608 to 863
+ *   ready list         200 to 215  800 to 863       216 to 231  864 to 927
+ *   16 waiting lists   216 to 471  864 to 1887      232 to 487  928 to 1951
+ *   16 stores          472 to 599  1888 to 2399     488 to 743  1952 to 2975
+ *
+ * The contents are the edition, tasks T, hubs H, then the word at which each body starts:
+ * 8, 136, 200, 216, 472 in edition 1, and 8, 152, 216, 232, 488 in edition 2. A hub record
+ * has 4 words and a list 16. A store, one per hub as the waiting lists are, holds up to 8
+ * messages.
+ *
+ * A MESSAGE is what a put brings and a get receives. In edition 2 it is a low and a high
+ * word, 64 bits, the high one behind the low one wherever a message stands: so a task
+ * record has 9 words and a store 16. In edition 1 it is the low word alone: records of 8
+ * words and stores of 8. All else is the same in both. Where it says below that a word is
+ * put, received or held, such a message is meant.
  *
  * Tasks are numbered 0 to T - 1 and hubs 0 to H - 1, at most 16 of each, in the order
  * in which they were added. A list holds task number plus 1 per entry. Everything
- * unused is 0. Any bytes may be handed in: a table that isn't well formed is refusal 2.
+ * unused is 0. Any bytes may be handed in: a table that isn't well formed is refusal 2, and
+ * so is one whose contents name another edition than its length.
  * A table whose Resource is owned by an inactive task isn't well formed either (the kernel
  * before M-101 could leave one behind, by a Stop of the owner): no call but Blank mends it.
  *
@@ -41,9 +57,9 @@
  * wait. It is said once, by the call that joined; a later request of a more urgent task
  * goes in front.
  *
- *   no. service        caller  target    side           mode  ticks       word
+ *   no. service        caller  target    side           mode  ticks       word     high
  *   0   Blank
- *   1   Hub request    task    hub       1 put, 2 get   1..3  under WT    for a put
+ *   1   Hub request    task    hub       1 put, 2 get   1..3  under WT    for a put: low, high
  *                                        3 wipe: Board
  *   2   Start          task    task
  *   3   Stop           task    task
@@ -55,8 +71,10 @@
  *   9   Add task               priority  1 starts it
  *   10  Add hub                kind                           limit       start
  *
- * A number that a service doesn't name is ignored. The caller of services 1 to 7 must be
- * the running task, the one that `next` of the call before named.
+ * A number that a service doesn't name is ignored; so `high` is read by hub requests only,
+ * and on a table of edition 1 every hub request has to have 0 there, whatever its hub and
+ * side. Blank makes the edition that fits the length, whatever stood there. The caller of
+ * services 1 to 7 must be the running task, the one that `next` of the call before named.
  *
  * Stop takes the task from any list and makes it inactive; then each Resource that it
  * owned passes, in hub number order, to that hub's first waiter, who is met and owns it
@@ -79,42 +97,58 @@
  * A STEP THAT CAME BACK IS NOT A STEP THAT WAS MET. A caller that waits gets its answer
  * later, in the answer word of its own record, when another call meets it (1) or when a
  * Tick ends its wait (3, TO). No call returns 3. So a host that resumes a task after
- * answer 0 reads the task's answer word, at
+ * answer 0 reads the task's answer word, in edition 1 and in edition 2 at
  *     HUB_KERNEL_TASKS_AT + HUB_KERNEL_TASK_BYTES * task + HUB_KERNEL_TASK_ANSWER
- * and its state word beside it: state 3 is still waiting, state 2 with answer 1 is met,
- * 2 failed, 3 timed out. The word received stands at HUB_KERNEL_TASK_WORD.
+ *     HUB_KERNEL_TASKS_AT + HUB_KERNEL_TASK_BYTES_2 * task + HUB_KERNEL_TASK_ANSWER_2
+ * and its state word in the same record: state 3 is still waiting, state 2 with answer 1
+ * is met, 2 failed, 3 timed out. The word received stands at HUB_KERNEL_TASK_WORD, its high
+ * word in edition 2 at HUB_KERNEL_TASK_HIGH_2.
+ *
+ * THE MOVES. hub_kernel_move_up writes the table at `from`, of edition 1, to `to` as one of
+ * edition 2, all high words 0; hub_kernel_move_down writes a table of edition 2 as one of
+ * edition 1, which can be done exactly if all its high words are 0. Tasks, hubs, lists,
+ * ticks left, answers and messages are the same in the new table, so requests that wait go
+ * on waiting there, with as many ahead of them, and are met or time out by the same calls;
+ * `next` stays what it was. Each way followed by the other gives the first table again,
+ * byte for byte. A move writes every byte of `to`, whatever it held, and no byte of `from`;
+ * a refused move writes nothing. The two must not overlap. Which of the two tables is the
+ * panel's from then on is the host's to keep in mind: the kernel doesn't mark the old one.
  *
  * THE LISTING is the set-up of a table as text: lines that the drill runner reads, the
  * Blank line, one Add task line per task, one Add hub line per hub, all in number order:
  *
- *     0 0 0 0 0 0 0
- *     9 0 P 0 0 0 0       P the task's priority; side 0, so no task is started
- *     10 0 K 0 0 L S      K the hub's kind, L its limit, S its start, whatever its count
+ *     0 0 0 0 0 0 0 0
+ *     9 0 P 0 0 0 0 0     P the task's priority; side 0, so no task is started
+ *     10 0 K 0 0 L S 0    K the hub's kind, L its limit, S its start, whatever its count
  *
  * each ended by a newline, without a zero byte behind the last. Run through the drill
- * runner, every line is accepted, and they build the table with every task inactive,
- * every count at its start, and all lists and stores empty. Two well-formed tables have
- * the same listing exactly if they have the same priorities, kinds, limits and starts in
- * the same order. The host lends a buffer of `room` bytes, which must not overlap the
+ * runner, whose table is of edition 2, every line is accepted, and they build the table (of
+ * an edition 1 table: its move up) with every task inactive, every count at its start, and
+ * all lists and stores empty. Two well-formed tables, of one edition or of both, have the
+ * same listing exactly if they have the same priorities, kinds, limits and starts in the
+ * same order. The host lends a buffer of `room` bytes, which must not overlap the
  * table and may stand at any address. The listing is written to its start, and the bytes
  * after it keep what they held; room for HUB_KERNEL_LISTING_MOST bytes always suffices.
  * A refused listing writes no byte and has length 0. No byte of the table is written.
  *
  * REFUSALS, tested in this order:
  *
- *   1  the length isn't 2,400 bytes
- *   2  the table isn't well formed (never for Blank)
+ *   1  the length is neither 2,400 nor 2,976 bytes. The moves: the two lengths aren't 2,400
+ *      and 2,976 (up), 2,976 and 2,400 (down)
+ *   2  the table (of a move: the source) isn't well formed (never for Blank)
  *   3  service above 10
  *   4  services 1 to 7: caller isn't the running task
  *   5  service 1 and the summary: hub not in use; 2 to 5: task not in use
  *   6  service 1: side not 1 or 2 (nor 3 where the hub is a Board), mode not 1 to 3,
- *      ticks not 0 under W or NW, ticks outside 1 to 1,000,000 under WT. Service 7: ticks
- *      outside that range. Service 9: priority above 255 or side above 1. Service 10: kind
- *      not 1 to 6, limit or start outside the table below
+ *      ticks not 0 under W or NW, ticks outside 1 to 1,000,000 under WT, high above 0 on
+ *      edition 1. Service 7: ticks outside that range. Service 9: priority above 255 or
+ *      side above 1. Service 10: kind not 1 to 6, limit or start outside the table below
  *   7  service 9 or 10 with 16 already
  *   8  the listing: the buffer is shorter than it
+ *   9  the move down: some high word of the source isn't 0
  *
- * The listing has no service and no hub: of these it tests 1, 2 and 8.
+ * The listing and the moves have no service and no hub: of these the listing tests 1, 2
+ * and 8, the move up 1 and 2, the move down 1, 2 and 9.
  *
  *   kind         count                       limit          start
  *   1 Event      0 or 1                      1              0
@@ -124,18 +158,21 @@
  *   5 Resource   0 free, else owner plus 1   1              0
  *   6 Board      0 unwritten, 1 written      1              0
  *
- * PROVED, for every length and every content of the table, every seven numbers and every
- * buffer: the call returns, reads nothing but the table, writes nothing but the table (the
- * listing: nothing but the buffer), and its reply and every byte afterwards are those of
- * the rules (crate panel, `hub_kernel_call`, `hub_kernel_summary` and
- * `hub_kernel_listing`, whose contracts have no condition). The tables after any run of
- * calls from a Blank stay well formed, so refusal 2 never comes there.
+ * PROVED, for every length and every content of the table, every eight numbers, every
+ * buffer and every destination: the call returns, reads nothing but the table, writes
+ * nothing but the table (the listing: nothing but the buffer; a move: nothing but the
+ * destination), and its reply and every byte afterwards are those of the rules (crate
+ * panel, `hub_kernel_call`, `hub_kernel_summary`, `hub_kernel_listing`,
+ * `hub_kernel_move_up` and `hub_kernel_move_down`, whose contracts have no condition). The
+ * tables after any run of calls and moves from a Blank stay well formed, so refusal 2 never
+ * comes there.
  *
  * ASSUMED: the prover and the compiler of Rattle, with LLVM behind it; and of the host,
  * that `table` isn't NULL (not even for 0 bytes), points to `bytes` bytes that it may
  * read (and for hub_kernel_call write), and that nothing else reads or writes them until
  * the call has returned; the same of `text` and its `room` bytes, which may be written and
- * share no byte with the table. About 3 kB of stack are used.
+ * share no byte with the table, and of a move's `from` and `to`, of which `to` may be
+ * written and shares no byte with `from`. About 4 kB of stack are used, by a move about 6 kB.
  */
 #ifndef HUB_KERNEL_H
 #define HUB_KERNEL_H
@@ -147,27 +184,44 @@
 extern "C" {
 #endif
 
-/* Sizes, and places in bytes from the start of the table. */
+/* Sizes, and places in bytes from the start of the table: those of both editions, */
 enum {
-    HUB_KERNEL_TABLE_WORDS = 600,
-    HUB_KERNEL_TABLE_BYTES = 2400,
     HUB_KERNEL_TASKS = 16,
     HUB_KERNEL_HUBS = 16,
     HUB_KERNEL_TASKS_AT = 32,
+    HUB_KERNEL_HUB_BYTES = 16,
+    HUB_KERNEL_LIST_BYTES = 64
+};
+
+/* those of edition 1, */
+enum {
+    HUB_KERNEL_TABLE_WORDS = 600,
+    HUB_KERNEL_TABLE_BYTES = 2400,
     HUB_KERNEL_TASK_BYTES = 32,
     HUB_KERNEL_HUBS_AT = 544,
-    HUB_KERNEL_HUB_BYTES = 16,
     HUB_KERNEL_READY_AT = 800,
     HUB_KERNEL_WAITING_AT = 864,
-    HUB_KERNEL_LIST_BYTES = 64,
     HUB_KERNEL_STORES_AT = 1888,
     HUB_KERNEL_STORE_BYTES = 32
 };
 
-/* Bytes of the longest listing: 16 tasks and 16 Semaphores, all numbers of full length. */
-enum { HUB_KERNEL_LISTING_MOST = 638 };
+/* and those of edition 2. */
+enum {
+    HUB_KERNEL_TABLE_WORDS_2 = 744,
+    HUB_KERNEL_TABLE_BYTES_2 = 2976,
+    HUB_KERNEL_TASK_BYTES_2 = 36,
+    HUB_KERNEL_HUBS_AT_2 = 608,
+    HUB_KERNEL_READY_AT_2 = 864,
+    HUB_KERNEL_WAITING_AT_2 = 928,
+    HUB_KERNEL_STORES_AT_2 = 1952,
+    HUB_KERNEL_STORE_BYTES_2 = 64
+};
 
-/* A task record's words, in bytes from its start. */
+/* Bytes of the longest listing: 16 tasks and 16 Semaphores, all numbers of full length. */
+enum { HUB_KERNEL_LISTING_MOST = 704 };
+
+/* A task record's words, in bytes from its start. Edition 2 has the high word behind the
+ * low one, and so its answer one place further. */
 enum {
     HUB_KERNEL_TASK_STATE = 0,
     HUB_KERNEL_TASK_SUSPENDED = 4,
@@ -176,7 +230,9 @@ enum {
     HUB_KERNEL_TASK_TICKS = 16,
     HUB_KERNEL_TASK_SIDE = 20,
     HUB_KERNEL_TASK_WORD = 24,
-    HUB_KERNEL_TASK_ANSWER = 28
+    HUB_KERNEL_TASK_ANSWER = 28,
+    HUB_KERNEL_TASK_HIGH_2 = 28,
+    HUB_KERNEL_TASK_ANSWER_2 = 32
 };
 
 /* A hub record's words, in bytes from its start. */
@@ -245,7 +301,8 @@ enum {
     HUB_KERNEL_NOT_IN_USE = 5,
     HUB_KERNEL_BAD_ARGUMENT = 6,
     HUB_KERNEL_TABLE_FULL = 7,
-    HUB_KERNEL_SHORT_BUFFER = 8
+    HUB_KERNEL_SHORT_BUFFER = 8,
+    HUB_KERNEL_HIGH_WORD = 9
 };
 
 /* Largest numbers. */
@@ -266,7 +323,7 @@ typedef struct hub_kernel_reply {
 /* One call on the table of `bytes` bytes. */
 hub_kernel_reply hub_kernel_call(uint8_t *table, size_t bytes, uint32_t service, uint32_t caller,
                                  uint32_t target, uint32_t side, uint32_t mode, uint32_t ticks,
-                                 uint32_t word);
+                                 uint32_t word, uint32_t high);
 
 typedef struct hub_kernel_summary_reply {
     uint32_t refusal; /* 0 accepted, else 1, 2 or 5; then mask and count are 0 */
@@ -286,6 +343,15 @@ typedef struct hub_kernel_listing_reply {
  * not overlap. Writes nothing else. */
 hub_kernel_listing_reply hub_kernel_listing(const uint8_t *table, size_t bytes, uint8_t *text,
                                             size_t room);
+
+/* The table at `from`, of edition 1, to `to` as one of edition 2, high words 0. Gives the
+ * refusal, 1 or 2, and then nothing is written, or 0 if done. The two must not overlap. */
+uint32_t hub_kernel_move_up(const uint8_t *from, size_t from_bytes, uint8_t *to, size_t to_bytes);
+
+/* The table at `from`, of edition 2, to `to` as one of edition 1. Gives the refusal, 1, 2 or
+ * 9, and then nothing is written, or 0 if done. The two must not overlap. */
+uint32_t hub_kernel_move_down(const uint8_t *from, size_t from_bytes, uint8_t *to,
+                              size_t to_bytes);
 
 #ifdef __cplusplus
 }

@@ -319,7 +319,7 @@ typedef enum { CLASS_0, LOW_ONLY, HIGH_ONLY, BOTH_WORDS, CLASSES } message_class
     ROW(LISTING_ACCEPTED, "listing: accepted")                                  \
     ROW(LISTING_EXACT, "listing: exactly the room there is")                    \
     ROW(LISTING_PAST, "listing: bytes left behind it")                          \
-    ROW(LISTING_MOST_BYTES, "listing: 638 bytes")                               \
+    ROW(LISTING_MOST_BYTES, "listing: 704 bytes")                               \
     ROW(LISTING_TASKS_0, "listing: no task")                                    \
     ROW(LISTING_TASKS_1, "listing: one task")                                   \
     ROW(LISTING_TASKS_2, "listing: 2 to 15 tasks")                              \

@@ -680,10 +680,10 @@ uint32_t expect_high_words(const uint32_t table[744])
 
 /* ---- The listing ------------------------------------------------------- */
 
-/* How a line's last numbers are written, and a line's bytes when each of its numbers has
- * one digit, its newline with them: " 0\n" and 16 when lines have eight numbers. */
-#define NO_HIGH_WORD "\n"
-enum { SHORT_LINE = 14 };
+/* How a line ends, since no line of a listing has a high word; and a line's bytes when each
+ * of its numbers has one digit, its newline with them. */
+#define NO_HIGH_WORD " 0\n"
+enum { SHORT_LINE = 16 };
 
 static size_t further_digits(uint32_t number)
 {

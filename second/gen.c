@@ -1071,6 +1071,22 @@ static int others_contents(gen_random *random, uint32_t *table, const damage *fa
     return 1;
 }
 
+/* The same where nothing else can be wrong: no hub, and no task or an inactive one, which
+ * reads the same in both editions. So the edition alone decides. */
+static int others_empty(gen_random *random, uint32_t *table, const damage *family)
+{
+    uint32_t tasks = gen_below(random, 2);
+
+    memset(table + TASKS_AT, 0, (layout_of(table)->words - TASKS_AT) * sizeof *table);
+    table[TASKS_IN_USE_AT] = tasks;
+    table[HUBS_IN_USE_AT] = 0;
+    if (tasks > 0) {
+        table[task_place(table, 0) + T_STATE] = INACTIVE;
+        table[task_place(table, 0) + T_PRIORITY] = from_to(random, 0, PRIORITY_MAX);
+    }
+    return others_contents(random, table, family);
+}
+
 /* A whole table of the other edition, cut short or with zeros behind it. */
 static int others_table(gen_random *random, uint32_t *table, const damage *family)
 {
@@ -1743,6 +1759,9 @@ static const damage damages[] = {
     {"contents: the other edition and its starts", SECOND_CONTENTS, others_contents,
      OTHER_EDITION + OTHER_STARTS, 0, 0},
     {"contents: a table of the other edition", SECOND_CONTENTS, others_table, 0, 0, 0},
+    {"contents: the other edition, no hub", SECOND_CONTENTS, others_empty, OTHER_EDITION, 0, 0},
+    {"contents: the other edition and its starts, no hub", SECOND_CONTENTS, others_empty,
+     OTHER_EDITION + OTHER_STARTS, 0, 0},
 };
 
 /* Edition 2 only: a high word where the message is 0. */
@@ -1879,7 +1898,7 @@ static size_t damage_line(gen_random *random, uint8_t *line, size_t length)
         length = (size_t)snprintf((char *)line, GEN_LINE_MAX, "0 0 %s",
                                   gen_chance(random, 50) ? "4294967296" : "10000000000");
         return zeros_behind(line, length, LINE_NUMBERS - 3);
-    case 9: /* 81 bytes and more */
+    case 9: /* a byte too many, and more */
         length = from_to(random, LINE_MAX_BYTES + 1,
                          gen_chance(random, 80) ? LINE_MAX_BYTES + 10 : GEN_LINE_MAX);
         memset(line, (int)ONE_OF(random, '0', '1', ' ', 'x'), length);

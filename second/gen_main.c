@@ -2,7 +2,8 @@
  * SEED N` what a drill runner prints for them. The second needs no line reader:
  * the generator knows which lines are good and what calls they hold. The table
  * between the lines is expect.c's, so that neither kernel has a say in it.
- * `gen listings SEED N` prints the listings of N drawn tables, expect.c's too. */
+ * `gen listings SEED N` prints the listings of N drawn tables, of edition 1 and 2 in turn,
+ * expect.c's too. */
 #include <errno.h>
 #include <inttypes.h>
 #include <stdio.h>
@@ -24,11 +25,10 @@ static void print_reply(uint64_t number, int good, second_reply reply)
         printf("line %" PRIu64 " bad\n", number);
 }
 
-/* High words only where a line holds them. */
 static void draw_mood(gen_random *random, gen_mood *mood)
 {
     gen_draw_mood(random, mood);
-    mood->high = (int)LINE_NUMBERS > (int)C_HIGH ? 40 : 0;
+    mood->high = 40;
 }
 
 static void print_lines(uint64_t seed, uint64_t count, int expected)
@@ -60,14 +60,15 @@ static void print_lines(uint64_t seed, uint64_t count, int expected)
 
 static void print_listings(uint64_t seed, uint64_t count)
 {
-    uint32_t table[WORDS];
+    uint32_t table[WORDS_MOST];
     uint8_t text[LISTING_MOST];
     gen_random random;
 
     gen_seed(&random, seed);
-    while (count-- > 0) {
-        gen_set_up(&random, EDITION_1, table);
-        fwrite(text, 1, expect_listing(table, WORDS, text, sizeof text).length, stdout);
+    for (uint64_t i = 0; i < count; i++) {
+        const layout *of = &layouts[i % EDITIONS];
+        gen_set_up(&random, of->edition, table);
+        fwrite(text, 1, expect_listing(table, of->words, text, sizeof text).length, stdout);
     }
 }
 

@@ -9,8 +9,8 @@
 #include <stddef.h>
 #include <stdint.h>
 
-/* The table: contents, then the bodies. WORDS and BYTES are edition 1's, as at the C edge;
- * edition 2 (M-105) has task records of 9 words and stores of 16. */
+/* The table: contents, then the bodies. WORDS and BYTES are edition 1's; edition 2 (M-105)
+ * has task records of 9 words and stores of 16. */
 enum { WORDS = 600, BYTES = 2400, WORDS_2 = 744, BYTES_2 = 2976 };
 enum { WORDS_MOST = WORDS_2, BYTES_MOST = BYTES_2, TASKS = 16, HUBS = 16 };
 enum { EDITION_AT = 0, TASKS_IN_USE_AT = 1, HUBS_IN_USE_AT = 2, STARTS_AT = 3, TASKS_AT = 8 };
@@ -53,11 +53,10 @@ enum {
     NOT_IN_USE, BAD_ARGUMENT, TABLE_FULL, SHORT_BUFFER, HIGH_WORD
 };
 
-/* The edges that are still edition 1's, until the proved kernel's own change: the numbers
- * of a line and its bytes at most, the runner's table, and the longest listing, which has
- * 16 tasks of priority 100 and more, and 16 Semaphores whose limit and start have five
- * digits. From then on 8, 90, WORDS_2 and 704. */
-enum { LINE_NUMBERS = 7, LINE_MAX_BYTES = 80, RUNNER_WORDS = WORDS, LISTING_MOST = 638 };
+/* The edges in text: the numbers of a line and its bytes at most, the runner's table, and
+ * the longest listing, which has 16 tasks of priority 100 and more, and 16 Semaphores whose
+ * limit and start have five digits. */
+enum { LINE_NUMBERS = 8, LINE_MAX_BYTES = 90, RUNNER_WORDS = WORDS_2, LISTING_MOST = 704 };
 
 /* The layout that fits a length in words, or NULL; and that of a table whose edition fits
  * its length, as that of every well-formed one does. */

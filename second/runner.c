@@ -30,14 +30,13 @@ static int read_number(const uint8_t **at, const uint8_t *end, uint32_t *number)
     return 1;
 }
 
-/* LINE_NUMBERS numbers, one space between, nothing else; the call's others are 0. */
+/* LINE_NUMBERS numbers, one space between, nothing else. */
 static int read_call(const uint8_t *line, size_t length, uint32_t call[CALL_NUMBERS])
 {
     const uint8_t *at = line, *end = line + length;
 
     if (length > LINE_MAX_BYTES)
         return 0;
-    memset(call, 0, CALL_NUMBERS * sizeof *call);
     for (int i = 0; i < LINE_NUMBERS; i++) {
         if (i > 0 && (at == end || *at++ != ' '))
             return 0;
@@ -63,7 +62,7 @@ static void end_line(runner *run)
     run->length = 0;
 }
 
-/* Of an overlong line only the fact is kept: its first 81 bytes. */
+/* Of an overlong line only the fact is kept: its first 91 bytes. */
 static void keep(runner *run, const uint8_t *bytes, size_t length)
 {
     size_t room = sizeof run->line - run->length;

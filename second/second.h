@@ -48,7 +48,7 @@ typedef struct {
 
 typedef struct {
     uint32_t refusal; /* 0 accepted, else 1, 2 or 8 */
-    uint32_t length;  /* bytes written, at most 638 */
+    uint32_t length;  /* bytes written, at most 704 */
 } second_listing_reply;
 
 /* What second_well_formed found wrong first. */
@@ -77,10 +77,11 @@ typedef enum {
 second_reply second_call(uint32_t *table, size_t words, const uint32_t call[8]);
 second_summary_reply second_summary(const uint32_t *table, size_t words, uint32_t hub);
 
-/* The set-up as drill lines (request M-100), of either edition: Blank, one Add task with side 0
- * per task, one Add hub per hub, in number order, unused fields 0, each line
- * with its newline. Written to the start of a lent buffer of `room` bytes, which
- * must not overlap the table; the bytes behind the listing are left. */
+/* The set-up as drill lines (request M-100), of either edition: Blank, one Add task with
+ * side 0 per task, one Add hub per hub, in number order, eight numbers a line, unused ones
+ * 0, each line with its newline. They build edition 2. Written to the start of a lent
+ * buffer of `room` bytes, which must not overlap the table; the bytes behind the listing
+ * are left. */
 second_listing_reply second_listing(const uint32_t *table, size_t words, uint8_t *text,
                                     size_t room);
 

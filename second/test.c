@@ -266,7 +266,7 @@ static int check_pair(bench *at, const uint32_t *a, const uint32_t *b)
     int same = of_a.length == of_b.length && memcmp(text_a, text_b, of_a.length) == 0;
 
     if (of_a.refusal != ACCEPTED || of_b.refusal != ACCEPTED)
-        fail(at, NULL, "638 bytes are enough for every listing");
+        fail(at, NULL, "704 bytes are enough for every listing");
     expect_stripped(a, words_of(at), stripped_a, words_of(at));
     expect_stripped(b, words_of(at), stripped_b, words_of(at));
     if (same != expect_same_set_up(a, b, words_of(at)) ||
@@ -1277,16 +1277,16 @@ static void case_listings(bench *at)
         {10, 0, 6, 0, 0, 1, 0},  {1, 0, 5, 1, 2, 0, 99},  {4, 0, 2, 0, 0, 0, 0},
         {7, 0, 0, 0, 0, 9, 0},
     };
-    static const char blank_text[] = "0 0 0 0 0 0 0\n";
-    static const char text[] = "0 0 0 0 0 0 0\n"
-                               "9 0 5 0 0 0 0\n9 0 130 0 0 0 0\n9 0 42 0 0 0 0\n"
-                               "10 0 4 0 0 1 0\n10 0 2 0 0 65535 40\n10 0 3 0 0 0 0\n"
-                               "10 0 1 0 0 1 0\n10 0 5 0 0 1 0\n10 0 6 0 0 1 0\n";
+    static const char blank_text[] = "0 0 0 0 0 0 0 0\n";
+    static const char text[] = "0 0 0 0 0 0 0 0\n"
+                               "9 0 5 0 0 0 0 0\n9 0 130 0 0 0 0 0\n9 0 42 0 0 0 0 0\n"
+                               "10 0 4 0 0 1 0 0\n10 0 2 0 0 65535 40 0\n10 0 3 0 0 0 0 0\n"
+                               "10 0 1 0 0 1 0 0\n10 0 5 0 0 1 0 0\n10 0 6 0 0 1 0 0\n";
     uint32_t table[WORDS_MOST] = {0};
     uint8_t listed[TEXT_BYTES];
 
     begin(at, "listings written out", 0);
-    if (check_listing(at, table, 0).refusal != 2 || check_listing(at, table, 638).refusal != 2)
+    if (check_listing(at, table, 0).refusal != 2 || check_listing(at, table, 704).refusal != 2)
         fail(at, NULL, "all zeros isn't well formed, and 2 comes before 8");
     for (size_t i = 0; i < sizeof calls / sizeof *calls; i++) {
         const char *whole = i == 0 ? blank_text : text;
@@ -1324,9 +1324,9 @@ static void case_longest(bench *at)
         second_call(table, words_of(at), task);
         second_call(table, words_of(at), hub);
     }
-    for (size_t room = 0; room <= 638 + PAST; room++)
-        if (check_listing(at, table, room).length != (room < 638 ? 0u : 638u))
-            fail(at, NULL, "the longest listing has 638 bytes");
+    for (size_t room = 0; room <= 704 + PAST; room++)
+        if (check_listing(at, table, room).length != (room < 704 ? 0u : 704u))
+            fail(at, NULL, "the longest listing has 704 bytes");
 }
 
 /* ---- Families ---------------------------------------------------------- */

@@ -1,7 +1,9 @@
 /* A small panel: a fan reversal by checklist, with two tasks and four hubs. It
  * prints of each step which of met, failed and timed out it was: a step that
- * came back is not a step that was met. Then crews that all want the fan: whoever
- * has to wait is told how many are ahead.
+ * came back is not a step that was met. Orders to the drive are messages of 64 bits,
+ * on a table of edition 2. Then crews that all want the fan: whoever has to wait is
+ * told how many are ahead. Last an old table, of edition 1, that is moved up while
+ * requests wait in it, and later back down.
  *
  * The host owns the table and acts for the task that `next` names. When no task
  * can run it lets a tick pass. A task that waited finds what became of its
@@ -12,77 +14,99 @@
 
 #include "hub_kernel.h"
 
-enum { CHECKLIST, DRIVE, TASKS };                /* the tasks, in the order they are added */
-enum { FAN, ORDERS, STOPPED, REVERSED };         /* the hubs likewise */
-enum { STOP = 1, REVERSE = 2, FULL_SPEED = 3 };  /* orders to the drive */
-enum { TIMEOUT = 4 };                            /* ticks that the checklist waits for the drive */
-enum { WORK = 3 };                               /* ticks that a crew needs the fan */
+enum { CHECKLIST, DRIVE, TASKS };        /* the tasks, in the order they are added */
+enum { FAN, ORDERS, STOPPED, REVERSED }; /* the hubs likewise */
+enum { STOP = 1, REVERSE = 2, RUN = 3 }; /* what an order to the drive says */
+enum { FULL_SPEED = 1480 };              /* turns a minute */
+enum { TIMEOUT = 4 };                    /* ticks that the checklist waits for the drive */
+enum { WORK = 3 };                       /* ticks that a crew needs the fan */
 
 typedef struct {
     const char *what; /* NULL ends the steps */
-    uint32_t service, target, side, mode, ticks, word;
+    uint32_t service, target, side, mode, ticks, word, high;
 } step;
 
-#define PUT(hub, mode, word) HUB_KERNEL_HUB_REQUEST, hub, HUB_KERNEL_PUT, mode, 0, word
-#define GET(hub, mode) HUB_KERNEL_HUB_REQUEST, hub, HUB_KERNEL_GET, mode, 0, 0
-#define GET_WITHIN(hub, ticks) HUB_KERNEL_HUB_REQUEST, hub, HUB_KERNEL_GET, HUB_KERNEL_WT, ticks, 0
-#define SLEEP(ticks) HUB_KERNEL_SLEEP, 0, 0, 0, ticks, 0
+/* An order is 64 bits: turns a minute in the low word, what to do in the high one. */
+#define ORDER(what, turns) \
+    HUB_KERNEL_HUB_REQUEST, ORDERS, HUB_KERNEL_PUT, HUB_KERNEL_NW, 0, turns, what
+#define PUT(hub, mode) HUB_KERNEL_HUB_REQUEST, hub, HUB_KERNEL_PUT, mode, 0, 0, 0
+#define GET(hub, mode) HUB_KERNEL_HUB_REQUEST, hub, HUB_KERNEL_GET, mode, 0, 0, 0
+#define GET_WITHIN(hub, ticks) \
+    HUB_KERNEL_HUB_REQUEST, hub, HUB_KERNEL_GET, HUB_KERNEL_WT, ticks, 0, 0
+#define SLEEP(ticks) HUB_KERNEL_SLEEP, 0, 0, 0, ticks, 0, 0
 
 static const step checklist[] = {
     {"take the fan", GET(FAN, HUB_KERNEL_W)},
-    {"order: stop", PUT(ORDERS, HUB_KERNEL_NW, STOP)},
+    {"order: stop", ORDER(STOP, 0)},
     {"the fan stands", GET_WITHIN(STOPPED, TIMEOUT)},
-    {"order: reverse", PUT(ORDERS, HUB_KERNEL_NW, REVERSE)},
-    {"order: full speed", PUT(ORDERS, HUB_KERNEL_NW, FULL_SPEED)},
+    {"order: reverse", ORDER(REVERSE, 0)},
+    {"order: full speed", ORDER(RUN, FULL_SPEED)},
     {"the fan runs in reverse", GET_WITHIN(REVERSED, TIMEOUT)},
-    {"give the fan back", PUT(FAN, HUB_KERNEL_W, 0)},
-    {NULL, 0, 0, 0, 0, 0, 0},
+    {"give the fan back", PUT(FAN, HUB_KERNEL_W)},
+    {.what = NULL},
 };
 
 static const step prompt_drive[] = {
     {"read an order", GET(ORDERS, HUB_KERNEL_W)},
     {"slow down", SLEEP(3)},
-    {"say that it stands", PUT(STOPPED, HUB_KERNEL_W, 0)},
+    {"say that it stands", PUT(STOPPED, HUB_KERNEL_W)},
     {"read an order", GET(ORDERS, HUB_KERNEL_W)},
     {"read an order", GET(ORDERS, HUB_KERNEL_W)},
     {"speed up", SLEEP(2)},
-    {"say that it runs in reverse", PUT(REVERSED, HUB_KERNEL_W, 0)},
-    {NULL, 0, 0, 0, 0, 0, 0},
+    {"say that it runs in reverse", PUT(REVERSED, HUB_KERNEL_W)},
+    {.what = NULL},
 };
 
 static const step stuck_drive[] = {
     {"read an order", GET(ORDERS, HUB_KERNEL_W)},
     {"slow down", SLEEP(3)},
-    {"say that it stands", PUT(STOPPED, HUB_KERNEL_W, 0)},
+    {"say that it stands", PUT(STOPPED, HUB_KERNEL_W)},
     {"cool down", SLEEP(100)},
-    {NULL, 0, 0, 0, 0, 0, 0},
+    {.what = NULL},
 };
 
 typedef struct {
-    uint8_t table[HUB_KERNEL_TABLE_BYTES];
-    uint32_t next; /* of the last accepted call */
+    uint8_t table[HUB_KERNEL_TABLE_BYTES_2]; /* room for either edition */
+    size_t bytes;                            /* of the table: its edition */
+    uint32_t next;                           /* of the last accepted call */
     uint32_t ticks;
 } panel;
 
 /* ---- The kernel -------------------------------------------------------- */
 
-/* Nothing that this host asks for is ever refused: if it is, the host is wrong. */
+static hub_kernel_reply try_to(panel *of, uint32_t caller, step call)
+{
+    hub_kernel_reply reply = hub_kernel_call(of->table, of->bytes, call.service, caller,
+                                             call.target, call.side, call.mode, call.ticks,
+                                             call.word, call.high);
+    if (reply.refusal == HUB_KERNEL_ACCEPTED)
+        of->next = reply.next;
+    return reply;
+}
+
+/* What this host asks for is never refused: if it is, the host is wrong. */
 static hub_kernel_reply ask(panel *of, uint32_t caller, step call)
 {
-    hub_kernel_reply reply = hub_kernel_call(of->table, sizeof of->table, call.service, caller,
-                                             call.target, call.side, call.mode, call.ticks,
-                                             call.word);
+    hub_kernel_reply reply = try_to(of, caller, call);
+
     if (reply.refusal != HUB_KERNEL_ACCEPTED) {
         printf("service %" PRIu32 ": refusal %" PRIu32 "\n", call.service, reply.refusal);
         exit(1);
     }
-    of->next = reply.next;
     return reply;
+}
+
+/* An empty table, of the edition that has so many bytes. */
+static void begin(panel *it, size_t bytes)
+{
+    it->bytes = bytes;
+    it->ticks = 0;
+    ask(it, 0, (step){.service = HUB_KERNEL_BLANK});
 }
 
 static void pass_tick(panel *of)
 {
-    ask(of, 0, (step){"", HUB_KERNEL_TICK, 0, 0, 0, 0, 0});
+    ask(of, 0, (step){.service = HUB_KERNEL_TICK});
     of->ticks++;
 }
 
@@ -92,30 +116,50 @@ static uint32_t word_at(const panel *of, size_t place)
     return byte[0] | (uint32_t)byte[1] << 8 | (uint32_t)byte[2] << 16 | (uint32_t)byte[3] << 24;
 }
 
+static int is_edition_2(const panel *it) { return it->bytes == HUB_KERNEL_TABLE_BYTES_2; }
+
+/* A word of a task's record: at one place in edition 1, at another in edition 2. */
+static uint32_t task_word(const panel *of, uint32_t task, size_t place_1, size_t place_2)
+{
+    return is_edition_2(of)
+               ? word_at(of, HUB_KERNEL_TASKS_AT + HUB_KERNEL_TASK_BYTES_2 * task + place_2)
+               : word_at(of, HUB_KERNEL_TASKS_AT + HUB_KERNEL_TASK_BYTES * task + place_1);
+}
+
 static uint32_t answer_of(const panel *of, uint32_t task)
 {
-    return word_at(of, HUB_KERNEL_TASKS_AT + HUB_KERNEL_TASK_BYTES * task + HUB_KERNEL_TASK_ANSWER);
+    return task_word(of, task, HUB_KERNEL_TASK_ANSWER, HUB_KERNEL_TASK_ANSWER_2);
+}
+
+static uint32_t low_word_of(const panel *of, uint32_t task)
+{
+    return task_word(of, task, HUB_KERNEL_TASK_WORD, HUB_KERNEL_TASK_WORD);
+}
+
+/* Edition 1 has no such word. */
+static uint32_t high_word_of(const panel *of, uint32_t task)
+{
+    return is_edition_2(of) ? task_word(of, task, 0, HUB_KERNEL_TASK_HIGH_2) : 0;
 }
 
 static uint32_t waiters_at(const panel *of, uint32_t hub)
 {
-    return hub_kernel_summary(of->table, sizeof of->table, hub).count;
+    return hub_kernel_summary(of->table, of->bytes, hub).count;
 }
 
 static void add_task(panel *to, uint32_t priority)
 {
-    ask(to, 0, (step){"", HUB_KERNEL_ADD_TASK, priority, 1, 0, 0, 0});
+    ask(to, 0, (step){.service = HUB_KERNEL_ADD_TASK, .target = priority, .side = 1});
 }
 
 static void add_hub(panel *to, uint32_t kind, uint32_t limit)
 {
-    ask(to, 0, (step){"", HUB_KERNEL_ADD_HUB, kind, 0, 0, limit, 0});
+    ask(to, 0, (step){.service = HUB_KERNEL_ADD_HUB, .target = kind, .ticks = limit});
 }
 
 static void set_up(panel *it)
 {
-    it->ticks = 0;
-    ask(it, 0, (step){"", HUB_KERNEL_BLANK, 0, 0, 0, 0, 0});
+    begin(it, HUB_KERNEL_TABLE_BYTES_2);
     add_task(it, 20); /* CHECKLIST */
     add_task(it, 10); /* DRIVE, more urgent */
     add_hub(it, HUB_KERNEL_RESOURCE, 1); /* FAN */
@@ -137,6 +181,24 @@ static const char *class_of(uint32_t answer)
         return "timed out";
     default:
         return "not answered";
+    }
+}
+
+/* The order that the task received; both of its words stand in the task's record. */
+static void print_order(const panel *of, uint32_t task)
+{
+    switch (high_word_of(of, task)) {
+    case STOP:
+        printf("stop\n");
+        break;
+    case REVERSE:
+        printf("reverse\n");
+        break;
+    case RUN:
+        printf("run at %" PRIu32 " turns a minute\n", low_word_of(of, task));
+        break;
+    default:
+        printf("an order that the drive doesn't know\n");
     }
 }
 
@@ -194,6 +256,9 @@ static void walk(const char *name, const step *drive)
             classes[answer]++;
             print_step(&it, (int)(at[task] - checklist) + 1, at[task], answer,
                        it.ticks - since[task]);
+        } else if (at[task]->service == HUB_KERNEL_HUB_REQUEST && at[task]->target == ORDERS) {
+            printf("        the drive is told: ");
+            print_order(&it, task);
         }
         open[task] = 0;
         at[task]++;
@@ -245,7 +310,7 @@ static stage go_on(panel *at, uint32_t crew, stage was)
         ask(at, crew, (step){"", SLEEP(WORK)});
         return WORKS;
     case WORKS:
-        ask(at, crew, (step){"", PUT(FAN, HUB_KERNEL_W, 0)});
+        ask(at, crew, (step){"", PUT(FAN, HUB_KERNEL_W)});
         return GONE;
     default:
         ask(at, crew, (step){"", SLEEP(HUB_KERNEL_TICKS_MAX)});
@@ -261,8 +326,7 @@ static void queue_for_the_fan(void)
     panel it;
 
     printf("%d crews want the fan\n", (int)CREWS);
-    it.ticks = 0;
-    ask(&it, 0, (step){"", HUB_KERNEL_BLANK, 0, 0, 0, 0, 0});
+    begin(&it, HUB_KERNEL_TABLE_BYTES_2);
     add_hub(&it, HUB_KERNEL_RESOURCE, 1); /* FAN */
     for (uint32_t crew = 0; crew < CREWS; crew++)
         now[crew] = come(&it, crew);
@@ -278,10 +342,141 @@ static void queue_for_the_fan(void)
     }
 }
 
+/* ---- The old table ----------------------------------------------------- */
+
+/* Who is at the old panel, in the order they are added. Whoever is added runs at once,
+ * since all before it wait; control comes last and is the least urgent. */
+static const struct {
+    const char *name;
+    uint32_t priority;
+    step asks;
+} staff[] = {
+    {"drive", 10, {"an order", GET(ORDERS, HUB_KERNEL_W)}},
+    {"day crew", 20, {"the fan", GET_WITHIN(FAN, 4)}},
+    {"night crew", 20, {"the fan", GET(FAN, HUB_KERNEL_W)}},
+    {"inspector", 15, {"the standstill", GET_WITHIN(STOPPED, 2)}},
+    {"control", 30, {.what = NULL}},
+};
+enum { OLD_DRIVE, DAY_CREW, NIGHT_CREW, INSPECTOR, CONTROL, STAFF };
+
+/* The drive has the fan, and waits for an order; the others wait, too. */
+static void come_all(panel *to)
+{
+    for (uint32_t who = 0; who < STAFF; who++) {
+        add_task(to, staff[who].priority);
+        if (who == OLD_DRIVE)
+            ask(to, who, (step){"", GET(FAN, HUB_KERNEL_W)});
+        if (staff[who].asks.what == NULL)
+            continue;
+        hub_kernel_reply reply = ask(to, who, staff[who].asks);
+        printf("%-12s waits for %s, %" PRIu32 " ahead", staff[who].name, staff[who].asks.what,
+               reply.ahead);
+        if (staff[who].asks.ticks > 0)
+            printf(", at most %" PRIu32 " ticks", staff[who].asks.ticks);
+        printf("\n");
+    }
+}
+
+static uint32_t all_waiters(const panel *of)
+{
+    return waiters_at(of, FAN) + waiters_at(of, ORDERS) + waiters_at(of, STOPPED);
+}
+
+/* To the other edition. The kernel writes a table of its own; the host goes on in that one
+ * where the move is done, and in the old one where it is refused. */
+static void move(panel *it)
+{
+    uint32_t waited = all_waiters(it);
+    int up = !is_edition_2(it);
+    panel new = {.bytes = up ? HUB_KERNEL_TABLE_BYTES_2 : HUB_KERNEL_TABLE_BYTES,
+                 .next = it->next,
+                 .ticks = it->ticks};
+    uint32_t refusal = (up ? hub_kernel_move_up : hub_kernel_move_down)(it->table, it->bytes,
+                                                                        new.table, new.bytes);
+
+    if (refusal == HUB_KERNEL_HIGH_WORD) {
+        printf("move down: refused, there is a message of more than 32 bits\n");
+    } else if (refusal != HUB_KERNEL_ACCEPTED) {
+        printf("move: refusal %" PRIu32 "\n", refusal);
+        exit(1);
+    } else {
+        *it = new;
+        printf("move %s: done, %zu bytes; %" PRIu32 " waited, %" PRIu32 " wait\n",
+               up ? "up" : "down", it->bytes, waited, all_waiters(it));
+    }
+}
+
+/* Control orders the drive to run. An edition 1 table has no room for such an order. */
+static void order_to_run(panel *at)
+{
+    hub_kernel_reply reply = try_to(at, CONTROL, (step){"", ORDER(RUN, FULL_SPEED)});
+
+    printf("%-12s orders the drive to run: %s\n", staff[CONTROL].name,
+           reply.refusal == HUB_KERNEL_BAD_ARGUMENT ? "refused, 64 bits on edition 1"
+                                                    : class_of(reply.answer));
+}
+
+/* The one that runs waited: what became of its request stands in its record. */
+static void tell(const panel *of, uint32_t who)
+{
+    printf("%-12s %s after %" PRIu32 " tick%s", staff[who].name, class_of(answer_of(of, who)),
+           of->ticks, of->ticks == 1 ? "" : "s");
+    if (who != OLD_DRIVE) {
+        printf("\n");
+        return;
+    }
+    printf(", told: ");
+    print_order(of, who);
+}
+
+static void give_back(panel *to, uint32_t who)
+{
+    ask(to, who, (step){"", PUT(FAN, HUB_KERNEL_W)});
+    printf("%-12s gives the fan back\n", staff[who].name);
+}
+
+/* Has nothing left to do. */
+static void go(panel *from, uint32_t who)
+{
+    ask(from, who, (step){"", SLEEP(HUB_KERNEL_TICKS_MAX)});
+}
+
+/* Four wait; one of them is met on edition 2, one times out there, and the last two are met
+ * before and after the move back. */
+static void move_the_old_table(void)
+{
+    panel it;
+
+    printf("a table of edition 1 is moved up while requests wait\n");
+    begin(&it, HUB_KERNEL_TABLE_BYTES);
+    add_hub(&it, HUB_KERNEL_RESOURCE, 1); /* FAN */
+    add_hub(&it, HUB_KERNEL_FIFO, 1);     /* ORDERS */
+    add_hub(&it, HUB_KERNEL_EVENT, 1);    /* STOPPED */
+    come_all(&it);
+    order_to_run(&it);
+    pass_tick(&it);
+    move(&it);
+    order_to_run(&it); /* the drive is met, and more urgent than all others */
+    tell(&it, OLD_DRIVE);
+    move(&it); /* the order stands in the drive's record */
+    pass_tick(&it);
+    give_back(&it, OLD_DRIVE); /* and now it doesn't: this call's own answer does */
+    go(&it, OLD_DRIVE);
+    tell(&it, INSPECTOR);
+    go(&it, INSPECTOR);
+    tell(&it, DAY_CREW);
+    move(&it);
+    pass_tick(&it);
+    give_back(&it, DAY_CREW);
+    go(&it, DAY_CREW);
+    tell(&it, NIGHT_CREW);
+}
+
 int main(void)
 {
     walk("the drive answers", prompt_drive);
     walk("the drive hangs", stuck_drive);
     queue_for_the_fan();
+    move_the_old_table();
     return 0;
 }

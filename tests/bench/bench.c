@@ -1,7 +1,8 @@
 /* Times of the proved kernel against the second program, side by side in one
- * process: the same recorded accepted calls, a refused call, the summary. The
- * floor is reading the 2,400 bytes once. Medians of many rounds, in each of
- * which all take turns; what counts are the ratios.
+ * process: the same recorded accepted calls, a refused call, the summary, on each edition,
+ * and the moves. The floor is reading the table's bytes once. Medians of many rounds, in
+ * each of which all take turns; what counts are the ratios. The rows of edition 1 are drawn
+ * as they were before there was an edition 2, without high words.
  *
  * The second program is timed over bytes, as the kernel is, and over its own
  * words, where it has no bytes to turn into words. */
@@ -23,8 +24,9 @@ enum { KERNEL, SECOND_BYTES, SECOND_WORDS, FLOOR, SIDES };
 
 typedef struct {
     const char *name;
-    uint32_t words[WORDS]; /* the table before the first call */
-    uint8_t bytes[BYTES];  /* the same */
+    const layout *form;         /* the table's edition */
+    uint32_t words[WORDS_MOST]; /* the table before the first call */
+    uint8_t bytes[BYTES_MOST];  /* the same */
     uint32_t calls[CALLS][CALL_NUMBERS];
     uint32_t count;
     uint32_t requests; /* how many of the calls are service 1 */
@@ -43,10 +45,12 @@ static uint64_t nanoseconds(void)
     return (uint64_t)now.tv_sec * 1000000000 + (uint64_t)now.tv_nsec;
 }
 
-static void to_bytes(uint8_t *bytes, const uint32_t *words)
+static size_t bytes_of(const load *it) { return 4 * (size_t)it->form->words; }
+
+static void lay_bytes(load *it)
 {
-    for (size_t i = 0; i < BYTES; i++)
-        bytes[i] = (uint8_t)(words[i / 4] >> i % 4 * 8);
+    for (size_t i = 0; i < bytes_of(it); i++)
+        it->bytes[i] = (uint8_t)(it->words[i / 4] >> i % 4 * 8);
 }
 
 /* ---- The loads --------------------------------------------------------- */
@@ -68,7 +72,7 @@ static uint32_t longest_list(const uint32_t *words)
  * accepted calls, each drawn on the table that the one before left. */
 static int record(load *it, uint64_t seed, uint32_t tasks, uint32_t hubs)
 {
-    uint32_t words[WORDS] = {0}, call[CALL_NUMBERS];
+    uint32_t words[WORDS_MOST] = {0}, call[CALL_NUMBERS];
     gen_random random;
     gen_mood mood;
 
@@ -77,29 +81,31 @@ static int record(load *it, uint64_t seed, uint32_t tasks, uint32_t hubs)
     mood.tasks = tasks;
     mood.hubs = hubs;
     mood.refused = 0;
+    mood.high = it->form->edition == EDITION_1 ? 0 : 60;
     it->count = it->requests = it->entries = 0;
     for (uint32_t i = 0; i < SETTLE + 4 * CALLS && it->count < CALLS; i++) {
         gen_call(&random, &mood, words, call);
         if (i < SETTLE) {
-            second_call(words, WORDS, call);
+            second_call(words, it->form->words, call);
             memcpy(it->words, words, sizeof words);
         } else if (call[C_SERVICE] != BLANK && call[C_SERVICE] < ADD_TASK &&
-                   second_call(words, WORDS, call).refusal == ACCEPTED) {
+                   second_call(words, it->form->words, call).refusal == ACCEPTED) {
             memcpy(it->calls[it->count++], call, sizeof call);
             it->requests += call[C_SERVICE] == HUB_REQUEST;
             it->entries += longest_list(words);
         }
     }
-    to_bytes(it->bytes, it->words);
+    lay_bytes(it);
     return it->count == CALLS && it->words[TASKS_IN_USE_AT] == tasks &&
            it->words[HUBS_IN_USE_AT] == hubs;
 }
 
 /* The first run half of whose calls are hub requests and whose longest waiting
  * list has `entries` entries or more in the mean. */
-static load draw_load(const char *name, uint32_t tasks, uint32_t hubs, uint32_t entries)
+static load draw_load(const char *name, const layout *form, uint32_t tasks, uint32_t hubs,
+                      uint32_t entries)
 {
-    load it;
+    load it = {.form = form};
 
     for (uint64_t seed = 0; seed < SEEDS; seed++)
         if (record(&it, seed, tasks, hubs) && it.requests >= CALLS / 2 &&
@@ -118,11 +124,11 @@ static load draw_damaged(const char *name, const load *like)
     load it = *like;
 
     it.name = name;
-    it.words[WORDS - 1] = 1;
-    to_bytes(it.bytes, it.words);
+    it.words[it.form->words - 1] = 1;
+    lay_bytes(&it);
     for (uint32_t i = 0; i < CALLS; i++)
         memcpy(it.calls[i], (uint32_t[CALL_NUMBERS]){TICK}, sizeof it.calls[i]);
-    if (second_call(it.words, WORDS, it.calls[0]).refusal != NOT_WELL_FORMED) {
+    if (second_call(it.words, it.form->words, it.calls[0]).refusal != NOT_WELL_FORMED) {
         fprintf(stderr, "bench: %s isn't refused\n", name);
         exit(1);
     }
@@ -130,22 +136,37 @@ static load draw_damaged(const char *name, const load *like)
 }
 
 /* 16 tasks, and of these so many that wait at one Port. */
-static load draw_queue(const char *name, uint32_t waiters)
+static load draw_queue(const char *name, const layout *form, uint32_t waiters)
 {
-    load it = {.name = name, .count = CALLS, .hubs = 1};
+    load it = {.name = name, .form = form, .count = CALLS, .hubs = 1};
     uint32_t next = 0;
 
-    second_call(it.words, WORDS, (uint32_t[CALL_NUMBERS]){BLANK});
-    second_call(it.words, WORDS, (uint32_t[CALL_NUMBERS]){ADD_HUB, 0, PORT});
+    second_call(it.words, form->words, (uint32_t[CALL_NUMBERS]){BLANK});
+    second_call(it.words, form->words, (uint32_t[CALL_NUMBERS]){ADD_HUB, 0, PORT});
     for (uint32_t task = 0; task < TASKS; task++)
-        next = second_call(it.words, WORDS, (uint32_t[CALL_NUMBERS]){ADD_TASK, 0, task, 1}).next;
+        next = second_call(it.words, form->words, (uint32_t[CALL_NUMBERS]){ADD_TASK, 0, task, 1}).next;
     for (uint32_t i = 0; i < waiters; i++)
-        next = second_call(it.words, WORDS, (uint32_t[CALL_NUMBERS]){HUB_REQUEST, next - 1, 0, GET, W}).next;
-    if (second_summary(it.words, WORDS, 0).count != waiters) {
+        next = second_call(it.words, form->words, (uint32_t[CALL_NUMBERS]){HUB_REQUEST, next - 1, 0, GET, W}).next;
+    if (second_summary(it.words, form->words, 0).count != waiters) {
         fprintf(stderr, "bench: %s: other waiters\n", name);
         exit(1);
     }
-    to_bytes(it.bytes, it.words);
+    lay_bytes(&it);
+    return it;
+}
+
+/* An edition 1 table, moved up: no high word keeps it from moving down again. */
+static load draw_moved(const char *name, const load *from)
+{
+    load it = *from;
+
+    it.name = name;
+    it.form = &layouts[1];
+    if (second_move_up(from->words, WORDS, it.words, WORDS_2) != ACCEPTED) {
+        fprintf(stderr, "bench: %s: not moved\n", name);
+        exit(1);
+    }
+    lay_bytes(&it);
     return it;
 }
 
@@ -158,8 +179,8 @@ static uint32_t kernel_calls(const load *it, uint8_t *bytes, uint32_t *words)
     (void)words;
     for (uint32_t i = 0; i < it->count; i++) {
         const uint32_t *call = it->calls[i];
-        hub_kernel_reply reply = hub_kernel_call(bytes, BYTES, call[0], call[1], call[2], call[3],
-                                                 call[4], call[5], call[6]);
+        hub_kernel_reply reply = hub_kernel_call(bytes, bytes_of(it), call[0], call[1], call[2],
+                                                 call[3], call[4], call[5], call[6], call[7]);
         sum += reply.next + reply.ahead;
     }
     return sum;
@@ -171,7 +192,7 @@ static uint32_t second_byte_calls(const load *it, uint8_t *bytes, uint32_t *word
 
     (void)words;
     for (uint32_t i = 0; i < it->count; i++) {
-        second_reply reply = second_call_bytes(bytes, BYTES, it->calls[i]);
+        second_reply reply = second_call_bytes(bytes, bytes_of(it), it->calls[i]);
         sum += reply.next + reply.ahead;
     }
     return sum;
@@ -183,7 +204,7 @@ static uint32_t second_word_calls(const load *it, uint8_t *bytes, uint32_t *word
 
     (void)bytes;
     for (uint32_t i = 0; i < it->count; i++) {
-        second_reply reply = second_call(words, WORDS, it->calls[i]);
+        second_reply reply = second_call(words, it->form->words, it->calls[i]);
         sum += reply.next + reply.ahead;
     }
     return sum;
@@ -195,7 +216,7 @@ static uint32_t kernel_summaries(const load *it, uint8_t *bytes, uint32_t *words
 
     (void)words;
     for (uint32_t i = 0; i < it->count; i++)
-        sum += hub_kernel_summary(bytes, BYTES, i % it->hubs).mask;
+        sum += hub_kernel_summary(bytes, bytes_of(it), i % it->hubs).mask;
     return sum;
 }
 
@@ -205,7 +226,7 @@ static uint32_t second_byte_summaries(const load *it, uint8_t *bytes, uint32_t *
 
     (void)words;
     for (uint32_t i = 0; i < it->count; i++)
-        sum += second_summary_bytes(bytes, BYTES, i % it->hubs).mask;
+        sum += second_summary_bytes(bytes, bytes_of(it), i % it->hubs).mask;
     return sum;
 }
 
@@ -215,26 +236,80 @@ static uint32_t second_word_summaries(const load *it, uint8_t *bytes, uint32_t *
 
     (void)bytes;
     for (uint32_t i = 0; i < it->count; i++)
-        sum += second_summary(words, WORDS, i % it->hubs).mask;
+        sum += second_summary(words, it->form->words, i % it->hubs).mask;
+    return sum;
+}
+
+/* The move that the table's edition has, to a table that is there already. */
+static uint32_t kernel_moves(const load *it, uint8_t *bytes, uint32_t *words)
+{
+    uint8_t to[BYTES_MOST] = {0};
+    uint32_t sum = 0;
+    int up = it->form->edition == EDITION_1;
+
+    (void)words;
+    for (uint32_t i = 0; i < it->count; i++) {
+        sum += up ? hub_kernel_move_up(bytes, BYTES, to, BYTES_2)
+                  : hub_kernel_move_down(bytes, BYTES_2, to, BYTES);
+        sum += to[i];
+    }
+    return sum;
+}
+
+static uint32_t second_byte_moves(const load *it, uint8_t *bytes, uint32_t *words)
+{
+    uint8_t to[BYTES_MOST] = {0};
+    uint32_t sum = 0;
+    int up = it->form->edition == EDITION_1;
+
+    (void)words;
+    for (uint32_t i = 0; i < it->count; i++) {
+        sum += up ? second_move_up_bytes(bytes, BYTES, to, BYTES_2)
+                  : second_move_down_bytes(bytes, BYTES_2, to, BYTES);
+        sum += to[i];
+    }
+    return sum;
+}
+
+/* The byte that the others add, of words. */
+static uint32_t second_word_moves(const load *it, uint8_t *bytes, uint32_t *words)
+{
+    uint32_t to[WORDS_MOST] = {0}, sum = 0;
+    int up = it->form->edition == EDITION_1;
+
+    (void)bytes;
+    for (uint32_t i = 0; i < it->count; i++) {
+        sum += up ? second_move_up(words, WORDS, to, WORDS_2)
+                  : second_move_down(words, WORDS_2, to, WORDS);
+        sum += to[i / 4] >> i % 4 * 8 & 0xFF;
+    }
     return sum;
 }
 
 /* The bytes are told to change each time, or the compiler would read them once.
- * Unrolled, so that the loop's own place in the program weighs nothing. */
-static uint32_t floor_reads(const load *it, uint8_t *bytes, uint32_t *words)
+ * Unrolled, so that the loop's own place in the program weighs nothing; and made for each
+ * length, which the compiler then knows. */
+static inline __attribute__((always_inline)) uint32_t read_bytes(const load *it, uint8_t *bytes,
+                                                                 size_t length)
 {
     uint32_t sum = 0, word;
 
-    (void)words;
     for (uint32_t i = 0; i < it->count; i++) {
         __asm__ volatile("" : : "r"(bytes) : "memory");
 #pragma GCC unroll 10
-        for (size_t j = 0; j < BYTES; j += sizeof word) {
+        for (size_t j = 0; j < length; j += sizeof word) {
             memcpy(&word, bytes + j, sizeof word);
             sum += word;
         }
     }
     return sum;
+}
+
+static uint32_t floor_reads(const load *it, uint8_t *bytes, uint32_t *words)
+{
+    (void)words;
+    return it->form->edition == EDITION_1 ? read_bytes(it, bytes, BYTES)
+                                          : read_bytes(it, bytes, BYTES_2);
 }
 
 /* ---- The rounds -------------------------------------------------------- */
@@ -259,11 +334,11 @@ static void measure(const load *it, const work sides[SIDES], uint32_t rounds)
 
     for (uint32_t round = 0; round < rounds; round++)
         for (int side = 0; side < SIDES; side++) {
-            uint8_t bytes[BYTES];
-            uint32_t words[WORDS];
+            uint8_t bytes[BYTES_MOST];
+            uint32_t words[WORDS_MOST];
 
-            memcpy(bytes, it->bytes, sizeof bytes);
-            memcpy(words, it->words, sizeof words);
+            memcpy(bytes, it->bytes, bytes_of(it));
+            memcpy(words, it->words, bytes_of(it));
             uint64_t since = nanoseconds();
             sums[side] = sides[side](it, bytes, words);
             times[side][round] = nanoseconds() - since;
@@ -286,54 +361,91 @@ static uint32_t repeat(const load *it, work side, uint32_t rounds)
     uint32_t sum = 0;
 
     for (uint32_t round = 0; round < rounds; round++) {
-        uint8_t bytes[BYTES];
+        uint8_t bytes[BYTES_MOST];
 
-        memcpy(bytes, it->bytes, sizeof bytes);
+        memcpy(bytes, it->bytes, bytes_of(it));
         sum += side(it, bytes, NULL);
     }
     return sum;
 }
 
+/* ---- The rows ---------------------------------------------------------- */
+
+static const work calls[SIDES] = {kernel_calls, second_byte_calls, second_word_calls, floor_reads};
+static const work summaries[SIDES] = {kernel_summaries, second_byte_summaries,
+                                      second_word_summaries, floor_reads};
+static const work moves[SIDES] = {kernel_moves, second_byte_moves, second_word_moves, floor_reads};
+
+typedef struct {
+    load of;
+    const work *sides;
+} row;
+
+enum { ROWS_OF_EDITION = 8, ROWS = 2 * ROWS_OF_EDITION + 2 };
+
+static void named(row *to, const load *of, const char *name, const work *sides)
+{
+    to->of = *of;
+    to->of.name = name;
+    to->sides = sides;
+}
+
+static void draw_rows(row *rows, const layout *form)
+{
+    load few = draw_load("8/8", form, 8, 8, 2), full = draw_load("16/16", form, 16, 16, 10);
+    load damaged = draw_damaged("damaged", &full);
+    load none = draw_queue("none", form, 0), one = draw_queue("one", form, 1);
+    load fifteen = draw_queue("fifteen", form, 15);
+
+    named(&rows[0], &few, "calls, 8 tasks, 8 hubs", calls);
+    named(&rows[1], &full, "calls, 16 tasks, 16 hubs, long lists", calls);
+    named(&rows[2], &damaged, "refused, last word damaged, 16/16", calls);
+    named(&rows[3], &few, "summary, 8/8", summaries);
+    named(&rows[4], &full, "summary, 16/16, long lists", summaries);
+    named(&rows[5], &none, "summary of a list without waiters", summaries);
+    named(&rows[6], &one, "summary of a list of one", summaries);
+    named(&rows[7], &fifteen, "summary of a list of fifteen", summaries);
+}
+
+static void print_edition(const row *rows, uint32_t rounds)
+{
+    printf("edition %" PRIu32 "; longest waiting list, mean over the calls: %.1f at 8/8, %.1f at 16/16\n",
+           rows->of.form->edition, (double)rows[0].of.entries / CALLS,
+           (double)rows[1].of.entries / CALLS);
+    for (int i = 0; i < ROWS_OF_EDITION; i++)
+        measure(&rows[i].of, rows[i].sides, rounds);
+}
+
 int main(int count, char **words)
 {
-    static const work calls[SIDES] = {kernel_calls, second_byte_calls, second_word_calls,
-                                      floor_reads};
-    static const work summaries[SIDES] = {kernel_summaries, second_byte_summaries,
-                                          second_word_summaries, floor_reads};
+    static row rows[ROWS]; /* edition 1, edition 2, the moves */
     long rounds = count == 2 || count == 3 ? atol(words[1]) : 0;
-    long row = count == 3 ? atol(words[2]) : 0;
+    long alone = count == 3 ? atol(words[2]) : 0;
 
-    if (rounds < 1 || rounds > ROUNDS_MAX || row < 0 || row > 8 || (count == 3 && row == 0)) {
-        fprintf(stderr, "usage: bench ROUNDS (1 to %d) [ROW (1 to 8): the kernel alone, no times]\n",
-                ROUNDS_MAX);
+    if (rounds < 1 || rounds > ROUNDS_MAX || alone < 0 || alone > ROWS ||
+        (count == 3 && alone == 0)) {
+        fprintf(stderr, "usage: bench ROUNDS (1 to %d) [ROW (1 to %d): the kernel alone, no times]\n",
+                ROUNDS_MAX, ROWS);
         return 2;
     }
-    load few = draw_load("calls, 8 tasks, 8 hubs", 8, 8, 2);
-    load full = draw_load("calls, 16 tasks, 16 hubs, long lists", 16, 16, 10);
-    load damaged = draw_damaged("refused, last word damaged, 16/16", &full);
-    load none = draw_queue("summary of a list without waiters", 0);
-    load one = draw_queue("summary of a list of one", 1);
-    load fifteen = draw_queue("summary of a list of fifteen", 15);
+    draw_rows(rows, &layouts[0]);
+    draw_rows(rows + ROWS_OF_EDITION, &layouts[1]);
+    load full = rows[1].of, moved = draw_moved("moved", &full);
+    named(&rows[ROWS - 2], &full, "move up, 16/16, long lists", moves);
+    named(&rows[ROWS - 1], &moved, "move down, 16/16, long lists", moves);
 
-    if (row != 0) {
-        const load *rows[] = {&few, &full, &damaged, &few, &full, &none, &one, &fifteen};
-        printf("%" PRIu32 "\n", repeat(rows[row - 1], (row <= 3 ? calls : summaries)[KERNEL], (uint32_t)rounds));
+    if (alone != 0) {
+        const row *it = &rows[alone - 1];
+        printf("%" PRIu32 "\n", repeat(&it->of, it->sides[KERNEL], (uint32_t)rounds));
         return 0;
     }
-    printf("longest waiting list, mean over the calls: %.1f at 8/8, %.1f at 16/16\n",
-           (double)few.entries / CALLS, (double)full.entries / CALLS);
     printf("%-37s %35s  %26s\n", "", "ns a call", "kernel's time over");
     printf("%-37s %8s %8s %8s %8s  %8s %8s %8s\n", "", "kernel", "C bytes", "C words", "floor",
            "C bytes", "C words", "floor");
-    measure(&few, calls, (uint32_t)rounds);
-    measure(&full, calls, (uint32_t)rounds);
-    measure(&damaged, calls, (uint32_t)rounds);
-    few.name = "summary, 8/8";
-    measure(&few, summaries, (uint32_t)rounds);
-    full.name = "summary, 16/16, long lists";
-    measure(&full, summaries, (uint32_t)rounds);
-    measure(&none, summaries, (uint32_t)rounds);
-    measure(&one, summaries, (uint32_t)rounds);
-    measure(&fifteen, summaries, (uint32_t)rounds);
+    print_edition(rows, (uint32_t)rounds);
+    print_edition(rows + ROWS_OF_EDITION, (uint32_t)rounds);
+    printf("moves\n");
+    measure(&rows[ROWS - 2].of, moves, (uint32_t)rounds);
+    measure(&rows[ROWS - 1].of, moves, (uint32_t)rounds);
     return 0;
 }

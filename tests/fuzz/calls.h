@@ -1,10 +1,11 @@
-/* A fuzzer's input as calls on one table, which begins as Blank leaves it.
- * Eight bytes a step, what is left at the end is dropped:
+/* A fuzzer's input as steps on one table, which begins as Blank leaves 600 words, so of
+ * edition 1. Nine bytes a step, what is left at the end is dropped:
  *   first byte below 128   a call: service, caller, target, side, mode, ticks,
- *                          and two bytes of the word, low byte first
- *   first byte above       a word of the table is overwritten: two bytes of
+ *                          two bytes of the word, low byte first, and the high word
+ *   below 160              a move to the other edition; the steps go on there if it is done
+ *   above                  a word of the table is overwritten: two bytes of
  *                          its place, four of its value, low bytes first
- * The numbers of a call are small ones, and the paper's edges. */
+ * The numbers of a call are small ones, and the papers' edges. */
 #ifndef FUZZ_CALLS_H
 #define FUZZ_CALLS_H
 
@@ -13,12 +14,14 @@
 
 #include "numbers.h"
 
-enum { STEP = 8, CALL_BELOW = 128 };
+enum { STEP = 9, CALL_BELOW = 128, MOVE_BELOW = 160 };
+
+typedef enum { FUZZ_CALL, FUZZ_MOVE, FUZZ_POKE } fuzz_kind;
 
 typedef struct {
-    int is_call;
+    fuzz_kind kind;
     uint32_t call[CALL_NUMBERS];
-    uint32_t place, value;
+    uint32_t place, value; /* the place is to be taken below the table's words */
 } fuzz_step;
 
 static const uint32_t fuzz_blank[CALL_NUMBERS] = {0};
@@ -33,15 +36,19 @@ static uint32_t fuzz_number(uint8_t byte)
 
 static fuzz_step fuzz_step_of(const uint8_t *at)
 {
-    fuzz_step step = {at[0] < CALL_BELOW, {0}, 0, 0};
+    fuzz_step step = {FUZZ_POKE, {0}, 0, 0};
 
-    if (step.is_call) {
+    if (at[0] < CALL_BELOW) {
+        step.kind = FUZZ_CALL;
         step.call[0] = at[0] % 12;
         for (int i = 1; i < C_WORD; i++)
             step.call[i] = fuzz_number(at[i]);
-        step.call[C_WORD] = fuzz_number(at[6]) + 256u * at[7]; /* the high word is 0 */
+        step.call[C_WORD] = fuzz_number(at[6]) + 256u * at[7];
+        step.call[C_HIGH] = fuzz_number(at[8]);
+    } else if (at[0] < MOVE_BELOW) {
+        step.kind = FUZZ_MOVE;
     } else {
-        step.place = (at[1] + 256u * at[2]) % WORDS;
+        step.place = at[1] + 256u * at[2];
         step.value = at[3] + 256u * at[4] + 65536u * at[5] + 16777216u * at[6];
     }
     return step;

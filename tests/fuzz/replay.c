@@ -1,7 +1,7 @@
-/* The calls of the files named, through hub_kernel_call and through the second
+/* The calls and moves of the files named, through the C edge and through the second
  * program: after every call the reply, every byte of the table, and the summary
- * of a hub, each number in turn up to one above the last. The first difference
- * ends it. */
+ * of a hub, each number in turn up to one above the last; of every move the refusal and
+ * every byte of source and destination. The first difference ends it. */
 #include <inttypes.h>
 #include <stdio.h>
 #include <stdlib.h>
@@ -13,8 +13,9 @@
 
 typedef struct {
     const char *file;
-    uint8_t kernel[BYTES], second[BYTES];
-    uint64_t calls, accepted, refused;
+    uint8_t kernel[BYTES_MOST], second[BYTES_MOST];
+    size_t length; /* of both tables: their edition */
+    uint64_t calls, accepted, refused, moves, moved;
 } replay;
 
 static void differ(const replay *at, const char *what)
@@ -25,17 +26,17 @@ static void differ(const replay *at, const char *what)
 
 static void compare(replay *at, const uint32_t *c)
 {
-    hub_kernel_reply got = hub_kernel_call(at->kernel, BYTES, c[0], c[1], c[2], c[3], c[4], c[5], c[6]);
-    second_reply want = second_call_bytes(at->second, BYTES, c);
+    hub_kernel_reply got = hub_kernel_call(at->kernel, at->length, c[0], c[1], c[2], c[3], c[4], c[5], c[6], c[7]);
+    second_reply want = second_call_bytes(at->second, at->length, c);
 
     at->calls++;
     if (got.refusal != want.refusal || got.answer != want.answer || got.next != want.next || got.ahead != want.ahead)
         differ(at, "the reply");
-    if (memcmp(at->kernel, at->second, BYTES) != 0)
+    if (memcmp(at->kernel, at->second, at->length) != 0)
         differ(at, "the table");
     uint32_t hub = (uint32_t)(at->calls % (HUBS + 1));
-    hub_kernel_summary_reply a = hub_kernel_summary(at->kernel, BYTES, hub);
-    second_summary_reply b = second_summary_bytes(at->second, BYTES, hub);
+    hub_kernel_summary_reply a = hub_kernel_summary(at->kernel, at->length, hub);
+    second_summary_reply b = second_summary_bytes(at->second, at->length, hub);
     if (a.refusal != b.refusal || a.mask != b.mask || a.count != b.count)
         differ(at, "a summary");
     if (want.refusal == 0)
@@ -44,10 +45,38 @@ static void compare(replay *at, const uint32_t *c)
         at->refused++;
 }
 
+/* To the other edition; both go on there if it is done. The destinations hold the same. */
+static void move(replay *at)
+{
+    int up = at->length == BYTES;
+    size_t length = up ? BYTES_2 : BYTES;
+    uint8_t kernel[BYTES_MOST], second[BYTES_MOST];
+
+    memset(kernel, 0xA5, sizeof kernel);
+    memset(second, 0xA5, sizeof second);
+    uint32_t got = (up ? hub_kernel_move_up : hub_kernel_move_down)(at->kernel, at->length, kernel, length);
+    uint32_t want = (up ? second_move_up_bytes : second_move_down_bytes)(at->second, at->length, second, length);
+    at->moves++;
+    if (got != want)
+        differ(at, "a move's refusal");
+    if (memcmp(kernel, second, sizeof kernel) != 0)
+        differ(at, "a move's destination");
+    if (memcmp(at->kernel, at->second, at->length) != 0)
+        differ(at, "a move's source");
+    if (want != ACCEPTED)
+        return;
+    memcpy(at->kernel, kernel, length);
+    memcpy(at->second, second, length);
+    at->length = length;
+    at->moved++;
+}
+
 static void poke(replay *at, const fuzz_step *step)
 {
+    size_t place = 4 * (step->place % (at->length / 4));
+
     for (int i = 0; i < 4; i++)
-        at->kernel[4 * step->place + i] = at->second[4 * step->place + i] = (uint8_t)(step->value >> 8 * i);
+        at->kernel[place + i] = at->second[place + i] = (uint8_t)(step->value >> 8 * i);
 }
 
 static void run(replay *at)
@@ -61,13 +90,16 @@ static void run(replay *at)
         exit(2);
     }
     fclose(in);
-    memset(at->kernel, 0, BYTES);
-    memset(at->second, 0, BYTES);
+    at->length = BYTES;
+    memset(at->kernel, 0, sizeof at->kernel);
+    memset(at->second, 0, sizeof at->second);
     compare(at, fuzz_blank);
     for (size_t place = 0; place + STEP <= size; place += STEP) {
         fuzz_step step = fuzz_step_of(data + place);
-        if (step.is_call)
+        if (step.kind == FUZZ_CALL)
             compare(at, step.call);
+        else if (step.kind == FUZZ_MOVE)
+            move(at);
         else
             poke(at, &step);
     }
@@ -81,7 +113,7 @@ int main(int count, char **files)
         at.file = files[i];
         run(&at);
     }
-    printf("%d inputs, %" PRIu64 " calls, %" PRIu64 " accepted and %" PRIu64 " refused: every reply, byte and summary the same\n",
-           count - 1, at.calls, at.accepted, at.refused);
+    printf("%d inputs, %" PRIu64 " calls, %" PRIu64 " accepted and %" PRIu64 " refused, %" PRIu64 " moves, %" PRIu64 " done: every reply, byte and summary the same\n",
+           count - 1, at.calls, at.accepted, at.refused, at.moves, at.moved);
     return 0;
 }

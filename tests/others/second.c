@@ -1,19 +1,19 @@
 /* Makes the calls of standard input through the second program, on one array,
  * and prints refusal, answer, next and ahead of each. A line is the number of words
- * that the call is lent, then its seven numbers. */
+ * that the call is lent, then its eight numbers. */
 #include <stdio.h>
 
 #include "second.h"
 
 int main(void)
 {
-    static uint32_t table[601];
-    unsigned long words, n[7];
+    static uint32_t table[745]; /* one more word than the larger edition has */
+    unsigned long words, n[8];
 
-    while (scanf("%lu %lu %lu %lu %lu %lu %lu %lu", &words, &n[0], &n[1], &n[2], &n[3], &n[4],
-                 &n[5], &n[6]) == 8) {
-        uint32_t call[8] = {0}; /* the high word is 0 */
-        for (int i = 0; i < 7; i++)
+    while (scanf("%lu %lu %lu %lu %lu %lu %lu %lu %lu", &words, &n[0], &n[1], &n[2], &n[3], &n[4],
+                 &n[5], &n[6], &n[7]) == 9) {
+        uint32_t call[8];
+        for (int i = 0; i < 8; i++)
             call[i] = (uint32_t)n[i];
         second_reply reply = second_call(table, words, call);
         printf("%lu %lu %lu %lu\n", (unsigned long)reply.refusal, (unsigned long)reply.answer,

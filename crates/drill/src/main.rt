@@ -11,12 +11,12 @@ ghost use Rattle.drill.specs.Tables.{Begun};
 ghost use Rattle.drill.specs.Turns.{Turned};
 ghost use Rattle.lines.specs.Lines.{printRoom};
 ghost use Rattle.lines.specs.Scan.{lastOf};
-ghost use Rattle.runner.specs.Runner.{tableThrough};
+ghost use Rattle.runner.specs.Runner.{tableThrough, zeros};
 ghost use lib.ListN.{length};
 ghost use mathlib.Core.Path.{_≡_};
 
-// "the table as 2,400 bytes"
-const BYTES: usize = 2400;
+// "744 words in all, 2,976 bytes": a table of edition 2
+const BYTES: usize = 4 * records::TABLE_SIZE_TWO;
 
 // The launcher's descriptors: the table to leave, and the table to begin with. It closes what is not asked for, and a read or a
 // write there fails.
@@ -88,10 +88,11 @@ fn run(t: &mut [u32], input: &mut [u8], out: &mut [u8]) -> bool
     false
 }
 
-// The table to begin with: that of the bytes, where all of them came, and the present one otherwise.
+// The table to begin with: that of the bytes, where all of them came, and zeros otherwise, as many as the runner's table has words.
 fn begin(t: &mut [u32], bytes: &[u8], came: usize)
+    requires { ⌜ now t ≡ zeros ⌝ }
     requires { ⌜ length (now bytes) ≡ 4 * length (now t) ⌝ }
-    ensures { λ _. ⌜ Begun (now (bytes .entry)) came (now (t .entry)) (now (t .exit)) ⌝ }
+    ensures { λ _. ⌜ Begun (now (bytes .entry)) came (now (t .exit)) ⌝ }
 {
     if came == bytes.len() {
         bytes4::unpack(bytes, t);
@@ -108,7 +109,7 @@ fn leave(t: &[u32], bytes: &mut [u8])
 }
 
 fn main() {
-    let mut table = [0u32; records::TABLE_SIZE];
+    let mut table = [0u32; records::TABLE_SIZE_TWO];
     let mut bytes = [0u8; BYTES];
     let mut input = io::large_buffer();
     let mut out = io::large_buffer();

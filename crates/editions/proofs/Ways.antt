@@ -3,16 +3,17 @@
 -- Not here: what the moves promise of a table (Promise.antt), and any two editions (Bodies.antt). Assumes nothing.
 use Prim.Native.Nat.{_%_, _*_, _+_, _/_, _<_, _≤_, ℕ}
 use Rattle.editions.proofs.Bodies.{message-place, placed, placed-word, task-place}
-use Rattle.editions.proofs.Refusals.{passed, refused-before, tested}
-use Rattle.editions.proofs.Zeros.{zeros-each}
-use Rattle.editions.specs.Editions.{Below, Moved, downRefusal, highZero, moveRefusal, movedDown, movedUp, stored, upRefusal, zerosAt}
+use Rattle.rules.proofs.Editions.{passed, refused-before, tested}
+use Rattle.rules.proofs.HighWords.{zeros-each}
+use Rattle.editions.specs.Editions.{Below, stored}
+use Rattle.rules.specs.Editions.{Moved, downRefusal, highZero, moveRefusal, movedDown, movedUp, upRefusal, zerosAt}
 use Rattle.messages.specs.Messages.{messages}
 use Rattle.records.specs.Records.{Table, width}
 use Rattle.rules.proofs.After.{words-in}
 use Rattle.rules.proofs.Layouts.{Laid, one-laid, two-laid}
 use Rattle.rules.proofs.Tests.{Tests, t-and, t-iff}
 use Rattle.rules.specs.Refusals.{need}
-use Rattle.rules.specs.Table.{Layout, State, one, read, two, words}
+use Rattle.rules.specs.Table.{Layout, State, one, read, storesAt, taskSize, tasksAt, two, words}
 use borrow.Author.Tests.{ne-eqb}
 use lib.ListN.{getD, length}
 use mathlib.Core.Bool.{false, true}
@@ -42,14 +43,14 @@ below-more h b = record { tasks = λ i l. omega (arith, b .tasks i l); stores = 
 pub below-one : (s : State) → Low (words one s) → Below 4294967296 s
 below-one s low = record {
   tasks = λ i h. omega (arith, low (8 + i * 8 + 6), task-place one one-laid s i 6 h (omega arith), placed-word s i);
-  stores = λ k h. omega (arith, low (472 + k * 1 + 0), message-place one one-laid s k 0 h (omega arith));
+  stores = λ k h. omega (arith, low (storesAt one + k * 1 + 0), message-place one one-laid s k 0 h (omega arith));
 }
 
 -- in edition 2 they are words exactly if the high words are 0
 pub high-zero : (s : State) → Tests (highZero (words two s)) (Below 4294967296 s)
 unfolding highZero
 high-zero s =
-    t-iff (highZero t) (t-and (zerosAt 8 9 16 7 t) (zerosAt 488 2 128 1 t) (zeros-each 8 9 7 t 16) (zeros-each 488 2 1 t 128))
+    t-iff (highZero t) (t-and (zerosAt tasksAt (taskSize two) 16 7 t) (zerosAt (storesAt two) (two .width) 128 1 t) (zeros-each tasksAt (taskSize two) 7 t 16) (zeros-each (storesAt two) (two .width) 1 t 128))
     (λ p. record {
       tasks = λ i h. rw (← placed-word s i) (high-none (placed s i .word) (sym (of-task i h) ∙ p .0 i h));
       stores = λ k h. high-none (getD (stored s) k 0) (sym (of-store k h) ∙ p .1 k h);
@@ -62,10 +63,10 @@ high-zero s =
     t : List ℕ
     t = words two s
 
-    of-task : (i : ℕ) → i < 16 → getD t (8 + i * 9 + 7) 0 ≡ placed s i .word / 4294967296
+    of-task : (i : ℕ) → i < 16 → getD t (tasksAt + i * taskSize two + 7) 0 ≡ placed s i .word / 4294967296
     of-task i h = task-place two two-laid s i 7 h (omega arith)
 
-    of-store : (k : ℕ) → k < 128 → getD t (488 + k * 2 + 1) 0 ≡ getD (stored s) k 0 / 4294967296
+    of-store : (k : ℕ) → k < 128 → getD t (storesAt two + k * two .width + 1) 0 ≡ getD (stored s) k 0 / 4294967296
     of-store k h = message-place two two-laid s k 1 h (omega arith)
 
 -- ---- the ways out

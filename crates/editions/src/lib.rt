@@ -5,7 +5,8 @@
 use records::HubNo;
 use records::TaskNo;
 ghost use Prim.Native.Nat.{_≤_};
-ghost use Rattle.editions.specs.Editions.{Below, Moved, contentsFrom, downRefusal, highZero, moveRefusal, movedDown, movedUp, storesFrom, tasksFrom, upRefusal, zerosAt};
+ghost use Rattle.editions.specs.Editions.{Below, contentsFrom, storesFrom, tasksFrom};
+ghost use Rattle.rules.specs.Editions.{Moved, downRefusal, highZero, moveRefusal, movedDown, movedUp, upRefusal, zerosAt};
 ghost use Rattle.messages.specs.Messages.{messages};
 ghost use Rattle.records.specs.Records.{Table, storesAt, width};
 ghost use Rattle.rules.proofs.Layouts.{Laid};
@@ -160,9 +161,9 @@ pub fn move_down(from: &[u32], to: &mut [u32]) -> u32
     ensures { λ r. ⌜ Moved (downRefusal (now (from .entry)) (length (now (to .entry)))) (movedDown (now (from .entry)))
         (now (to .entry)) r (now (to .exit)) ⌝ }
 {
-    let refusal = refusal_of(from, records::TASK_SIZE_TWO, to.len(), records::TASK_SIZE);
-    if refusal != 0 {
-        return refusal;
+    let earlier = refusal_of(from, records::TASK_SIZE_TWO, to.len(), records::TASK_SIZE);
+    if earlier != 0 {
+        return earlier;
     }
     if !high_zero(from) {
         return rules::HIGH_WORD;

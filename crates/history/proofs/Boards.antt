@@ -13,9 +13,9 @@ use Rattle.rules.proofs.Hubs.{SameHubs, core, hub-else, hub-target, hubs-answer
 use Rattle.rules.proofs.Listed.{listed-deactivate}
 use Rattle.rules.proofs.Quiet.{isAddTask, isResume, isSleep, isStart, isSuspend, isTick, isUnknown, isYield}
 use Rattle.rules.proofs.Valid.{Listed}
-use Rattle.rules.proofs.Verdicts.{after-kind, hubAfter}
+use Rattle.rules.proofs.Verdicts.{after-kind, hubAfter, update-row}
 use Rattle.rules.specs.Calls.{AddHub, AddTask, Blank, HubRequest, Resume, Service, Sleep, Start, Stop, Suspend, Tick, Unknown, Yield, addHub, blank, deactivate, grant, heir, newHub, serve, settle, stop}
-use Rattle.rules.specs.HubTable.{getBoard, message, met, onGet, onPut, onSide, onWipe, putBoard, readers, verdict}
+use Rattle.rules.specs.HubTable.{getBoard, message, met, onGet, onSide, onWipe, verdict}
 use Rattle.rules.specs.Lists.{holding, queued}
 use Rattle.rules.specs.Refusals.{refusalFor}
 use Rattle.rules.specs.Table.{Board, Event, Fifo, Hub, Kind, NoKind, Port, Resource, Semaphore, State, hub, kindOf, noHub, owns, sideOf}
@@ -74,10 +74,6 @@ boards-same s s′ cs e m = record {
 -- ---- Hub request: an update writes, a read leaves, a wipe takes away
 
 module _ (s : State) (c : Call) (b : kindOf (hub s (c .target) .kind) ≡ Board) where
-  pub update-row : c .side ≡ 1 → verdict s c ≡ met 1 (message c ∷ []) 0 (readers s (hub s (c .target) .waiters) (message c))
-  unfolding onPut onSide putBoard sideOf verdict
-  update-row e = rw (e, b) refl
-
   pub read-row : c .side ≡ 2 → verdict s c ≡ getBoard (hub s (c .target) .held) (hub s (c .target))
   unfolding onGet onSide sideOf verdict
   read-row e = rw (e, b) refl
@@ -91,7 +87,7 @@ module _ (s : State) (c : Call) (b : kindOf (hub s (c .target) .kind) ≡ Board)
   stands-after cs d m = rw (board-next (c .target) none cs c, eq-eqb (c .target) (c .target) refl) (by d)
     where
       by : {k : Kind} → Sided k (c .side) → hubAfter (hub s (c .target)) (verdict s c) .held ≡ written (boardBy (sideOf (c .side)) c (boardWord (c .target) cs))
-      by (inl e) = unfold boardBy holding hubAfter sideOf written in rw (update-row e, e) refl
+      by (inl e) = unfold boardBy holding hubAfter sideOf written in rw (update-row s c b e, e) refl
       by (inr (inl e)) = unfold boardBy sideOf in rw (read-row e, e) (stays (hub s (c .target) .held) ∙ m)
         where
           stays : (l : List ℕ) → hubAfter (hub s (c .target)) (getBoard l (hub s (c .target))) .held ≡ hub s (c .target) .held

@@ -4,11 +4,11 @@ use Prim.Native.Nat.{_+_, _<_, _≤_, suc, zero, ℕ}
 use Rattle.history.proofs.Asked.{Outcome, isFailed, isMet, isOpen, outcome-settle}
 use Rattle.history.proofs.Classes.{is-class}
 use Rattle.history.proofs.Fates.{Fate, Older, fate-serve, meets, rests, stops, ticksOf, times}
-use Rattle.history.proofs.Following.{continues-at, continues-history, continues-length, continues-next, own-place, own-there, table-next}
-use Rattle.history.proofs.Run.{Sound, accepted-service, refusal-other, shown-next, sound-next}
+use Rattle.history.proofs.Following.{continues-at, continues-history, continues-length, continues-step, down-same, own-place, own-there, table-next, up-same}
+use Rattle.history.proofs.Run.{Sound, accepted-service, refusal-other, shown-next, sound-next, sound-step}
 use Rattle.history.proofs.Those.{each-at, howMany-cons}
-use Rattle.history.specs.History.{History, Request, asked, history, isClass, isWaiting, next, reread, shown, those, waiting}
-use Rattle.history.specs.Statements.{Each, NoBlank, Stands, noRequest, requestAt, ticksIn}
+use Rattle.history.specs.History.{History, Request, Step, asked, calls, down, history, isClass, isWaiting, next, reread, shown, step, those, up, waiting}
+use Rattle.history.specs.Statements.{Each, NoBlank, NotBlank, Stands, isTick, noRequest, requestAt, ticksIn}
 use Rattle.lists.proofs.Laws.{boolCase}
 use Rattle.lists.specs.Lists.{bit}
 use Rattle.rules.proofs.Accepted.{Asked, by-running, need-zero, request-tests, within-true}
@@ -91,20 +91,29 @@ module _ (x : History) (g : Sound x) (c : Call) (b : serviceOf (c .service) ≢ 
           (λ b. ap (λ (m : ℕ). ticksOf (serviceOf m)) (eqb-true (c .service) 1 b))
           (λ b. refused-ticks (serviceOf (c .service)) (shown (x .table)) c n (sym (refusal-other x g c (eqb-false (c .service) 1 b)) ∙ e))
 
+-- one step: a move leaves the task's record as it shows it
+older-step : (x : History) → Sound x → (d : Step) → NotBlank d → (j : ℕ) → task (shown (x .table)) j .state ≡ 3
+    → task (shown (step x d .table)) j .state ≡ 3 → Older (bit (isTick d)) (task (shown (x .table)) j) (task (shown (step x d .table)) j)
+unfolding NotBlank isTick
+older-step x g (calls c) b j st =
+    unfold step in rw (table-next x c, tick-number (c .service)) (older-by x g c b j st (refusalOf (x .table) c) refl)
+older-step x g (up room) b j st = rw (up-same x room .state) (λ k l. (omega arith, l))
+older-step x g (down room) b j st = rw (down-same x room .state) (λ k l. (omega arith, l))
+
 -- ---- the request at place p, while it waits
 
 stands-at : (x : History) → Sound x → (p : ℕ) → p < length (x .requests) → requestAt x p .class ≡ waiting → Stands (shown (x .table)) (requestAt x p)
 stands-at x g p h e = each-at _ (x .requests) (g .account .agree .entries) p h noRequest .stands e
 
 -- out of waiting it stays so
-settled-at : (x : History) (ds : List Call) → NoBlank ds → (p : ℕ) → p < length (x .requests) → isWaiting (requestAt x p) ≡ false → requestAt (history x ds) p .class ≢ waiting
+settled-at : (x : History) (ds : List Step) → NoBlank ds → (p : ℕ) → p < length (x .requests) → isWaiting (requestAt x p) ≡ false → requestAt (history x ds) p .class ≢ waiting
 settled-at x ds b p h y z =
     false≢true (sym y ∙ ap (λ (r : Request). isWaiting r) (sym same) ∙ ap (isClass waiting) z)
   where
     same : requestAt (history x ds) p ≡ requestAt x p
     same = continues-at (x .requests) (history x ds .requests) (continues-history x ds b) p h noRequest .settled (λ z. false≢true (sym y ∙ ap (isClass waiting) z))
 
-bound-from : (ds : List Call) (x : History) → Sound x → (p : ℕ) → p < length (x .requests) → requestAt x p .class ≡ waiting
+bound-from : (ds : List Step) (x : History) → Sound x → (p : ℕ) → p < length (x .requests) → requestAt x p .class ≡ waiting
     → 1 ≤ task (shown (x .table)) (requestAt x p .task) .ticks → NoBlank ds → task (shown (x .table)) (requestAt x p .task) .ticks ≤ ticksIn ds
     → requestAt (history x ds) p .class ≢ waiting
 unfolding Each history those
@@ -113,27 +122,27 @@ bound-from (d ∷ ds) x g p h e one b l =
     boolCase (isWaiting (requestAt x′ p))
     (λ y. let e′ = is-class waiting (requestAt x′ p .class) y in
     let q = older e′ in
-    bound-from ds x′ g′ p h′ e′ (q .1) (b .1) (omega (arith, q .0, howMany-cons (λ d. eqb (d .service) 8) d ds)))
+    bound-from ds x′ g′ p h′ e′ (q .1) (b .1) (omega (arith, q .0, howMany-cons isTick d ds)))
     (settled-at x′ ds (b .1) p h′)
   where
     x′ : History
-    x′ = next x d
+    x′ = step x d
 
     g′ : Sound x′
-    g′ = sound-next x d g
+    g′ = sound-step x d g
 
     h′ : p < length (x′ .requests)
-    h′ = omega (arith, continues-length (x .requests) (x′ .requests) (continues-next x d (b .0)))
+    h′ = omega (arith, continues-length (x .requests) (x′ .requests) (continues-step x d (b .0)))
 
     same : requestAt x′ p .task ≡ requestAt x p .task
-    same = continues-at (x .requests) (x′ .requests) (continues-next x d (b .0)) p h noRequest .task
+    same = continues-at (x .requests) (x′ .requests) (continues-step x d (b .0)) p h noRequest .task
 
     older : requestAt x′ p .class ≡ waiting
-        → (task (shown (x′ .table)) (requestAt x′ p .task) .ticks + bit (eqb (d .service) 8) ≡ task (shown (x .table)) (requestAt x p .task) .ticks)
+        → (task (shown (x′ .table)) (requestAt x′ p .task) .ticks + bit (isTick d) ≡ task (shown (x .table)) (requestAt x p .task) .ticks)
         × (1 ≤ task (shown (x′ .table)) (requestAt x′ p .task) .ticks)
     older e′ =
-        let k : task (shown (tableAfter (x .table) d)) (requestAt x p .task) .state ≡ 3 = rw (same, table-next x d) at (stands-at x′ g′ p h′ e′ .state) in
-        rw (same, table-next x d, tick-number (d .service)) (older-by x g d (b .0) (requestAt x p .task) (stands-at x g p h e .state) (refusalOf (x .table) d) refl k one)
+        let k : task (shown (x′ .table)) (requestAt x p .task) .state ≡ 3 = rw same at (stands-at x′ g′ p h′ e′ .state) in
+        rw same (older-step x g d (b .0) (requestAt x p .task) (stands-at x g p h e .state) k one)
 
 -- ---- the request that call c opens, under WT
 
@@ -169,8 +178,8 @@ module _ (x : History) (g : Sound x) (c : Call) (sv : serviceOf (c .service) ≡
   unfolding asked reread
   own-left k = rw (own-place x c sv e, table-next x c) (own-ticks (rw (own-place x c sv e, table-next x c) at (stands-at (next x c) (sound-next x c g) (length (x .requests)) (own-there x c sv e) k .state)))
 
-  pub bound : modeOf (c .mode) ≡ WT → (ds : List Call) → NoBlank ds → c .ticks ≤ ticksIn ds → requestAt (history x (c ∷ ds)) (length (x .requests)) .class ≢ waiting
-  unfolding history
+  pub bound : modeOf (c .mode) ≡ WT → (ds : List Step) → NoBlank ds → c .ticks ≤ ticksIn ds → requestAt (history x (calls c ∷ ds)) (length (x .requests)) .class ≢ waiting
+  unfolding history step
   bound m ds b l =
       boolCase (isWaiting (requestAt x′ p))
       (λ y. let k = is-class waiting (requestAt x′ p .class) y in

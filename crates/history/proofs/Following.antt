@@ -1,11 +1,13 @@
--- Once out of waiting a request never changes: `Continues` from call to call, and through any calls without a Blank.
+-- Once out of waiting a request never changes: `Continues` from step to step, and through any steps without a Blank. A move keeps
+-- the run as it is (`moves-same`).
 use Prim.Native.Nat.{_<_, _≤_, suc, zero, ℕ}
 use Rattle.history.proofs.Again.{again-waiting}
 use Rattle.history.proofs.Classes.{is-class}
 use Rattle.history.proofs.Opened.{opened-case}
-use Rattle.history.specs.History.{History, Request, again, asked, history, isWaiting, next, nextBy, opened, partOf, reread, shown, waiting}
-use Rattle.history.specs.Statements.{Continues, Each, Follows, NoBlank, noRequest, requestAt}
+use Rattle.history.specs.History.{History, Request, Step, again, asked, calls, down, goneOn, history, isWaiting, next, nextBy, opened, partOf, reread, shown, step, up, waiting}
+use Rattle.history.specs.Statements.{Continues, Each, Follows, IsMove, NoBlank, NotBlank, SameRun, noRequest, requestAt}
 use Rattle.lists.proofs.Laws.{boolCase}
+use Rattle.rules.proofs.Editions.{down-shows, up-shows}
 use Rattle.rules.specs.Calls.{Blank, HubRequest, serviceOf}
 use Rattle.rules.specs.Refusals.{refusalOf}
 use Rattle.rules.specs.Reply.{tableAfter}
@@ -71,7 +73,28 @@ continues-length [] all k = omega arith
 continues-length (r ∷ rs) [] k = absurd k
 continues-length (r ∷ rs) (r′ ∷ all) k = omega (arith, continues-length rs all (k .1))
 
--- ---- a call, and any calls
+-- ---- a move
+
+same-gone : (n : ℕ) (t : List ℕ) (x : History) → (n ≡ 0 → shown t ≡ shown (x .table)) → SameRun x (goneOn n t x)
+unfolding goneOn
+same-gone zero t x same = record { state = same refl; requests = refl; met = refl; added = refl; removed = refl; calls = refl }
+same-gone (suc n) t x same = record { state = refl; requests = refl; met = refl; added = refl; removed = refl; calls = refl }
+
+pub up-same : (x : History) (room : ℕ) → SameRun x (step x (up room))
+unfolding step
+up-same x room = same-gone _ _ x (up-shows (x .table) room)
+
+pub down-same : (x : History) (room : ℕ) → SameRun x (step x (down room))
+unfolding step
+down-same x room = same-gone _ _ x (down-shows (x .table) room)
+
+pub moves-same : (x : History) (d : Step) → IsMove d → SameRun x (step x d)
+unfolding IsMove
+moves-same x (calls c) m = absurd m
+moves-same x (up room) m = up-same x room
+moves-same x (down room) m = down-same x room
+
+-- ---- a call, and any steps
 
 next-by : (n : ℕ) (x : History) (c : Call) → serviceOf (c .service) ≢ Blank → Continues (x .requests) (nextBy n x c .requests)
 unfolding nextBy
@@ -86,10 +109,16 @@ pub continues-next : (x : History) (c : Call) → serviceOf (c .service) ≢ Bla
 unfolding next
 continues-next x c b = next-by (refusalOf (x .table) c) x c b
 
-pub continues-history : (x : History) (ds : List Call) → NoBlank ds → Continues (x .requests) (history x ds .requests)
+pub continues-step : (x : History) (d : Step) → NotBlank d → Continues (x .requests) (step x d .requests)
+unfolding NotBlank
+continues-step x (calls c) b = unfold step in continues-next x c b
+continues-step x (up room) b = rw (up-same x room .requests) (continues-refl (x .requests))
+continues-step x (down room) b = rw (down-same x room .requests) (continues-refl (x .requests))
+
+pub continues-history : (x : History) (ds : List Step) → NoBlank ds → Continues (x .requests) (history x ds .requests)
 unfolding Each history
 continues-history x [] b = continues-refl (x .requests)
-continues-history x (d ∷ ds) b = continues-trans (x .requests) (next x d .requests) _ (continues-next x d (b .0)) (continues-history (next x d) ds (b .1))
+continues-history x (d ∷ ds) b = continues-trans (x .requests) (step x d .requests) _ (continues-step x d (b .0)) (continues-history (step x d) ds (b .1))
 
 -- after any call the next table is tableAfter of the one before
 pub table-next : (x : History) (c : Call) → next x c .table ≡ tableAfter (x .table) c

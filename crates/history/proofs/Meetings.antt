@@ -1,10 +1,11 @@
 -- Over a whole run: whatever request is met, one of the calls met it. From what each call says of those that turn met, whatever
 -- that is.
 use Prim.Native.Nat.{suc, zero, ℕ}
+use Rattle.history.proofs.Following.{down-same, up-same}
 use Rattle.history.proofs.Opened.{opened-case}
-use Rattle.history.proofs.Run.{Sound, sound-next}
+use Rattle.history.proofs.Run.{Sound, sound-step}
 use Rattle.history.proofs.Those.{each-append, each-both, each-imp, each-map}
-use Rattle.history.specs.History.{History, Request, again, asked, history, isWaiting, met, next, nextBy, opened, partOf, reread, shown, those, turned, turnedBy, turnedTo, turns}
+use Rattle.history.specs.History.{History, Request, Step, again, asked, calls, down, history, isWaiting, met, next, nextBy, opened, partOf, reread, shown, step, those, turned, turnedBy, turnedTo, turns, up}
 use Rattle.history.specs.Statements.{Each, InOne}
 use Rattle.lists.proofs.Laws.{boolCase}
 use Rattle.rules.specs.Calls.{serviceOf}
@@ -66,16 +67,18 @@ module _ (x : History) (c : Call) (M : Request → Type 0) (m : Each M (turnedTo
           (each-imp _ _ (as-again P M s′) _ (each-both _ _ _ (as-opened a) (each-passed M (reread s′) (turns met s′) _ t)))
       by (suc n) t = unfold nextBy in each-imp (MetAs P) _ (λ r f e. inl (f e)) (x .requests) a
 
--- ---- any calls
+-- ---- any steps
 
 module _ (M : History → Call → Request → Type 0) (means : (x : History) → Sound x → (c : Call) → Each (M x c) (turnedTo met x c)) where
-  pub met-in : (cs : List Call) (x : History) → Sound x → (P : Request → Type 0) → Each (MetAs P) (x .requests) → Each (MetAs (λ r. P r ⊎ InOne M x cs r)) (history x cs .requests)
-  unfolding InOne history
+  pub met-in : (ds : List Step) (x : History) → Sound x → (P : Request → Type 0) → Each (MetAs P) (x .requests) → Each (MetAs (λ r. P r ⊎ InOne M x ds r)) (history x ds .requests)
+  unfolding InOne history step
   met-in [] x g P a = each-imp (MetAs P) _ (λ r f e. inl (f e)) (x .requests) a
-  met-in (c ∷ cs) x g P a =
-      each-imp _ _ (λ r f e. regroup (f e)) _ (met-in cs (next x c) (sound-next x c g) _ (as-next x c (M x c) (means x g c) P a))
+  met-in (calls c ∷ ds) x g P a =
+      each-imp _ _ (λ r f e. regroup (f e)) _ (met-in ds (step x (calls c)) (sound-step x (calls c) g) _ (as-next x c (M x c) (means x g c) P a))
     where
       regroup : {A B C : Type 0} → (A ⊎ B) ⊎ C → A ⊎ (B ⊎ C)
       regroup (inl (inl a)) = inl a
       regroup (inl (inr b)) = inr (inl b)
       regroup (inr c) = inr (inr c)
+  met-in (up room ∷ ds) x g P a = met-in ds (step x (up room)) (sound-step x (up room) g) P (rw (up-same x room .requests) a)
+  met-in (down room ∷ ds) x g P a = met-in ds (step x (down room)) (sound-step x (down room) g) P (rw (down-same x room .requests) a)

@@ -4,12 +4,12 @@ use Prim.Native.Nat.{_+_, _<_, _≤_, suc, zero, ℕ}
 use Rattle.history.proofs.Again.{Entry}
 use Rattle.history.proofs.Balance.{Balanced}
 use Rattle.history.proofs.Bound.{bound}
-use Rattle.history.proofs.Following.{continues-history, own-place}
+use Rattle.history.proofs.Following.{continues-history, moves-same, own-place}
 use Rattle.history.proofs.Meetings.{met-in}
 use Rattle.history.proofs.Reasons.{class-own, one-met, turned-failed, turned-met, turned-reads, turned-timed, turned-withdrawn}
 use Rattle.history.proofs.Run.{Sound, accepted-service, refusal-other, shown-next, sound-run}
 use Rattle.history.proofs.Those.{each-both, each-imp}
-use Rattle.history.specs.History.{Class, History, Request, asked, at, begun, boardWord, failed, history, howMany, isOwned, metCount, next, nextBy, opened, partOf, removedAt, reread, rowClass, shown, those, timedOut, turned, turnedBy, turnedTo, withdrawn, wordsOf}
+use Rattle.history.specs.History.{Class, History, Request, Step, asked, at, begun, boardWord, failed, history, howMany, isOwned, metCount, next, nextBy, opened, partOf, removedAt, reread, rowClass, shown, those, timedOut, turned, turnedBy, turnedTo, withdrawn, wordsOf}
 use Rattle.history.specs.Statements.{Bears, Begins, Demand3, Each, EachMet, EachRead, Met, MetBy, OneEach, Own, addedAs, requestAt}
 use Rattle.lists.proofs.Laws.{boolCase}
 use Rattle.lists.specs.Lists.{bit}
@@ -138,6 +138,7 @@ module _ (x : History) (g : Sound x) where
     isWithdrawn = λ c. each-next withdrawn (λ s′ r. (serviceOf (c .service) ≡ Stop) × (r .task ≡ c .target)) c
         (λ o. turned-withdrawn (urgency s) _ s (x .requests) c (g .account .agree) (g .valid) o refl);
     bound = λ c ds sv e m b l. bound x g c sv e m ds b l;
+    moves = moves-same x;
     formed = g .formed;
     neverTwo = λ c. well-formed-not-2 (x .table) c (g .formed);
     blanks = λ c e. refusal-other x g c (not-request c e (λ q. false≢true cc)) ∙ (unfold refusalFor in rw e);
@@ -152,23 +153,23 @@ module _ (x : History) (g : Sound x) where
 
 -- ---- every run
 
-pub demand3 : (w : List ℕ) (b : Call) → Begins w b → (cs : List Call) → Demand3 (history (begun (tableAfter w b)) cs)
-demand3 w b g cs = sound-demand _ (sound-run w b g cs)
+pub demand3 : (w : List ℕ) (b : Call) → Begins w b → (ds : List Step) → Demand3 (history (begun (tableAfter w b)) ds)
+demand3 w b g ds = sound-demand _ (sound-run w b g ds)
 
 only : {A : Type 0} → ⊥ ⊎ A → A
 only (inl z) = absurd z
 only (inr a) = a
 
-pub each-met : (w : List ℕ) (b : Call) → Begins w b → (cs : List Call) → EachMet (begun (tableAfter w b)) cs
-each-met w b g cs =
+pub each-met : (w : List ℕ) (b : Call) → Begins w b → (ds : List Step) → EachMet (begun (tableAfter w b)) ds
+each-met w b g ds =
     each-imp _ _ (λ r f e. only (f e)) _
-    (met-in Met (λ x k. sound-demand x k .metMeansMet) cs (begun (tableAfter w b)) (unfold history in sound-run w b g []) (λ r. ⊥) (unfold Each begun in tt))
+    (met-in Met (λ x k. sound-demand x k .metMeansMet) ds (begun (tableAfter w b)) (unfold history in sound-run w b g []) (λ r. ⊥) (unfold Each begun in tt))
 
-pub each-read : (w : List ℕ) (b : Call) → Begins w b → (cs : List Call) → EachRead (begun (tableAfter w b)) cs
-each-read w b g cs =
+pub each-read : (w : List ℕ) (b : Call) → Begins w b → (ds : List Step) → EachRead (begun (tableAfter w b)) ds
+each-read w b g ds =
     each-imp _ _ (λ r f e. only (f e)) _
-    (met-in (λ x c r. Met x c r × Bears x c r) (λ x k c. each-both _ _ _ (sound-demand x k .metMeansMet c) (sound-demand x k .reads c)) cs (begun (tableAfter w b))
+    (met-in (λ x c r. Met x c r × Bears x c r) (λ x k c. each-both _ _ _ (sound-demand x k .metMeansMet c) (sound-demand x k .reads c)) ds (begun (tableAfter w b))
     (unfold history in sound-run w b g []) (λ r. ⊥) (unfold Each begun in tt))
 
-pub one-each : (w : List ℕ) (b : Call) → Begins w b → (cs : List Call) → OneEach (history (begun (tableAfter w b)) cs)
-one-each w b g cs = sound-one _ (sound-run w b g cs)
+pub one-each : (w : List ℕ) (b : Call) → Begins w b → (ds : List Step) → OneEach (history (begun (tableAfter w b)) ds)
+one-each w b g ds = sound-one _ (sound-run w b g ds)

@@ -3,7 +3,7 @@
 use Prim.Native.Nat.{_+_, _<_, _≤_, ℕ}
 use Rattle.history.proofs.Again.{Agree, Entry, each-turned, turned-none}
 use Rattle.history.proofs.Asked.{class-of-met, class-settle, metCaller, metIn, metWaiter, those-off, turned-place, turned-settle, turned-update, updates, waiters-met}
-use Rattle.history.proofs.Boards.{Boards, board-or, board-read, clash, read-row, update-row, update-word, wipe-row}
+use Rattle.history.proofs.Boards.{Boards, board-or, board-read, clash, read-row, update-word, wipe-row}
 use Rattle.history.proofs.Classes.{class-met, class-stopped, class-timed, class-waiting}
 use Rattle.history.proofs.Fates.{Fate, fate-serve, meets, rests, stops, times}
 use Rattle.history.proofs.Opened.{opened-case}
@@ -22,7 +22,7 @@ use Rattle.rules.proofs.Quiet.{Quiet}
 use Rattle.rules.proofs.Settled.{Partners, answer-same, met-caller, partners, quiet-told}
 use Rattle.rules.proofs.Standing.{listed-waits}
 use Rattle.rules.proofs.Valid.{Listed, Valid}
-use Rattle.rules.proofs.Verdicts.{Few, across, few, hubAfter, meets-all, meets-first, meets-later, meets-never, meets-none, waitersMet}
+use Rattle.rules.proofs.Verdicts.{Few, across, few, hubAfter, meets-all, meets-first, meets-later, meets-never, meets-none, update-row, waitersMet}
 use Rattle.rules.specs.Calls.{AddHub, AddTask, Blank, HubRequest, Resume, Service, Sleep, Start, Stop, Suspend, Tick, Unknown, Yield, grant, mayStop, serve, serviceOf, settle, stop}
 use Rattle.rules.specs.HubTable.{Meeting, Verdict, fail, getBoard, message, met, notNow, readers, verdict}
 use Rattle.rules.specs.Lists.{answer, answered, firstWaiting, holding, queued}

@@ -1,12 +1,13 @@
--- What holds of a run's history after every call: its table is well formed, and its requests and hubs are in account with
+-- What holds of a run's history after every step: its table is well formed, and its requests and hubs are in account with
 -- the state shown (`Sound`). From words to states by the rules' own promises (rules' Promise.antt); all else is of states.
 use Prim.Native.Nat.{suc, zero, ℕ}
 use Rattle.history.proofs.Account.{Account, account-blank, account-serve}
 use Rattle.history.proofs.Boards.{Boards, boards-blank, boards-serve}
 use Rattle.history.proofs.Made.{Makes, makes-blank, makes-serve}
-use Rattle.history.specs.History.{History, begun, history, next, nextBy, shown, turnedBy}
+use Rattle.history.specs.History.{History, Step, begun, calls, down, goneOn, history, next, nextBy, shown, step, turnedBy, up}
 use Rattle.history.specs.Statements.{Begins}
 use Rattle.rules.proofs.After.{accepted, at-other, read-valid, well-formed-long}
+use Rattle.rules.proofs.Editions.{down-shows, down-well-formed, up-shows, up-well-formed}
 use Rattle.rules.proofs.Promise.{read-after, refused-leaves, well-formed-after}
 use Rattle.rules.proofs.Valid.{Valid}
 use Rattle.rules.specs.Calls.{blank, serve, served, serviceOf}
@@ -71,10 +72,29 @@ pub sound-next : (x : History) (c : Call) → Sound x → Sound (next x c)
 unfolding next
 sound-next x c g = sound-by (refusalOf (x .table) c) x c g refl
 
-sound-history : (x : History) (cs : List Call) → Sound x → Sound (history x cs)
+-- ---- through a move: what the new table shows is what the old one showed
+
+sound-gone : (n : ℕ) (t : List ℕ) (x : History) → Sound x → (n ≡ 0 → (wellFormed t ≡ true) × (shown t ≡ shown (x .table))) → Sound (goneOn n t x)
+unfolding goneOn
+sound-gone zero t x g same = record {
+  formed = same refl .0;
+  valid = rw (same refl .1) (g .valid);
+  account = rw (same refl .1) (g .account);
+  makes = rw (same refl .1) (g .makes);
+  boards = rw (same refl .1) (g .boards);
+}
+sound-gone (suc n) t x g same = g
+
+pub sound-step : (x : History) (d : Step) → Sound x → Sound (step x d)
+unfolding step
+sound-step x (calls c) g = sound-next x c g
+sound-step x (up room) g = sound-gone _ _ x g (λ e. (up-well-formed (x .table) room e, up-shows (x .table) room e))
+sound-step x (down room) g = sound-gone _ _ x g (λ e. (down-well-formed (x .table) room e, down-shows (x .table) room e))
+
+sound-history : (x : History) (ds : List Step) → Sound x → Sound (history x ds)
 unfolding history
 sound-history x [] g = g
-sound-history x (c ∷ cs) g = sound-history (next x c) cs (sound-next x c g)
+sound-history x (d ∷ ds) g = sound-history (step x d) ds (sound-step x d g)
 
 -- ---- a run
 
@@ -82,8 +102,8 @@ first-shown : (w : List ℕ) (b : Call) → Begins w b → shown (tableAfter w b
 unfolding serve served
 first-shown w b g = read-after w b (g .accepted) ∙ rw (g .blank) refl
 
-pub sound-run : (w : List ℕ) (b : Call) → Begins w b → (cs : List Call) → Sound (history (begun (tableAfter w b)) cs)
-sound-run w b g cs = sound-history _ cs first
+pub sound-run : (w : List ℕ) (b : Call) → Begins w b → (ds : List Step) → Sound (history (begun (tableAfter w b)) ds)
+sound-run w b g ds = sound-history _ ds first
   where
     first : Sound (begun (tableAfter w b))
     first = unfold begun in record {

@@ -1,9 +1,10 @@
 -- A run, and what became of each accepted hub request in it, read from the calls and the tables around them: definitions.
--- In order: the classes; a request, and a request read again; the run so far, call by call; what is counted of it; what stands on
+-- In order: the classes; a request, and a request read again; the run so far, step by step; what is counted of it; what stands on
 -- a Board.
 -- Not here: what is promised of a run (Statements.antt), a run worked out (Worked.antt).
 use Prim.Native.Nat.{suc, zero, ℕ}
 use Rattle.rules.specs.Calls.{AddHub, AddTask, Blank, HubRequest, Resume, Service, Sleep, Start, Stop, Suspend, Tick, Unknown, Yield, kept, serviceOf}
+use Rattle.rules.specs.Editions.{downRefusal, movedDown, movedUp, upRefusal}
 use Rattle.rules.specs.HubTable.{Verdict, fail, message, notNow}
 use Rattle.rules.specs.Refusals.{refusalOf}
 use Rattle.rules.specs.Reply.{tableAfter}
@@ -221,10 +222,32 @@ nextBy (suc r) x c = record {
 unfoldable pub next : History → Call → History
 next x c = nextBy (refusalOf (x .table) c) x c
 
--- any calls, in their order, refused ones included
-unfoldable pub history : History → List Call → History
+-- M-105: a step of a run is a call, or a move of its table into a destination of so many words
+pub data Step : Type 0 where
+  calls : Call → Step
+  up down : ℕ → Step
+
+-- "The history of demand 3 goes on in the new table": by the move's refusal number, and the table that it leaves where it is done
+unfoldable pub goneOn : ℕ → List ℕ → History → History
+goneOn zero t x = record {
+  table = t;
+  requests = x .requests;
+  met = x .met;
+  added = x .added;
+  removed = x .removed;
+  calls = x .calls;
+}
+goneOn (suc r) t x = x
+
+unfoldable pub step : History → Step → History
+step x (calls c) = next x c
+step x (up room) = goneOn (upRefusal (x .table) room) (movedUp (x .table)) x
+step x (down room) = goneOn (downRefusal (x .table) room) (movedDown (x .table)) x
+
+-- any steps, in their order, refused ones included
+unfoldable pub history : History → List Step → History
 history x [] = x
-history x (c ∷ cs) = history (next x c) cs
+history x (d ∷ ds) = history (step x d) ds
 
 -- ---- what is counted of it
 

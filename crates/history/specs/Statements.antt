@@ -1,10 +1,10 @@
 -- Demand 3: what holds of every run. `Demand3` is the whole of it, a field for each sentence; `EachMet`, `EachRead` and `OneEach`
 -- are consequences, said by themselves. The proofs are elsewhere: `demand3`, `each-met`, `each-read`, `one-each` of
 -- proofs/Promise.antt.
--- A run: a Blank, accepted, on any 600 or 744 words (`Begins`), and then any calls, any seven numbers each, refused ones included;
--- x is its history (History.antt), and x .table the table as it stands.
+-- A run: a Blank, accepted, on the words of either edition (`Begins`), and then any steps, refused ones included: calls, any eight
+-- numbers each, and moves to the other edition (M-105); x is its history (History.antt), and x .table the table as it stands.
 use Prim.Native.Nat.{_+_, _<_, _≤_, suc, ℕ}
-use Rattle.history.specs.History.{History, Request, at, boardWord, classOf, failed, history, howMany, isMet, isOwned, met, metCount, next, removedAt, rowClass, shown, timedOut, turnedTo, unread, waiting, waitsBy, withdrawn, wordsOf, written}
+use Rattle.history.specs.History.{History, Request, Step, at, boardWord, calls, classOf, down, failed, history, howMany, isMet, isOwned, met, metCount, next, removedAt, rowClass, shown, step, timedOut, turnedTo, unread, up, waiting, waitsBy, withdrawn, wordsOf, written}
 use Rattle.lists.specs.Lists.{bit, occ}
 use Rattle.rules.specs.Calls.{Blank, HubRequest, Stop, Tick, serviceOf}
 use Rattle.rules.specs.HubTable.{Meeting, Verdict, message, verdict}
@@ -16,7 +16,7 @@ use Rattle.rules.specs.WellFormed.{wellFormed}
 use Rattle.rules.specs.declared.Call.{Call}
 use lib.Dec.{eqb}
 use lib.ListN.{getD, length}
-use mathlib.Core.Bool.{Bool, _&&_, true}
+use mathlib.Core.Bool.{Bool, _&&_, false, true}
 use mathlib.Core.List.{List, [], _++_, _∷_}
 use mathlib.Core.Logic.{_≢_, _⊎_}
 use mathlib.Core.Option.{some}
@@ -29,18 +29,28 @@ unfoldable pub Each : {A : Type 0} → (A → Type 0) → List A → Type 0
 Each P [] = Unit {0}
 Each P (x ∷ xs) = P x × Each P xs
 
--- an accepted Blank (on 600 words or 744: on any other length it is refused)
+-- an accepted Blank (on as many words as an edition has: on any other length it is refused)
 pub record Begins (w : List ℕ) (b : Call) : Type 0 where
   pub blank : serviceOf (b .service) ≡ Blank
   pub accepted : refusalOf w b ≡ 0
 
--- no Blank among the calls
-abbrev pub NoBlank : List Call → Type 0
-NoBlank ds = Each (λ d. serviceOf (d .service) ≢ Blank) ds
+-- no Blank among the steps
+unfoldable pub NotBlank : Step → Type 0
+NotBlank (calls c) = serviceOf (c .service) ≢ Blank
+NotBlank (up room) = Unit {0}
+NotBlank (down room) = Unit {0}
 
--- how many Ticks are among the calls
-abbrev pub ticksIn : List Call → ℕ
-ticksIn ds = howMany (λ d. eqb (d .service) 8) ds
+abbrev pub NoBlank : List Step → Type 0
+NoBlank ds = Each NotBlank ds
+
+-- how many Ticks are among the steps
+unfoldable pub isTick : Step → Bool
+isTick (calls c) = eqb (c .service) 8
+isTick (up room) = false
+isTick (down room) = false
+
+abbrev pub ticksIn : List Step → ℕ
+ticksIn ds = howMany isTick ds
 
 -- the task's record shows the request: state 3, its hub, its side, its word
 pub record Stands (s : State) (r : Request) : Type 0 where
@@ -143,6 +153,20 @@ pub data MetBy (s s′ : State) (c : Call) (r : Request) : Type 0 where
 abbrev pub Bears : History → Call → Request → Type 0
 Bears x c r = kindOf (hub (shown (x .table)) (r .hub) .kind) ≡ Board → r .side ≡ 2 → boardWord (r .hub) (next x c .calls) ≡ some (r .received)
 
+-- a move, and what it keeps of a run
+unfoldable pub IsMove : Step → Type 0
+IsMove (calls c) = ⊥
+IsMove (up room) = Unit {0}
+IsMove (down room) = Unit {0}
+
+pub record SameRun (x x′ : History) : Type 0 where
+  pub state : shown (x′ .table) ≡ shown (x .table)
+  pub requests : x′ .requests ≡ x .requests
+  pub met : x′ .met ≡ x .met
+  pub added : x′ .added ≡ x .added
+  pub removed : x′ .removed ≡ x .removed
+  pub calls : x′ .calls ≡ x .calls
+
 -- ---- demand 3
 
 pub record Demand3 (x : History) : Type 0 where
@@ -154,8 +178,8 @@ pub record Demand3 (x : History) : Type 0 where
   pub stands : Each (λ r. r .class ≡ waiting → Stands (shown (x .table)) r) (x .requests)
   -- `met` is the met requests, in order of meeting: of any sort it has as many as there are among all requests
   pub meetings : (p : Request → Bool) → howMany p (x .met) ≡ howMany (λ r. p r && isMet r) (x .requests)
-  -- once out of waiting a request never changes, whatever is called, until a Blank
-  pub settled : (ds : List Call) → NoBlank ds → Continues (x .requests) (history x ds .requests)
+  -- once out of waiting a request never changes, whatever is called or moved, until a Blank
+  pub settled : (ds : List Step) → NoBlank ds → Continues (x .requests) (history x ds .requests)
   -- each hub is as its Add hub call made it: kind, limit and start
   pub hubs : (h : ℕ) → h < length (shown (x .table) .hubs) → MadeBy (addedAs x h) (hub (shown (x .table)) h)
   -- Semaphore: the start given to Add hub, plus the met puts, is the count held plus the met gets
@@ -188,8 +212,11 @@ pub record Demand3 (x : History) : Type 0 where
   pub timesOut : (c : Call) → Each (λ r. serviceOf (c .service) ≡ Tick) (turnedTo timedOut x c)
   pub isWithdrawn : (c : Call) → Each (λ r. (serviceOf (c .service) ≡ Stop) × (r .task ≡ c .target)) (turnedTo withdrawn x c)
   -- "a request under WT with t ticks is out of waiting by the t-th accepted Tick after it": c opens it
-  pub bound : (c : Call) (ds : List Call) → serviceOf (c .service) ≡ HubRequest → refusalOf (x .table) c ≡ 0 → modeOf (c .mode) ≡ WT
-      → NoBlank ds → c .ticks ≤ ticksIn ds → requestAt (history x (c ∷ ds)) (length (x .requests)) .class ≢ waiting
+  pub bound : (c : Call) (ds : List Step) → serviceOf (c .service) ≡ HubRequest → refusalOf (x .table) c ≡ 0 → modeOf (c .mode) ≡ WT
+      → NoBlank ds → c .ticks ≤ ticksIn ds → requestAt (history x (calls c ∷ ds)) (length (x .requests)) .class ≢ waiting
+  -- M-105, a move to the other edition: whether it is done or refused, every request, class and order of meeting stays, and the
+  -- table shows the same tasks, hubs and lists
+  pub moves : (d : Step) → IsMove d → SameRun x (step x d)
   -- the table stays well formed: refusal 2 never comes in a run
   pub formed : wellFormed (x .table) ≡ true
   pub neverTwo : (c : Call) → refusalOf (x .table) c ≢ 2
@@ -197,22 +224,24 @@ pub record Demand3 (x : History) : Type 0 where
   pub blanks : (c : Call) → serviceOf (c .service) ≡ Blank → refusalOf (x .table) c ≡ 0
   pub ticks : (c : Call) → serviceOf (c .service) ≡ Tick → refusalOf (x .table) c ≡ 0
 
--- P of one of the calls after x, and of r
-unfoldable pub InOne : (History → Call → Request → Type 0) → History → List Call → Request → Type 0
+-- P of one of the calls among the steps after x, and of r
+unfoldable pub InOne : (History → Call → Request → Type 0) → History → List Step → Request → Type 0
 InOne P x [] r = ⊥
-InOne P x (c ∷ cs) r = P x c r ⊎ InOne P (next x c) cs r
+InOne P x (calls c ∷ ds) r = P x c r ⊎ InOne P (next x c) ds r
+InOne P x (up room ∷ ds) r = InOne P (step x (up room)) ds r
+InOne P x (down room ∷ ds) r = InOne P (step x (down room)) ds r
 
 -- call c, after x, met r
 abbrev pub Met : History → Call → Request → Type 0
 Met x c r = MetBy (shown (x .table)) (shown (tableAfter (x .table) c)) c r
 
 -- The shift leader's sentence, over a whole run, which begins at x: whatever request is met, one of the run's calls met it.
-abbrev pub EachMet : History → List Call → Type 0
-EachMet x cs = Each (λ r. r .class ≡ met → InOne Met x cs r) (history x cs .requests)
+abbrev pub EachMet : History → List Step → Type 0
+EachMet x ds = Each (λ r. r .class ≡ met → InOne Met x ds r) (history x ds .requests)
 
 -- M-103, over a whole run: the call that met a read of a Board is one after which the read's word stands on it.
-abbrev pub EachRead : History → List Call → Type 0
-EachRead x cs = Each (λ r. r .class ≡ met → InOne (λ x c r. Met x c r × Bears x c r) x cs r) (history x cs .requests)
+abbrev pub EachRead : History → List Step → Type 0
+EachRead x ds = Each (λ r. r .class ≡ met → InOne (λ x c r. Met x c r × Bears x c r) x ds r) (history x ds .requests)
 
 -- One call meets at most one put and one get of a FIFO. Nothing above leans on it.
 abbrev pub OneEach : History → Type 0

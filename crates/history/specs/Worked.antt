@@ -1,31 +1,37 @@
--- Four runs worked out over the tables themselves, by computation: the marked calls of document 01, one with a Stop of a task
--- that waits, one with a Stop of a task that owns a Resource (M-101), one of a Board (M-103).
--- A line for each call behind the Blank, a line for each request that the calls opened; refused calls open none.
+-- Five runs worked out over the tables themselves, by computation: the marked calls of document 01, one with a Stop of a task
+-- that waits, one with a Stop of a task that owns a Resource (M-101), one of a Board (M-103), one that moves its table while
+-- requests wait (M-105).
+-- A line for each step behind the Blank, a line for each request that the calls opened; refused calls open none.
 use Prim.Native.Nat.{ℕ}
-use Rattle.history.specs.History.{Class, History, Request, again, asked, begun, called, classBy, classOf, failed, history, made, met, metCount, next, nextBy, opened, partOf, removedAt, removedBy, reread, shown, sinceBlank, those, timedOut, turned, turnedBy, turnedTo, waiting, withdrawn, wordsOf}
+use Rattle.history.specs.History.{Class, History, Request, Step, again, asked, begun, called, calls, classBy, classOf, down, failed, goneOn, history, made, met, metCount, next, nextBy, opened, partOf, removedAt, removedBy, reread, shown, sinceBlank, step, those, timedOut, turned, turnedBy, turnedTo, up, waiting, withdrawn, wordsOf}
 use Rattle.lists.specs.Lists.{allZero, entries, insert, numbers, occ, packed, without}
 use Rattle.rules.specs.Calls.{addHub, addStarted, addTask, blank, carryOut, deactivate, flag, grant, hold, kept, meetAll, newHub, passAll, passOne, serve, served, serviceOf, settle, slept, start, stop, tickAll, tickBy, tickOne, wait, yielded}
+use Rattle.rules.specs.Editions.{downRefusal, highZero, moveRefusal, upRefusal, zerosAt}
 use Rattle.rules.specs.HubTable.{getBoard, getEvent, getFifo, getPort, getResource, getSemaphore, onGet, onPut, onSide, onWipe, pass, putBoard, putEvent, putFifo, putPort, putResource, putSemaphore, readers, verdict}
 use Rattle.rules.specs.Lists.{answer, answered, asleep, counted, firstFree, firstWaiting, flagged, holding, joinHub, joinReady, leave, queued, readied, unqueue, waits, wake}
 use Rattle.rules.specs.Lists.{next as running}
 use Rattle.rules.specs.Refusals.{behind, byRunning, goodHub, goodWait, lastSide, modeOf, need, onTask, refusal, refusalAt, refusalFor, refusalIn}
 use Rattle.rules.specs.Reply.{tableAfter, tableBy, tableIn}
-use Rattle.rules.specs.Table.{contents, editionOf, heldIn, hub, hubAt, inactive, isResource, kindOf, noHub, owns, read, rows, setHub, setReady, setTask, sideOf, stageOf, tab, taskAt, words}
+use Rattle.rules.specs.Table.{contents, editionOf, heldIn, hub, hubAt, inactive, isResource, kindOf, noHub, one, owns, read, rows, setHub, setReady, setTask, sideOf, size, stageOf, tab, taskAt, two, words}
 use Rattle.rules.specs.WellFormed.{bearsWord, contentsRight, every, exactly, fieldsRight, forAll, hubsRight, inOrder, kindRight, listsExact, listsPacked, mayWait, oneSide, ownerRight, ownersRight, rising, stageRight, storeRight, storesRight, tasksRight, unusedZero, valid, waitersRight, wellFormedIn, written}
 use Rattle.rules.specs.declared.Call.{Call}
 use lib.ListN.{replicate}
 use mathlib.Core.List.{List, [], _∷_}
 use mathlib.Core.Path.{_≡_, refl}
 
-abbrev pub call : ℕ → ℕ → ℕ → ℕ → ℕ → ℕ → ℕ → Call
-call sv ca ta si mo ti wo = record { service = sv; caller = ca; target = ta; side = si; mode = mo; ticks = ti; word = wo; high = 0 }
+-- a call's eight numbers
+abbrev pub numbered : ℕ → ℕ → ℕ → ℕ → ℕ → ℕ → ℕ → ℕ → Call
+numbered sv ca ta si mo ti wo hi = record { service = sv; caller = ca; target = ta; side = si; mode = mo; ticks = ti; word = wo; high = hi }
+
+abbrev pub call : ℕ → ℕ → ℕ → ℕ → ℕ → ℕ → ℕ → ℕ → Step
+call sv ca ta si mo ti wo hi = calls (numbered sv ca ta si mo ti wo hi)
 
 abbrev pub row : ℕ → ℕ → ℕ → ℕ → Class → ℕ → Request
 row i h d w k x = record { task = i; hub = h; side = d; word = w; class = k; received = x }
 
--- a Blank on a table of zeros, and then the calls
-unfoldable pub run : List Call → History
-run cs = history (begun (tableAfter (replicate 600 0) (call 0 0 0 0 0 0 0))) cs
+-- a Blank on a table of zeros, of edition 1, and then the steps
+unfoldable pub run : List Step → History
+run ds = history (begun (tableAfter (replicate (size one) 0) (numbered 0 0 0 0 0 0 0 0))) ds
 
 -- what is seen of it: its requests; the words of met puts and of met gets at hub 0, how many owners of it a Stop removed, its
 -- count and the words it holds
@@ -48,68 +54,87 @@ seen x = record {
 }
 
 -- what is seen of a run; to unfold it is to unfold all that it computes with
-unfoldable pub shows : List Call → Seen
-unfolding addHub addStarted addTask again allZero answer answered asked asleep bearsWord begun behind blank byRunning called carryOut classBy classOf contents contentsRight counted deactivate editionOf entries every exactly fieldsRight firstFree firstWaiting flag flagged forAll getBoard getEvent getFifo getPort getResource getSemaphore goodHub goodWait grant heldIn history hold holding hubAt hubsRight inOrder inactive insert isResource joinHub joinReady kept kindOf kindRight lastSide leave listsExact listsPacked made mayWait meetAll metCount modeOf need newHub next nextBy noHub numbers occ onGet onPut onSide onTask onWipe oneSide opened ownerRight ownersRight owns packed partOf pass passAll passOne putBoard putEvent putFifo putPort putResource putSemaphore queued read readers readied refusal refusalAt refusalFor refusalIn removedBy reread rising rows run running seen serve served serviceOf setHub setReady setTask settle sideOf sinceBlank slept stageOf stageRight start stop storeRight storesRight tab tableBy tableIn taskAt tasksRight those tickAll tickBy tickOne turned turnedBy turnedTo unqueue unusedZero valid verdict wait waitersRight waits wake wellFormedIn without words wordsOf written yielded
-shows cs = seen (run cs)
+unfoldable pub shows : List Step → Seen
+unfolding addHub addStarted addTask again allZero answer answered asked asleep bearsWord begun behind blank byRunning called carryOut classBy classOf contents contentsRight counted deactivate downRefusal editionOf entries every exactly fieldsRight firstFree firstWaiting flag flagged forAll getBoard getEvent getFifo getPort getResource getSemaphore goneOn goodHub goodWait grant heldIn history highZero hold holding hubAt hubsRight inOrder inactive insert isResource joinHub joinReady kept kindOf kindRight lastSide leave listsExact listsPacked made mayWait meetAll metCount modeOf moveRefusal need newHub next nextBy noHub numbers occ onGet onPut onSide onTask onWipe oneSide opened ownerRight ownersRight owns packed partOf pass passAll passOne putBoard putEvent putFifo putPort putResource putSemaphore queued read readers readied refusal refusalAt refusalFor refusalIn removedBy reread rising rows run running seen serve served serviceOf setHub setReady setTask settle sideOf sinceBlank slept stageOf stageRight start step stop storeRight storesRight tab tableBy tableIn taskAt tasksRight those tickAll tickBy tickOne turned turnedBy turnedTo unqueue unusedZero upRefusal valid verdict wait waitersRight waits wake wellFormedIn without words wordsOf written yielded zerosAt
+shows ds = seen (run ds)
 
 -- the marked calls behind the Blank
-unfoldable pub marked : List Call
+unfoldable pub marked : List Step
 marked =
-    call 9 0 5 1 0 0 0  -- task 0, priority 5, started
-    ∷ call 9 0 3 1 0 0 0  -- task 1, priority 3, started: it runs
-    ∷ call 10 0 4 0 0 1 0  -- hub 0, a FIFO of one word
-    ∷ call 1 1 0 2 3 2 0  -- task 1 gets under WT, two ticks: it waits
-    ∷ call 1 0 0 1 1 0 77  -- task 0 puts 77: both are met
-    ∷ call 1 0 0 1 1 0 5  -- refused with 4: task 1 runs
-    ∷ call 1 1 0 1 2 0 9  -- task 1 puts 9: met by the store
-    ∷ call 1 1 0 1 2 0 10  -- puts 10 under NW, the FIFO is full: failed
-    ∷ call 1 1 0 1 3 1 10  -- puts 10 under WT, one tick: it waits
-    ∷ call 8 0 0 0 0 0 0  -- and times out
+    call 9 0 5 1 0 0 0 0  -- task 0, priority 5, started
+    ∷ call 9 0 3 1 0 0 0 0  -- task 1, priority 3, started: it runs
+    ∷ call 10 0 4 0 0 1 0 0  -- hub 0, a FIFO of one word
+    ∷ call 1 1 0 2 3 2 0 0  -- task 1 gets under WT, two ticks: it waits
+    ∷ call 1 0 0 1 1 0 77 0  -- task 0 puts 77: both are met
+    ∷ call 1 0 0 1 1 0 5 0  -- refused with 4: task 1 runs
+    ∷ call 1 1 0 1 2 0 9 0  -- task 1 puts 9: met by the store
+    ∷ call 1 1 0 1 2 0 10 0  -- puts 10 under NW, the FIFO is full: failed
+    ∷ call 1 1 0 1 3 1 10 0  -- puts 10 under WT, one tick: it waits
+    ∷ call 8 0 0 0 0 0 0 0  -- and times out
     ∷ []
 
 -- a Semaphore of start 1, a task stopped while it waits, another left waiting
-unfoldable pub stopped : List Call
+unfoldable pub stopped : List Step
 stopped =
-    call 9 0 1 1 0 0 0  -- task 0, priority 1, started
-    ∷ call 9 0 2 1 0 0 0  -- task 1, priority 2, started
-    ∷ call 10 0 2 0 0 2 1  -- hub 0, a Semaphore of limit 2, start 1
-    ∷ call 1 0 0 2 1 0 0  -- task 0 gets: met by the count
-    ∷ call 1 0 0 2 1 0 0  -- gets again: it waits
-    ∷ call 3 1 0 0 0 0 0  -- task 1 stops task 0: withdrawn
-    ∷ call 1 1 0 1 1 0 8  -- task 1 puts: met by the count; the word 8 is not kept
-    ∷ call 1 1 0 2 1 0 0  -- gets: met by the count
-    ∷ call 1 1 0 2 1 0 0  -- gets again: it waits
+    call 9 0 1 1 0 0 0 0  -- task 0, priority 1, started
+    ∷ call 9 0 2 1 0 0 0 0  -- task 1, priority 2, started
+    ∷ call 10 0 2 0 0 2 1 0  -- hub 0, a Semaphore of limit 2, start 1
+    ∷ call 1 0 0 2 1 0 0 0  -- task 0 gets: met by the count
+    ∷ call 1 0 0 2 1 0 0 0  -- gets again: it waits
+    ∷ call 3 1 0 0 0 0 0 0  -- task 1 stops task 0: withdrawn
+    ∷ call 1 1 0 1 1 0 8 0  -- task 1 puts: met by the count; the word 8 is not kept
+    ∷ call 1 1 0 2 1 0 0 0  -- gets: met by the count
+    ∷ call 1 1 0 2 1 0 0 0  -- gets again: it waits
     ∷ []
 
 -- a Resource whose owner is stopped: it passes to the task that waits, which unlocks it
-unfoldable pub passes : List Call
+unfoldable pub passes : List Step
 passes =
-    call 9 0 1 1 0 0 0  -- task 0, priority 1, started
-    ∷ call 9 0 2 1 0 0 0  -- task 1, priority 2, started
-    ∷ call 9 0 3 1 0 0 0  -- task 2, priority 3, started
-    ∷ call 10 0 5 0 0 1 0  -- hub 0, a Resource
-    ∷ call 1 0 0 2 1 0 0  -- task 0 locks it: met
-    ∷ call 7 0 0 0 0 9 0  -- and sleeps
-    ∷ call 1 1 0 2 3 5 0  -- task 1 locks under WT: it waits
-    ∷ call 3 2 0 0 0 0 0  -- task 2 stops task 0: task 1 is met and owns it
-    ∷ call 1 1 0 1 1 0 0  -- task 1 unlocks: met, and it is free
+    call 9 0 1 1 0 0 0 0  -- task 0, priority 1, started
+    ∷ call 9 0 2 1 0 0 0 0  -- task 1, priority 2, started
+    ∷ call 9 0 3 1 0 0 0 0  -- task 2, priority 3, started
+    ∷ call 10 0 5 0 0 1 0 0  -- hub 0, a Resource
+    ∷ call 1 0 0 2 1 0 0 0  -- task 0 locks it: met
+    ∷ call 7 0 0 0 0 9 0 0  -- and sleeps
+    ∷ call 1 1 0 2 3 5 0 0  -- task 1 locks under WT: it waits
+    ∷ call 3 2 0 0 0 0 0 0  -- task 2 stops task 0: task 1 is met and owns it
+    ∷ call 1 1 0 1 1 0 0 0  -- task 1 unlocks: met, and it is free
     ∷ []
 
 -- a Board: two readers wait, the more urgent one behind the other in time and before it in the list; an update meets both
-unfoldable pub boarded : List Call
+unfoldable pub boarded : List Step
 boarded =
-    call 9 0 2 1 0 0 0  -- task 0, priority 2, started
-    ∷ call 10 0 6 0 0 1 0  -- hub 0, a Board
-    ∷ call 1 0 0 2 1 0 0  -- task 0 reads: nothing is written, it waits
-    ∷ call 9 0 1 1 0 0 0  -- task 1, priority 1, started
-    ∷ call 1 1 0 2 3 5 0  -- task 1 reads under WT: it waits
-    ∷ call 9 0 3 1 0 0 0  -- task 2, priority 3, started
-    ∷ call 1 2 0 1 1 0 41  -- task 2 writes 41: both readers are met with it
-    ∷ call 1 1 0 2 2 0 0  -- task 1 reads 41 again: it isn't taken
-    ∷ call 1 1 0 1 2 0 42  -- and writes 42 over it
-    ∷ call 1 1 0 3 1 0 9  -- wipes
-    ∷ call 1 1 0 2 2 0 0  -- reads under NW: failed
-    ∷ call 1 1 0 1 1 0 0  -- writes 0, a word as any other
+    call 9 0 2 1 0 0 0 0  -- task 0, priority 2, started
+    ∷ call 10 0 6 0 0 1 0 0  -- hub 0, a Board
+    ∷ call 1 0 0 2 1 0 0 0  -- task 0 reads: nothing is written, it waits
+    ∷ call 9 0 1 1 0 0 0 0  -- task 1, priority 1, started
+    ∷ call 1 1 0 2 3 5 0 0  -- task 1 reads under WT: it waits
+    ∷ call 9 0 3 1 0 0 0 0  -- task 2, priority 3, started
+    ∷ call 1 2 0 1 1 0 41 0  -- task 2 writes 41: both readers are met with it
+    ∷ call 1 1 0 2 2 0 0 0  -- task 1 reads 41 again: it isn't taken
+    ∷ call 1 1 0 1 2 0 42 0  -- and writes 42 over it
+    ∷ call 1 1 0 3 1 0 9 0  -- wipes
+    ∷ call 1 1 0 2 2 0 0 0  -- reads under NW: failed
+    ∷ call 1 1 0 1 1 0 0 0  -- writes 0, a word as any other
+    ∷ []
+
+-- a table that moves to edition 2 while a request waits, and back while another does
+unfoldable pub moved : List Step
+moved =
+    call 9 0 1 1 0 0 0 0  -- task 0, priority 1, started
+    ∷ call 9 0 2 1 0 0 0 0  -- task 1, priority 2, started
+    ∷ call 10 0 3 0 0 0 0 0  -- hub 0, a Port
+    ∷ call 10 0 1 0 0 1 0 0  -- hub 1, an Event
+    ∷ call 1 0 0 2 1 0 0 0  -- task 0 gets from the Port: it waits
+    ∷ call 1 1 0 1 1 0 7 1  -- refused with 6: a high word on edition 1
+    ∷ up (size one)  -- refused with 1: the destination is too short
+    ∷ up (size two)  -- the table moves, and task 0 goes on waiting
+    ∷ call 1 1 0 1 1 0 7 1  -- task 1 puts a message of two words: both are met
+    ∷ down (size one)  -- refused with 9: task 0 has received a high word
+    ∷ call 1 0 1 2 3 2 0 0  -- task 0 gets from the Event under WT, two ticks: it waits
+    ∷ call 8 0 0 0 0 0 0 0  -- one tick
+    ∷ down (size one)  -- the table moves back, and task 0 goes on waiting
+    ∷ call 8 0 0 0 0 0 0 0  -- times out by the second
     ∷ []
 
 --       task hub side word class received
@@ -170,6 +195,15 @@ pub worked : (
       count = 1;
       held = 0 ∷ [];
     }
+    ) × (
+    shows moved ≡ record {
+      requests = row 0 0 2 0 met 4294967303 ∷ row 1 0 1 4294967303 met 0 ∷ row 0 1 2 0 timedOut 0 ∷ [];
+      puts = 4294967303 ∷ [];
+      gets = 4294967303 ∷ [];
+      removed = 0;
+      count = 0;
+      held = [];
+    }
     )
-unfolding boarded marked passes shows stopped
-worked = (refl, refl, refl, refl)
+unfolding boarded marked moved passes shows stopped
+worked = (refl, refl, refl, refl, refl)

@@ -6,11 +6,11 @@ use Rattle.kernel.specs.Promise.{CalledIn, ServedIn}
 use Rattle.lists.proofs.Laws.{boolCase}
 use Rattle.moves.specs.Moves.{keyOf}
 use Rattle.messages.specs.Messages.{messages}
-use Rattle.records.specs.Records.{Table, taskSizeOf, width}
+use Rattle.records.specs.Records.{Table, width}
 use Rattle.rules.proofs.Accepted.{caller-ready, on-task, request-tests}
 use Rattle.rules.proofs.After.{accepted, accepted-formed, accepted-long, valid-in, words-in}
 use Rattle.rules.proofs.Changes.{inUse}
-use Rattle.rules.proofs.Layouts.{Laid, one-laid, store-place, two-laid}
+use Rattle.rules.proofs.Layouts.{Laid, store-place}
 use Rattle.rules.proofs.Lengths.{length-serve, tasksAfter}
 use Rattle.rules.proofs.Numbers.{bears-answer, silent-first, silent-past}
 use Rattle.rules.proofs.Valid.{Valid}
@@ -19,7 +19,7 @@ use Rattle.rules.specs.HubTable.{message}
 use Rattle.rules.specs.Lists.{next}
 use Rattle.rules.specs.Refusals.{behind, goodMessage, need, refusal, refusalAt, refusalFor, refusalIn}
 use Rattle.rules.specs.Reply.{outcome, outcomeOf, replyBy, replyIn, tableBy, tableIn}
-use Rattle.rules.specs.Table.{Layout, State, editionOf, read, size, task, words}
+use Rattle.rules.specs.Table.{Layout, State, read, size, task, words}
 use Rattle.rules.specs.WellFormed.{urgency, wellFormedIn}
 use Rattle.rules.specs.declared.Answer.the-variants.{Accepted, Refused}
 use Rattle.rules.specs.declared.Call.{Call}
@@ -27,7 +27,7 @@ use Rattle.rules.specs.declared.Outcome.the-variants.{NothingYet}
 use Rattle.rules.specs.declared.Outcome.{Outcome}
 use Rattle.rules.specs.declared.Served.{Served}
 use borrow.Author.Tests.{eq-eqb, eqb-true, leb-false, leb-true, ne-eqb}
-use lib.Dec.{eqb, leb}
+use lib.Dec.{leb}
 use lib.ListN.{List·getD-eq-default, getD, length}
 use mathlib.Core.Bool.{false, true}
 use mathlib.Core.List.{List, [], _∷_}
@@ -54,13 +54,6 @@ module _ (s : State) (c : Call) (v : Service) (e : serviceOf (c .service) ≡ v)
 -- two keys that agree at every task are one
 pub key-is : (ks : List ℕ) (key : ℕ → ℕ) → ((j : ℕ) → getD ks j 0 ≡ key j) → keyOf ks ≡ key
 key-is ks key e = λ i j. e j i
-
--- ---- the edition that fits the length, as the code has it
-
-pub edition-laid-of : (t : List ℕ) (ts : ℕ) → ts ≡ taskSizeOf (length t) → Laid ts (editionOf t)
-unfolding editionOf
-edition-laid-of t ts e =
-    rw e (boolCase (eqb (length t) 744) (λ b. rw b two-laid) (λ b. rw b one-laid))
 
 -- ---- the refusal of a table, test by test
 

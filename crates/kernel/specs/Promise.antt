@@ -1,4 +1,4 @@
--- What `call` promises of every table of words and every seven numbers: an equation for the reply and one for the table; the
+-- What `call` promises of every table of words and every eight numbers: an equation for the reply and one for the table; the
 -- same over any layout; and what an accepted call rests on.
 use Prim.Native.Nat.{ℕ}
 use Rattle.rules.proofs.Layouts.{Edition}

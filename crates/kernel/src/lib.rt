@@ -1,4 +1,4 @@
-// The hub kernel: one call on one table, for any words and any seven numbers. Numbers in, one look at the table, one service,
+// The hub kernel: one call on one table, for any words and any eight numbers. Numbers in, one look at the table, one service,
 // numbers out. `call` and `summary` are the public promise, over both editions; each function above them says what it does to
 // every state that a table of any layout holds.
 use records::TaskNo;

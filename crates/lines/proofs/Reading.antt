@@ -32,9 +32,9 @@ unfolding pushAll
 push-last x [] v = refl
 push-last x (u ∷ vs) v = push-last (push x u) vs v
 
-push-seven : (ns : List ℕ) → length ns ≡ fieldCount → pushAll noNumbers ns ≡ numbersOf ns
+push-eight : (ns : List ℕ) → length ns ≡ fieldCount → pushAll noNumbers ns ≡ numbersOf ns
 unfolding numbersOf pushAll
-push-seven ns e = ap (pushAll noNumbers) (sym (listOf-numbersOf ns e))
+push-eight ns e = ap (pushAll noNumbers) (sym (listOf-numbersOf ns e))
 
 map-snoc : (ws : List (List ℕ)) (w : List ℕ) → map value (ws ++ w ∷ []) ≡ map value ws ++ value w ∷ []
 map-snoc [] w = refl
@@ -271,7 +271,7 @@ end-reading n ws (a ∷ w) ok =
     let h : length ws ≡ fieldCount - 1 = eqb-true (length ws) (fieldCount - 1) e in
     let k : length vs ≡ fieldCount = omega (arith, length-snoc ws (a ∷ w)) in
     sym (end-good s refl refl h)
-    ∙ ap Good (sym (push-word ws (a ∷ w)) ∙ push-seven (map value vs) (length-map vs value ∙ k))
+    ∙ ap Good (sym (push-word ws (a ∷ w)) ∙ push-eight (map value vs) (length-map vs value ∙ k))
     ∙ sym (judged-good n vs (and-both (eqb (length vs) fieldCount) (all isNumber vs) (eq-eqb (length vs) fieldCount k) (each-with ws (a ∷ w) (ok .each) (ok .part)))))
     (λ e.
     let h : length ws ≡ fieldCount - 1 → ⊥ = eqb-false (length ws) (fieldCount - 1) e in

@@ -1,7 +1,7 @@
--- A good line and the text of its numbers are one (`good-line`): every text of seven numbers is read as these, and a line
--- that is read as numbers is their text, so no other spelling is taken. No such line has more than 76 bytes, so the limit
--- of 80 turns none away (`good-by-numbers`), and the reader need not count.
--- In order: one number; a line of numbers and its length; seven numbers as a list; a line and its text.
+-- A good line and the text of its numbers are one (`good-line`): every text of eight numbers is read as these, and a line
+-- that is read as numbers is their text, so no other spelling is taken. No such line has more than 87 bytes, so the limit
+-- of 90 turns none away (`good-by-numbers`), and the reader need not count.
+-- In order: one number; a line of numbers and its length; eight numbers as a list; a line and its text.
 use Prim.Native.Nat.{_*_, _<_, _≤_, ℕ}
 use Rattle.lines.proofs.Bools.{and-both, and-l, and-r, boolCase}
 use Rattle.lines.proofs.Decimal.{decimal-value, digit-low, isDecimal-decimal, isNumber-decimal, length-decimal, value-decimal}
@@ -57,7 +57,7 @@ decimal-lacks sep h n = digits-lack sep h (decimal n) (decimal-digits (decimal n
 
 -- ---- a line of numbers
 
--- numbers of at most ten digits, with a byte between each two: 76 bytes for seven of them
+-- numbers of at most ten digits, with a byte between each two: 87 bytes for eight of them
 numbers-short : (ws : List (List ℕ)) → areNumbers ws ≡ true → length (joined space ws) < 11 * fieldCount
 unfolding areNumbers joined
 numbers-short [] e = omega arith
@@ -91,12 +91,12 @@ pub line-by-words : (n : ℕ) (line : List ℕ) → lineOf n line ≡ judged n (
 unfolding judged lineOf
 line-by-words n line = rw (good-by-numbers line)
 
--- ---- seven numbers as a list
+-- ---- eight numbers as a list
 
 abbrev pub within : List ℕ → Bool
 within ns = all (λ v. leb v numberLimit) ns
 
--- the numbers of a list of seven are that list
+-- the numbers of a list of eight are that list
 pub listOf-numbersOf : (ns : List ℕ) → length ns ≡ fieldCount → listOf (numbersOf ns) ≡ ns
 unfolding numbersOf
 listOf-numbersOf [] e = absurd (omega arith)
@@ -106,8 +106,9 @@ listOf-numbersOf (a ∷ b ∷ c ∷ []) e = absurd (omega arith)
 listOf-numbersOf (a ∷ b ∷ c ∷ d ∷ []) e = absurd (omega arith)
 listOf-numbersOf (a ∷ b ∷ c ∷ d ∷ f ∷ []) e = absurd (omega arith)
 listOf-numbersOf (a ∷ b ∷ c ∷ d ∷ f ∷ g ∷ []) e = absurd (omega arith)
-listOf-numbersOf (a ∷ b ∷ c ∷ d ∷ f ∷ g ∷ h ∷ []) e = refl
-listOf-numbersOf (a ∷ b ∷ c ∷ d ∷ f ∷ g ∷ h ∷ i ∷ ns) e = absurd (omega arith)
+listOf-numbersOf (a ∷ b ∷ c ∷ d ∷ f ∷ g ∷ h ∷ []) e = absurd (omega arith)
+listOf-numbersOf (a ∷ b ∷ c ∷ d ∷ f ∷ g ∷ h ∷ i ∷ []) e = refl
+listOf-numbersOf (a ∷ b ∷ c ∷ d ∷ f ∷ g ∷ h ∷ i ∷ j ∷ ns) e = absurd (omega arith)
 
 numbers-decimal : (ns : List ℕ) → within ns ≡ true → all isNumber (map decimal ns) ≡ true
 unfolding all
@@ -146,9 +147,9 @@ within-values (w ∷ ws) e =
 
 words-text : (x : Numbers) → pieces space (textOf x) ≡ map decimal (listOf x)
 unfolding spaced textOf
-words-text x = pieces-joined space (decimal (x .service)) (map decimal (x .caller ∷ x .target ∷ x .side ∷ x .mode ∷ x .ticks ∷ x .word ∷ [])) (decimals-lack (listOf x))
+words-text x = pieces-joined space (decimal (x .service)) (map decimal (x .caller ∷ x .target ∷ x .side ∷ x .mode ∷ x .ticks ∷ x .word ∷ x .high ∷ [])) (decimals-lack (listOf x))
 
--- every text of seven numbers is read as these numbers
+-- every text of eight numbers is read as these numbers
 pub read-text : (n : ℕ) (x : Numbers) → within (listOf x) ≡ true → lineOf n (textOf x) ≡ Good x
 unfolding areNumbers numbersOf
 read-text n x e =

@@ -13,17 +13,17 @@ use mathlib.Core.Path.{_≡_}
 
 -- ---- the paper's numbers, and the bytes it names
 
--- "seven decimal numbers"
+-- "seven decimal numbers", and M-105: "Calls and lines get an eighth number"
 abbrev pub fieldCount : ℕ
-fieldCount = 7
+fieldCount = 8
 
 -- "up to 4,294,967,295"
 abbrev pub numberLimit : ℕ
 numberLimit = 4_294_967_295
 
--- "at most 80 bytes without the newline"
+-- "at most 80 bytes without the newline", since M-105 "at most 90 bytes"
 abbrev pub lineLimit : ℕ
-lineLimit = 80
+lineLimit = 90
 
 abbrev pub newline : ℕ
 newline = 10
@@ -107,7 +107,7 @@ isNumber w = isDecimal w && leb (value w) numberLimit
 
 -- ---- a good line and its numbers
 
--- "service, caller, target, side, mode, ticks, word"
+-- "service, caller, target, side, mode, ticks, word", and M-105's "eighth number, the high word"
 unfoldable pub numbersOf : List ℕ → Numbers
 numbersOf ns =
     record {
@@ -118,16 +118,18 @@ numbersOf ns =
       mode = getD ns 4 0;
       ticks = getD ns 5 0;
       word = getD ns 6 0;
+      high = getD ns 7 0;
     }
 
 abbrev pub listOf : Numbers → List ℕ
-listOf x = x .service ∷ x .caller ∷ x .target ∷ x .side ∷ x .mode ∷ x .ticks ∷ x .word ∷ []
+listOf x = x .service ∷ x .caller ∷ x .target ∷ x .side ∷ x .mode ∷ x .ticks ∷ x .word ∷ x .high ∷ []
 
--- the words that single spaces part are seven numbers
+-- the words that single spaces part are eight numbers
 unfoldable pub areNumbers : List (List ℕ) → Bool
 areNumbers ws = eqb (length ws) fieldCount && all isNumber ws
 
--- "seven decimal numbers up to 4,294,967,295, one space between, no leading zeros, at most 80 bytes without the newline"
+-- "seven decimal numbers up to 4,294,967,295, one space between, no leading zeros, at most 80 bytes without the newline";
+-- with M-105 eight of them, and 90 bytes
 unfoldable pub isGood : List ℕ → Bool
 isGood line = leb (length line) lineLimit && areNumbers (pieces space line)
 

@@ -16,7 +16,7 @@ use mathlib.Core.List.{List, [], _++_, _∷_}
 -- ---- the state, and a byte of a line
 
 abbrev pub noNumbers : Numbers
-noNumbers = record { service = 0; caller = 0; target = 0; side = 0; mode = 0; ticks = 0; word = 0 }
+noNumbers = record { service = 0; caller = 0; target = 0; side = 0; mode = 0; ticks = 0; word = 0; high = 0 }
 
 -- the numbers move one field up, and v comes last: after as many as there are fields, each is in its own
 abbrev pub push : Numbers → ℕ → Numbers
@@ -28,7 +28,8 @@ push x v =
       side = x .mode;
       mode = x .ticks;
       ticks = x .word;
-      word = v;
+      word = x .high;
+      high = v;
     }
 
 -- line n, no byte of it read

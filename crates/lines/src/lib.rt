@@ -1,6 +1,6 @@
 // The drill runner's line reader and line writer, over bytes. A line is read byte by byte into a state by value, so that it
 // may cross chunks of any size and an overlong line takes no memory. specs/Lines.antt says what a line is and what is printed.
-// Bytes are not counted: seven numbers take at most 76, so the limit of 80 turns no line away (proofs/Texts.antt).
+// Bytes are not counted: eight numbers take at most 87, so the limit of 90 turns no line away (proofs/Texts.antt).
 ghost use Prim.Native.Nat.{_*_, _+_, _<_, _≤_};
 ghost use Rattle.lines.specs.Lines.{Put, badText, decimal, printRoom, printed};
 ghost use Rattle.lines.specs.Scan.{byteStep, digitStep, isFresh, lineOfScan, nextOf, progressOf, push, spaceStep, startOf};
@@ -15,7 +15,7 @@ pub const PRINT_ROOM: usize = 64;
 // The paper's numbers, likewise.
 const NUMBER_LIMIT: u64 = 4294967295;
 
-const FIELDS: u32 = 7;
+const FIELDS: u32 = 8;
 
 const LAST_LINE: u64 = 18446744073709551615;
 
@@ -27,7 +27,7 @@ const ZERO: u8 = 48;
 
 const NINE: u8 = 57;
 
-// The seven numbers of a good line.
+// The eight numbers of a good line. The last is the high word of a message (M-105), read by hub requests only.
 pub struct Numbers {
     pub service: u32,
     pub caller: u32,
@@ -36,6 +36,7 @@ pub struct Numbers {
     pub mode: u32,
     pub ticks: u32,
     pub word: u32,
+    pub high: u32,
 }
 
 // A line that has ended: its numbers, or the number N that `line N bad` prints.
@@ -62,7 +63,7 @@ pub enum Progress {
     More(Scan),
 }
 
-// The numbers move one field up, and v comes last: after seven, each is in its own field.
+// The numbers move one field up, and v comes last: after eight, each is in its own field.
 fn with_number(x: Numbers, v: u32) -> Numbers
     ensures { λ r. ⌜ r ≡ push x v ⌝ }
 {
@@ -73,7 +74,8 @@ fn with_number(x: Numbers, v: u32) -> Numbers
         side: x.mode,
         mode: x.ticks,
         ticks: x.word,
-        word: v,
+        word: x.high,
+        high: v,
     }
 }
 
@@ -90,6 +92,7 @@ impl Scan {
             mode: 0,
             ticks: 0,
             word: 0,
+            high: 0,
         };
         Scan {
             line,

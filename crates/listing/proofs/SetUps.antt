@@ -1,16 +1,16 @@
 -- The lines that the words of a table say are those of the set-up of the state that it holds. In order: lists made from numbers;
--- a task's line and a hub's; all of them; and the answer of each way out. Assumes nothing.
+-- a task's line and a hub's; all of them; the answer of each way out; and the table's own edition. Assumes nothing.
 use Prim.Native.Nat.{_*_, _+_, _-_, _<_, _≤_, suc, zero, ℕ}
 use Rattle.lines.specs.Lines.{Put}
 use Rattle.lists.proofs.Laws.{boolCase}
-use Rattle.listing.specs.Listing.{ListedIn, blankLine, hubLine, hubSetUp, lineAt, linesAt, listingIn, listingRefusal, listingReply, priorityOf, setUp, setUpLines, setUpText, taskLine, textAfter, textOfLines}
+use Rattle.listing.specs.Listing.{ListedFrom, ListedIn, blankLine, hubLine, hubSetUp, lineAt, linesAt, listing, listingIn, listingRefusalIn, listingReplyIn, priorityOf, setUp, setUpLines, setUpText, taskLine, textIn, textOfLines}
 use Rattle.listing.specs.declared.Listed.{Listed}
 use Rattle.rules.proofs.After.{valid-in, words-in}
 use Rattle.rules.proofs.Layouts.{Laid, sized}
 use Rattle.rules.proofs.Places.{hub-word, hubs-word, task-word, tasks-word}
 use Rattle.rules.proofs.Reading.{read-hubs, read-tasks}
 use Rattle.rules.specs.Refusals.{need}
-use Rattle.rules.specs.Table.{Layout, State, hub, inactive, noHub, read, size, tab, task, words}
+use Rattle.rules.specs.Table.{Layout, State, editionOf, hub, inactive, noHub, read, size, tab, task, words}
 use Rattle.rules.specs.WellFormed.{wellFormedIn}
 use borrow.Author.Tests.{eq-eqb, le-leb, lt-leb, ne-eqb}
 use lib.Dec.{eqb}
@@ -100,30 +100,30 @@ counts L t w = let v = valid-in L t w in (rw (read-tasks L t) at (v .tasks), rw 
 -- ---- the ways out
 
 module _ (L : Layout) (t text : List ℕ) where
-  refused-by : (n : ℕ) (r : Listed) → r .refusal ≡ suc n → r .length ≡ 0 → listingRefusal L t (length text) ≡ suc n → ListedIn L t text r text
-  unfolding listingReply textAfter
+  refused-by : (n : ℕ) (r : Listed) → r .refusal ≡ suc n → r .length ≡ 0 → listingRefusalIn L t (length text) ≡ suc n → ListedIn L t text r text
+  unfolding listingReplyIn textIn
   refused-by n r e z q =
       let same : r ≡ record { refusal = suc n; length = 0 } = λ i. record { refusal = e i; length = z i } in
       let more : eqb (suc n) 0 ≡ false = ne-eqb (suc n) 0 (λ z. omega arith) in
       record { reply = same ∙ rw (q, more) refl; bytes = rw (q, more) }
 
   pub listed-1 : (r : Listed) → (r .refusal ≡ 1) × (r .length ≡ 0) → (length t ≡ size L → ⊥) → ListedIn L t text r text
-  unfolding listingRefusal need
+  unfolding listingRefusalIn need
   listed-1 r e n = refused-by 0 r (e .0) (e .1) (rw (ne-eqb (length t) (size L) n))
 
   module _ (long : length t ≡ size L) where
     pub listed-2 : (r : Listed) → (r .refusal ≡ 2) × (r .length ≡ 0) → wellFormedIn L t ≡ false → ListedIn L t text r text
-    unfolding listingRefusal need
+    unfolding listingRefusalIn need
     listed-2 r e w = refused-by 1 r (e .0) (e .1) (rw (eq-eqb (length t) (size L) long, w))
 
     module _ (w : wellFormedIn L t ≡ true) where
       pub listed-8 : (r : Listed) → (r .refusal ≡ 8) × (r .length ≡ 0) → length text < length (listingIn L t) → ListedIn L t text r text
-      unfolding listingRefusal need
+      unfolding listingRefusalIn need
       listed-8 r e h = refused-by 7 r (e .0) (e .1) (rw (eq-eqb (length t) (size L) long, w, lt-leb (length (listingIn L t)) (length text) h))
 
       pub listed-all : (n : ℕ) (text′ : List ℕ) → n ≡ length (listingIn L t) → n ≤ length text → Put text 0 (listingIn L t) n text′
           → ListedIn L t text (record { refusal = 0; length = n }) text′
-      unfolding listingRefusal listingReply need textAfter
+      unfolding listingRefusalIn listingReplyIn need textIn
       listed-all n text′ e h p =
           let fits : length (listingIn L t) ≤ length text = omega arith in
           record {
@@ -131,11 +131,14 @@ module _ (L : Layout) (t text : List ℕ) where
             bytes = p .bytes ∙ rw (eq-eqb (length t) (size L) long, w, le-leb (length (listingIn L t)) (length text) fits, zero-add);
           }
 
+-- ---- in the table's own edition
+
 -- what is given back as length is in the buffer
-pub listed-fits : (L : Layout) (t text : List ℕ) (r : Listed) (text′ : List ℕ) → ListedIn L t text r text′ → r .length ≤ length text′
-unfolding listingReply textAfter
-listed-fits L t text r text′ e =
+pub listed-fits : (t text : List ℕ) (r : Listed) (text′ : List ℕ) → ListedFrom t text r text′ → r .length ≤ length text′
+unfolding listingReplyIn textIn
+listed-fits t text r text′ e =
     let size = ap (λ (x : Listed). x .length) (e .reply) in
-    boolCase (eqb (listingRefusal L t (length text)) 0)
-    (λ b. omega (arith, rw b at size, ap length (rw b at (e .bytes)), length-append (listingIn L t) (drop (length (listingIn L t)) text)))
+    let whole = listing t in
+    boolCase (eqb (listingRefusalIn (editionOf t) t (length text)) 0)
+    (λ b. omega (arith, rw b at size, ap length (rw b at (e .bytes)), length-append whole (drop (length whole) text)))
     (λ b. omega (arith, rw b at size))

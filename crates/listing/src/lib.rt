@@ -3,9 +3,9 @@
 // Not here: what a line's text is (crate lines).
 ghost use Prim.Native.Nat.{_+_, _<_, _≤_};
 ghost use Rattle.lines.specs.Lines.{Put};
-ghost use Rattle.listing.specs.Listing.{ListedIn, lineAt, linesAt, textOfLines};
+ghost use Rattle.listing.specs.Listing.{ListedFrom, ListedIn, lineAt, linesAt, textOfLines};
 ghost use Rattle.rules.proofs.Layouts.{Laid};
-ghost use Rattle.rules.specs.Table.{Layout, one};
+ghost use Rattle.rules.specs.Table.{Layout};
 ghost use lib.ListN.{length};
 ghost use mathlib.Core.Path.{_≡_};
 use records::HubNo;
@@ -20,21 +20,21 @@ pub struct Listed {
 }
 
 // Line k: the Blank line, then the tasks, n of them, then the hubs.
-fn line_at(t: &[u32], ts: usize, n: usize, k: usize) -> [u32; 7]
+fn line_at(t: &[u32], ts: usize, n: usize, k: usize) -> [u32; 8]
     requires { ⌜ 8 ≤ ts ⌝ }
     requires { ⌜ ts ≤ 9 ⌝ }
     requires { ⌜ k ≤ 65535 ⌝ }
     ensures { λ r. ⌜ r ≡ lineAt ts (now (t .entry)) n k ⌝ }
 {
     if k == 0 {
-        return [rules::BLANK, 0, 0, 0, 0, 0, 0];
+        return [rules::BLANK, 0, 0, 0, 0, 0, 0, 0];
     }
     if k <= n {
         let priority = records::field(t, records::TASKS_AT, ts, k - 1, records::PRIORITY);
-        return [rules::ADD_TASK, 0, priority, 0, 0, 0, 0];
+        return [rules::ADD_TASK, 0, priority, 0, 0, 0, 0, 0];
     }
     let h = records::hub(t, records::hubs_at(ts), HubNo(k - 1 - n));
-    [rules::ADD_HUB, 0, h.kind, 0, 0, h.limit, h.start]
+    [rules::ADD_HUB, 0, h.kind, 0, 0, h.limit, h.start, 0]
 }
 
 // How long the listing is, where n tasks and m hubs are in use.
@@ -44,7 +44,7 @@ fn measure(t: &[u32], ts: usize, n: usize, m: usize) -> usize
     requires { ⌜ n ≤ 16 ⌝ }
     requires { ⌜ m ≤ 16 ⌝ }
     ensures { λ r. ⌜ r ≡ length (textOfLines (linesAt ts (now (t .entry)) n m)) ⌝ }
-    ensures { λ r. ⌜ r ≤ 2541 ⌝ }
+    ensures { λ r. ⌜ r ≤ 2904 ⌝ }
 {
     let mut bytes = 0;
     let mut k = 0;
@@ -110,9 +110,10 @@ fn list_in(t: &[u32], ts: usize, text: &mut [u8]) -> Listed
     }
 }
 
-// The listing of a table of edition 1.
+// The listing of a table of either edition: the one that fits its length.
 pub fn list(t: &[u32], text: &mut [u8]) -> Listed
-    ensures { λ r. ⌜ ListedIn one (now (t .entry)) (now (text .entry)) r (now (text .exit)) ⌝ }
+    ensures { λ r. ⌜ ListedFrom (now (t .entry)) (now (text .entry)) r (now (text .exit)) ⌝ }
 {
-    list_in(t, records::TASK_SIZE, text)
+    let ts = records::task_size(t.len());
+    list_in(t, ts, text)
 }

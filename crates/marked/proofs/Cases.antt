@@ -8,7 +8,7 @@ use Rattle.lists.specs.Lists.{indexOf, insert, without}
 use Rattle.marked.proofs.States.{on-words, textFrom}
 use Rattle.marked.specs.Marked.{Row, inputOf, outputOf, rows}
 use Rattle.rules.proofs.Kept.{valid-blank}
-use Rattle.rules.proofs.Layouts.{edition-one}
+use Rattle.rules.proofs.Layouts.{edition-two}
 use Rattle.rules.proofs.Promise.{blank-accepted}
 use Rattle.rules.proofs.States.{stateAfter, stateBy}
 use Rattle.rules.specs.Calls.{addHub, addStarted, addTask, blank, hold, kept, meetAll, newHub, serve, served, serviceOf, settle, start, tickAll, tickBy, tickOne, wait}
@@ -16,7 +16,7 @@ use Rattle.rules.specs.HubTable.{getFifo, onGet, onPut, onSide, putFifo, verdic
 use Rattle.rules.specs.Lists.{answer, answered, counted, firstFree, firstWaiting, holding, joinHub, joinReady, leave, next, queued, readied, unqueue, waits, wake}
 use Rattle.rules.specs.Refusals.{behind, byRunning, goodHub, goodWait, lastSide, modeOf, need, refusal, refusalAt, refusalFor}
 use Rattle.rules.specs.Reply.{ahead, aheadFor, bearsAnswer, outcome, outcomeOf, replyBy, replyIn, tableBy, tableIn}
-use Rattle.rules.specs.Table.{editionOf, inactive, kindOf, noHub, one, setHub, setReady, setTask, sideOf, size, words}
+use Rattle.rules.specs.Table.{editionOf, inactive, kindOf, noHub, setHub, setReady, setTask, sideOf, size, two, words}
 use Rattle.rules.specs.WellFormed.{bearsWord}
 use Rattle.runner.specs.Runner.{callOf, drillText, replyText, textThrough, zeros}
 use lib.ListN.{length, length-replicate}
@@ -31,17 +31,17 @@ read : readLines (inputOf rows) ≡ linesFrom rows
 unfolding all areNumbers decimal digits inputOf isDecimal isGood isNumber joined lineOf linesFrom linesOf numbered numbersOf piecesFrom readLines rows spaced valueFrom withoutEmptyLast
 read = refl
 
-zeros-long : length zeros ≡ size one
+zeros-long : length zeros ≡ size two
 unfolding zeros
-zeros-long = length-replicate {A = ℕ} (size one) 0
+zeros-long = length-replicate {A = ℕ} (size two) 0
 
-zeros-edition : editionOf zeros ≡ one
-zeros-edition = edition-one zeros zeros-long
+zeros-edition : editionOf zeros ≡ two
+zeros-edition = edition-two zeros zeros-long
 
 -- a first call that is a Blank
-blanked : (ls : List Line) → textThrough zeros (Good (numbersOf (0 ∷ 0 ∷ 0 ∷ 0 ∷ 0 ∷ 0 ∷ 0 ∷ [])) ∷ ls) ≡ printed (0 ∷ 0 ∷ 0 ∷ 0 ∷ []) ++ textThrough (words one blank) ls
+blanked : (ls : List Line) → textThrough zeros (Good (numbersOf (0 ∷ 0 ∷ 0 ∷ 0 ∷ 0 ∷ 0 ∷ 0 ∷ 0 ∷ [])) ∷ ls) ≡ printed (0 ∷ 0 ∷ 0 ∷ 0 ∷ []) ++ textThrough (words two blank) ls
 unfolding ahead aheadFor bearsAnswer blank firstFree next numbersOf outcome replyBy replyIn replyText serve served serviceOf tableBy tableIn textThrough
-blanked ls = rw (blank-accepted zeros (callOf (numbersOf (0 ∷ 0 ∷ 0 ∷ 0 ∷ 0 ∷ 0 ∷ 0 ∷ []))) (rw zeros-edition zeros-long) refl, zeros-edition)
+blanked ls = rw (blank-accepted zeros (callOf (numbersOf (0 ∷ 0 ∷ 0 ∷ 0 ∷ 0 ∷ 0 ∷ 0 ∷ 0 ∷ []))) (rw zeros-edition zeros-long) refl, zeros-edition)
 
 answered-all : textThrough zeros (linesFrom rows) ≡ outputOf rows
 unfolding addHub addStarted addTask ahead aheadFor answer answered badText bearsAnswer bearsWord behind blank byRunning counted decimal digits firstFree firstWaiting getFifo goodHub goodWait hold holding inactive indexOf insert joinHub joinReady joined kept kindOf lastSide leave linesFrom meetAll modeOf need newHub next noHub numbersOf onGet onPut onSide outcome outcomeOf outputOf printed putFifo queued readied refusal refusalAt refusalFor replyBy replyText rows serve served serviceOf setHub setReady setTask settle sideOf spaced start stateAfter stateBy textFrom tickAll tickBy tickOne unqueue verdict wait waits wake without

@@ -4,32 +4,33 @@ use Prim.Native.Nat.{ℕ}
 use Rattle.lines.specs.Lines.{badText, newline, printed, spaced}
 use mathlib.Core.List.{List, [], _++_, _∷_}
 
--- a line's seven numbers; refusal, answer, next and ahead
+-- a line's eight numbers; refusal, answer, next and ahead
 pub record Row : Type 0 where
   pub line : List ℕ
   pub shown : List ℕ
 
-abbrev pub row : ℕ → ℕ → ℕ → ℕ → ℕ → ℕ → ℕ → ℕ → ℕ → ℕ → ℕ → Row
-row service caller target side mode ticks word refusal answer next ahead =
+abbrev pub row : ℕ → ℕ → ℕ → ℕ → ℕ → ℕ → ℕ → ℕ → ℕ → ℕ → ℕ → ℕ → Row
+row service caller target side mode ticks word high refusal answer next ahead =
     record {
-      line = service ∷ caller ∷ target ∷ side ∷ mode ∷ ticks ∷ word ∷ [];
+      line = service ∷ caller ∷ target ∷ side ∷ mode ∷ ticks ∷ word ∷ high ∷ [];
       shown = refusal ∷ answer ∷ next ∷ ahead ∷ [];
     }
 
--- | line | printed |, and M-104's fourth number: two callers have to wait here, each alone at the hub
+-- | line | printed |, with M-105's eighth number on the line, which is 0 here, and M-104's fourth of those printed: two callers have
+-- to wait, each alone at the hub
 unfoldable pub rows : List Row
 rows =
-    row 0 0 0 0 0 0 0 0 0 0 0
-    ∷ row 9 0 5 1 0 0 0 0 0 1 0
-    ∷ row 9 0 3 1 0 0 0 0 0 2 0
-    ∷ row 10 0 4 0 0 1 0 0 0 2 0
-    ∷ row 1 1 0 2 3 2 0 0 0 1 0
-    ∷ row 1 0 0 1 1 0 77 0 1 2 0
-    ∷ row 1 0 0 1 1 0 5 4 0 0 0
-    ∷ row 1 1 0 1 2 0 9 0 1 2 0
-    ∷ row 1 1 0 1 2 0 10 0 2 2 0
-    ∷ row 1 1 0 1 3 1 10 0 0 1 0
-    ∷ row 8 0 0 0 0 0 0 0 0 2 0
+    row 0 0 0 0 0 0 0 0 0 0 0 0
+    ∷ row 9 0 5 1 0 0 0 0 0 0 1 0
+    ∷ row 9 0 3 1 0 0 0 0 0 0 2 0
+    ∷ row 10 0 4 0 0 1 0 0 0 0 2 0
+    ∷ row 1 1 0 2 3 2 0 0 0 0 1 0
+    ∷ row 1 0 0 1 1 0 77 0 0 1 2 0
+    ∷ row 1 0 0 1 1 0 5 0 4 0 0 0
+    ∷ row 1 1 0 1 2 0 9 0 0 1 2 0
+    ∷ row 1 1 0 1 2 0 10 0 0 2 2 0
+    ∷ row 1 1 0 1 3 1 10 0 0 0 1 0
+    ∷ row 8 0 0 0 0 0 0 0 0 0 2 0
     ∷ []
 
 -- "`x`", whose byte is 120

@@ -1,22 +1,26 @@
--- Laws of the definitions of specs/Edge.antt, one for each way out of the exported functions: another length; 2,400 bytes, and
--- the call refused or accepted; the summary and the listing of 2,400 bytes. And what a refused call leaves (`refused-keeps`).
+-- Laws of the definitions of specs/Edge.antt, one for each way out of the exported functions: the bytes of a table of either edition, and
+-- of what is done over its words; another length. And what a refused call leaves (`refused-keeps`).
 -- Not here: words from bytes and back (crate bytes4). Assumes nothing.
 use Prim.Native.Nat.{suc, zero, ℕ}
-use Rattle.bytes4.specs.Bytes.{Packed, Unpacked}
-use Rattle.listing.specs.Listing.{ListedIn}
+use Rattle.bytes4.specs.Bytes.{Packed, Unpacked, bytesOf, wordsFrom}
+use Rattle.listing.specs.Listing.{ListedFrom}
 use Rattle.listing.specs.declared.Listed.{Listed}
-use Rattle.panel.specs.Edge.{Called, ListedBytes, edgeAfter, edgeListing, edgeReply, edgeSummary, edgeText, listingNumbersOf, numbersOf, summaryNumbersOf, tableBytes}
+use Rattle.panel.specs.Edge.{Called, CalledOver, ListedBytes, ListedOver, bytesIn, edgeAfter, edgeListing, edgeMove, edgeReply, edgeSummary, edgeText, fits, listingNumbersOf, numbersOf, summaryNumbersOf}
+use Rattle.panel.specs.declared.HubKernelListingReply.{HubKernelListingReply}
 use Rattle.panel.specs.declared.HubKernelReply.{HubKernelReply}
 use Rattle.panel.specs.declared.HubKernelSummaryReply.{HubKernelSummaryReply}
+use Rattle.rules.specs.Editions.{Moved}
 use Rattle.rules.specs.Reply.{refusalNumber, replyBy, replyIn, replyTo, summaryOf, tableAfter, tableBy, tableIn}
-use Rattle.rules.specs.Table.{Layout, State, one}
+use Rattle.rules.specs.Table.{Layout, State, one, two}
 use Rattle.rules.specs.declared.Call.{Call}
 use Rattle.rules.specs.declared.Reply.{Reply}
 use Rattle.rules.specs.declared.Summary.{Summary}
 use borrow.Author.Tests.{eq-eqb, ne-eqb}
+use lib.Dec.{eqb}
 use lib.ListN.{length}
+use mathlib.Core.Bool.{and-false, false, false≢true, or-true, true}
 use mathlib.Core.List.{List}
-use mathlib.Core.Path.{_≡_, refl, sym}
+use mathlib.Core.Path.{_∙_, _≡_, ap, refl, sym}
 
 -- ---- "no word of the table changes" where the reply bears a refusal
 
@@ -29,62 +33,125 @@ refused-keeps : (t : List ℕ) (c : Call) → (refusalNumber (replyTo t c .answe
 unfolding replyIn tableIn
 refused-keeps t c r = refused-keeps-by _ _ t _ c r
 
+-- ---- the bytes of a table of either edition
+
+fits-one : (b : List ℕ) → length b ≡ bytesIn one → fits b ≡ true
+unfolding fits
+fits-one b h = rw (eq-eqb (length b) (bytesIn one) h) refl
+
+fits-two : (b : List ℕ) → length b ≡ bytesIn two → fits b ≡ true
+unfolding fits
+fits-two b h = rw (eq-eqb (length b) (bytesIn two) h, or-true (eqb (length b) (bytesIn one))) refl
+
+fits-none : (b : List ℕ) → (length b ≡ bytesIn one → ⊥) → (length b ≡ bytesIn two → ⊥) → fits b ≡ false
+unfolding fits
+fits-none b h k = rw (ne-eqb (length b) (bytesIn one) h, ne-eqb (length b) (bytesIn two) k) refl
+
 -- ---- the ways out of a call
 
-module _ (b : List ℕ) where
-  pub called-length : (c : Call) → (length b ≡ tableBytes → ⊥) → Called b c (record { refusal = 1; answer = 0; next = 0; ahead = 0 }) b
-  unfolding edgeAfter edgeReply
-  called-length c h =
-      record {
-        reply = rw (ne-eqb (length b) tableBytes h);
-        bytes = rw (ne-eqb (length b) tableBytes h);
-        words = λ e. absurd (h e);
-      }
+module _ (b : List ℕ) (c : Call) where
+  module _ {t : List ℕ} (u : Unpacked b t) {r : Reply} (p : r ≡ replyTo t c) {n : HubKernelReply} (e : n ≡ numbersOf r) where
+    pub over-accepted : {t′ b′ : List ℕ} → t′ ≡ tableAfter t c → Packed t′ b′ → CalledOver b c n b′
+    over-accepted q w = record {
+      reply = rw (← u .words, ← p) e;
+      bytes = rw (← u .words, ← q) (w .bytes);
+      words = rw (← u .words, ← q) (w .back);
+    }
 
-  module _ (c : Call) (h : length b ≡ tableBytes) {t : List ℕ} (u : Unpacked b t) {r : Reply} (p : r ≡ replyTo t c) {n : HubKernelReply}
-      (e : n ≡ numbersOf r) where
-    pub called-accepted : {t′ b′ : List ℕ} → t′ ≡ tableAfter t c → Packed t′ b′ → Called b c n b′
-    unfolding edgeAfter edgeReply
-    called-accepted q w =
-        record {
-          reply = rw (eq-eqb (length b) tableBytes h, ← u .words, ← p) e;
-          bytes = rw (eq-eqb (length b) tableBytes h, ← u .words, ← q) (w .bytes);
-          words = λ _. rw (← u .words, ← q) (w .back);
-        }
-
-    pub called-refused : (n .refusal ≡ 0 → ⊥) → Called b c n b
-    unfolding edgeAfter edgeReply
-    called-refused w =
+    pub over-refused : (n .refusal ≡ 0 → ⊥) → CalledOver b c n b
+    over-refused w =
         let k : tableAfter t c ≡ t = refused-keeps t c (rw (e, p) at w) in
-        record {
-          reply = rw (eq-eqb (length b) tableBytes h, ← u .words, ← p) e;
-          bytes = rw (eq-eqb (length b) tableBytes h, ← u .words, k) (sym (u .back));
-          words = λ _. rw (← u .words, k);
-        }
+        record { reply = rw (← u .words, ← p) e; bytes = rw (← u .words, k) (sym (u .back)); words = rw (← u .words, k) }
 
-  -- ---- the ways out of the summary
+  called-fits : fits b ≡ true → {n : HubKernelReply} {b′ : List ℕ} → CalledOver b c n b′ → Called b c n b′
+  unfolding edgeAfter edgeReply
+  called-fits h o = record { reply = rw h (o .reply); bytes = rw h (o .bytes); words = λ _. o .words }
 
-  pub summed-length : (i : ℕ) → (length b ≡ tableBytes → ⊥)
+  pub called-one : length b ≡ bytesIn one → {n : HubKernelReply} {b′ : List ℕ} → CalledOver b c n b′ → Called b c n b′
+  called-one h = called-fits (fits-one b h)
+
+  pub called-two : length b ≡ bytesIn two → {n : HubKernelReply} {b′ : List ℕ} → CalledOver b c n b′ → Called b c n b′
+  called-two h = called-fits (fits-two b h)
+
+  pub called-length : (length b ≡ bytesIn one → ⊥) → (length b ≡ bytesIn two → ⊥) → Called b c (record { refusal = 1; answer = 0; next = 0; ahead = 0 }) b
+  unfolding edgeAfter edgeReply
+  called-length h k =
+      let none = fits-none b h k in
+      record { reply = rw none; bytes = rw none; words = λ e. absurd (false≢true (sym none ∙ e)) }
+
+-- ---- the ways out of the summary
+
+module _ (b : List ℕ) (i : ℕ) where
+  pub summed-over : {t : List ℕ} → Unpacked b t → {s : Summary} → s ≡ summaryOf t i → summaryNumbersOf s ≡ summaryNumbersOf (summaryOf (wordsFrom b) i)
+  summed-over u e = rw (← u .words, ← e)
+
+  summed-fits : fits b ≡ true → {r : HubKernelSummaryReply} → r ≡ summaryNumbersOf (summaryOf (wordsFrom b) i) → r ≡ edgeSummary b i
+  unfolding edgeSummary
+  summed-fits h e = rw h e
+
+  pub summed-one : length b ≡ bytesIn one → {r : HubKernelSummaryReply} → r ≡ summaryNumbersOf (summaryOf (wordsFrom b) i) → r ≡ edgeSummary b i
+  summed-one h = summed-fits (fits-one b h)
+
+  pub summed-two : length b ≡ bytesIn two → {r : HubKernelSummaryReply} → r ≡ summaryNumbersOf (summaryOf (wordsFrom b) i) → r ≡ edgeSummary b i
+  summed-two h = summed-fits (fits-two b h)
+
+  pub summed-length : (length b ≡ bytesIn one → ⊥) → (length b ≡ bytesIn two → ⊥)
       → _≡_ {A = HubKernelSummaryReply} (record { refusal = 1; mask = 0; count = 0 }) (edgeSummary b i)
   unfolding edgeSummary
-  summed-length i h = rw (ne-eqb (length b) tableBytes h)
+  summed-length h k = rw (fits-none b h k)
 
-  pub summed : (i : ℕ) → length b ≡ tableBytes → {t : List ℕ} → Unpacked b t → {s : Summary} → s ≡ summaryOf t i
-      → summaryNumbersOf s ≡ edgeSummary b i
-  unfolding edgeSummary
-  summed i h u e = rw (eq-eqb (length b) tableBytes h, ← u .words, ← e)
+-- ---- the ways out of the listing
 
-  -- ---- the ways out of the listing
+module _ (b text : List ℕ) where
+  pub listed-over : {t : List ℕ} → Unpacked b t → {r : Listed} {text′ : List ℕ} → ListedFrom t text r text′ → ListedOver b text (listingNumbersOf r) text′
+  listed-over u e = record { reply = rw (← u .words, ← e .reply); bytes = rw (← u .words) (e .bytes) }
 
-  pub listed-length : (text : List ℕ) → (length b ≡ tableBytes → ⊥) → ListedBytes b text (record { refusal = 1; length = 0 }) text
+  listed-fits : fits b ≡ true → {r : HubKernelListingReply} {text′ : List ℕ} → ListedOver b text r text′ → ListedBytes b text r text′
   unfolding edgeListing edgeText
-  listed-length text h = record { reply = rw (ne-eqb (length b) tableBytes h); bytes = rw (ne-eqb (length b) tableBytes h) }
+  listed-fits h o = record { reply = rw h (o .reply); bytes = rw h (o .bytes) }
 
-  pub listed : (text : List ℕ) → length b ≡ tableBytes → {t : List ℕ} → Unpacked b t → {r : Listed} {text′ : List ℕ} → ListedIn one t text r text′
-      → ListedBytes b text (listingNumbersOf r) text′
+  pub listed-one : length b ≡ bytesIn one → {r : HubKernelListingReply} {text′ : List ℕ} → ListedOver b text r text′ → ListedBytes b text r text′
+  listed-one h = listed-fits (fits-one b h)
+
+  pub listed-two : length b ≡ bytesIn two → {r : HubKernelListingReply} {text′ : List ℕ} → ListedOver b text r text′ → ListedBytes b text r text′
+  listed-two h = listed-fits (fits-two b h)
+
+  pub listed-length : (length b ≡ bytesIn one → ⊥) → (length b ≡ bytesIn two → ⊥) → ListedBytes b text (record { refusal = 1; length = 0 }) text
   unfolding edgeListing edgeText
-  listed text h u e =
-      record {
-        reply = rw (eq-eqb (length b) tableBytes h, ← u .words, ← e .reply);
-        bytes = rw (eq-eqb (length b) tableBytes h, ← u .words) (e .bytes);
-      }
+  listed-length h k = let none = fits-none b h k in record { reply = rw none; bytes = rw none }
+
+-- ---- the ways out of a move, from L to M: `refusal` and `done` are what the move over words says of a source
+
+module _ (L M : Layout) (refusal : List ℕ → ℕ) (done : List ℕ → List ℕ) (from to : List ℕ) where
+  abbrev Over : ℕ → List ℕ → Type 0
+  Over r to′ = Moved (edgeMove L M (length from) (length to) (refusal (wordsFrom from))) (bytesOf (done (wordsFrom from))) to r to′
+
+  pub moved-source : (length from ≡ bytesIn L → ⊥) → Over 1 to
+  unfolding edgeMove
+  moved-source h = record { number = rw (ne-eqb (length from) (bytesIn L) h) refl; table = rw (ne-eqb (length from) (bytesIn L) h) refl }
+
+  pub moved-room : (length to ≡ bytesIn M → ⊥) → Over 1 to
+  unfolding edgeMove
+  moved-room h = record {
+    number = rw (ne-eqb (length to) (bytesIn M) h, and-false (eqb (length from) (bytesIn L))) refl;
+    table = rw (ne-eqb (length to) (bytesIn M) h, and-false (eqb (length from) (bytesIn L))) refl;
+  }
+
+  -- both lengths fit: t is the source's words, d′ what the move over words left in as many words as the destination has
+  module _ (h : length from ≡ bytesIn L) (k : length to ≡ bytesIn M) {t : List ℕ} (u : Unpacked from t) {d d′ : List ℕ} {r : ℕ}
+      (m : Moved (refusal t) (done t) d r d′) where
+    pub moved-refused : (r ≡ 0 → ⊥) → Over r to
+    unfolding edgeMove
+    moved-refused n = record {
+      number = rw (eq-eqb (length from) (bytesIn L) h, eq-eqb (length to) (bytesIn M) k, ← u .words) (m .number);
+      table = rw (eq-eqb (length from) (bytesIn L) h, eq-eqb (length to) (bytesIn M) k, ← u .words, ← m .number, ne-eqb r 0 n) refl;
+    }
+
+    pub moved-done : r ≡ 0 → {to′ : List ℕ} → Packed d′ to′ → Over r to′
+    unfolding edgeMove
+    moved-done z w =
+        let e : refusal t ≡ 0 = sym (m .number) ∙ z in
+        record {
+          number = rw (eq-eqb (length from) (bytesIn L) h, eq-eqb (length to) (bytesIn M) k, ← u .words) (m .number);
+          table = rw (eq-eqb (length from) (bytesIn L) h, eq-eqb (length to) (bytesIn M) k, ← u .words, e) (w .bytes ∙ ap bytesOf (rw e at (m .table)));
+        }

@@ -1,12 +1,20 @@
-// The C edge: "A host program in C hands the table as 2,400 bytes, words little-endian, and the call's numbers".
-// Thin over the word kernel. include/hub_kernel.h has the same three functions for C.
-ghost use Rattle.panel.specs.Edge.{Called, ListedBytes, callOf, edgeSummary, numbersOf};
+// The C edge: "A host program in C hands the table as 2,400 bytes, words little-endian, and the call's numbers"; a table of edition 2
+// has 2,976 (M-105). Thin over the word kernel. include/hub_kernel.h has the same five functions for C.
+// Each exported function takes an array of as many words as the edition has, and hands it to the one function that works over both.
+ghost use Prim.Native.Nat.{_*_};
+ghost use Rattle.bytes4.specs.Bytes.{bytesOf, wordsFrom};
+ghost use Rattle.panel.specs.Edge.{Called, CalledOver, ListedBytes, ListedOver, callOf, edgeDown, edgeSummary, edgeUp, numbersOf, summaryNumbersOf};
+ghost use Rattle.rules.specs.Editions.{Moved, movedDown, movedUp};
+ghost use Rattle.rules.specs.Reply.{summaryOf};
+ghost use lib.ListN.{length};
 ghost use mathlib.Core.Path.{_≡_};
 use rules::Call;
 use rules::Reply;
 
-// "A host program in C hands the table as 2,400 bytes"
-const BYTES: usize = 2400;
+// "A host program in C hands the table as 2,400 bytes", and one of edition 2 as 2,976.
+const BYTES: usize = 4 * records::TABLE_SIZE;
+
+const BYTES_TWO: usize = 4 * records::TABLE_SIZE_TWO;
 
 #[repr(C)]
 pub struct HubKernelReply {
@@ -42,7 +50,22 @@ fn numbers_of(r: Reply) -> HubKernelReply
     }
 }
 
-// One call: the table is unpacked, the kernel called, and the table packed again unless the call is refused.
+// One call over the words of a table: the bytes are unpacked, the kernel called, and packed again unless the call is refused.
+fn call_over(table: &mut [u8], words: &mut [u32], c: Call) -> HubKernelReply
+    requires { ⌜ length (now table) ≡ 4 * length (now words) ⌝ }
+    ensures { λ r. ⌜ CalledOver (now (table .entry)) c r (now (table .exit)) ⌝ }
+{
+    bytes4::unpack(&*table, words);
+    let reply = kernel::call(words, c);
+    let numbers = numbers_of(reply);
+    if numbers.refusal != 0 {
+        return numbers;
+    }
+    bytes4::pack(&*words, table);
+    numbers
+}
+
+// One call, by its eight numbers.
 #[no_mangle]
 pub extern "C" fn hub_kernel_call(
     table: &mut [u8],
@@ -53,38 +76,48 @@ pub extern "C" fn hub_kernel_call(
     mode: u32,
     ticks: u32,
     word: u32,
+    high: u32,
 ) -> HubKernelReply
-    ensures { λ r. ⌜ Called (now (table .entry)) (callOf service caller target side mode ticks word) r (now (table .exit)) ⌝ }
+    ensures { λ r. ⌜ Called (now (table .entry)) (callOf service caller target side mode ticks word high) r (now (table .exit)) ⌝ }
 {
-    if table.len() != BYTES {
-        return HubKernelReply {
-            refusal: rules::WRONG_LENGTH,
-            answer: 0,
-            next: 0,
-            ahead: 0,
-        };
+    let c = Call {
+        service,
+        caller,
+        target,
+        side,
+        mode,
+        ticks,
+        word,
+        high,
+    };
+    if table.len() == BYTES {
+        let mut words = [0u32; records::TABLE_SIZE];
+        return call_over(table, &mut words, c);
     }
-    let mut words = [0u32; records::TABLE_SIZE];
-    bytes4::unpack(&*table, &mut words);
-    let reply = kernel::call(
-        &mut words,
-        Call {
-            service,
-            caller,
-            target,
-            side,
-            mode,
-            ticks,
-            word,
-            high: 0,
-        },
-    );
-    let numbers = numbers_of(reply);
-    if numbers.refusal != 0 {
-        return numbers;
+    if table.len() == BYTES_TWO {
+        let mut words = [0u32; records::TABLE_SIZE_TWO];
+        return call_over(table, &mut words, c);
     }
-    bytes4::pack(&words, table);
-    numbers
+    HubKernelReply {
+        refusal: rules::WRONG_LENGTH,
+        answer: 0,
+        next: 0,
+        ahead: 0,
+    }
+}
+
+// The hub summary over the words of a table.
+fn summary_over(table: &[u8], words: &mut [u32], hub: u32) -> HubKernelSummaryReply
+    requires { ⌜ length (now table) ≡ 4 * length (now words) ⌝ }
+    ensures { λ r. ⌜ r ≡ summaryNumbersOf (summaryOf (wordsFrom (now (table .entry))) hub) ⌝ }
+{
+    bytes4::unpack(table, words);
+    let s = kernel::summary(&*words, hub);
+    HubKernelSummaryReply {
+        refusal: s.refusal,
+        mask: s.mask,
+        count: s.count,
+    }
 }
 
 // The hub summary of the table.
@@ -92,20 +125,31 @@ pub extern "C" fn hub_kernel_call(
 pub extern "C" fn hub_kernel_summary(table: &[u8], hub: u32) -> HubKernelSummaryReply
     ensures { λ r. ⌜ r ≡ edgeSummary (now (table .entry)) hub ⌝ }
 {
-    if table.len() != BYTES {
-        return HubKernelSummaryReply {
-            refusal: rules::WRONG_LENGTH,
-            mask: 0,
-            count: 0,
-        };
+    if table.len() == BYTES {
+        let mut words = [0u32; records::TABLE_SIZE];
+        return summary_over(table, &mut words, hub);
     }
-    let mut words = [0u32; records::TABLE_SIZE];
-    bytes4::unpack(table, &mut words);
-    let s = kernel::summary(&words, hub);
+    if table.len() == BYTES_TWO {
+        let mut words = [0u32; records::TABLE_SIZE_TWO];
+        return summary_over(table, &mut words, hub);
+    }
     HubKernelSummaryReply {
-        refusal: s.refusal,
-        mask: s.mask,
-        count: s.count,
+        refusal: rules::WRONG_LENGTH,
+        mask: 0,
+        count: 0,
+    }
+}
+
+// The listing over the words of a table, written into a lent buffer.
+fn listing_over(table: &[u8], words: &mut [u32], text: &mut [u8]) -> HubKernelListingReply
+    requires { ⌜ length (now table) ≡ 4 * length (now words) ⌝ }
+    ensures { λ r. ⌜ ListedOver (now (table .entry)) (now (text .entry)) r (now (text .exit)) ⌝ }
+{
+    bytes4::unpack(table, words);
+    let r = listing::list(&*words, text);
+    HubKernelListingReply {
+        refusal: r.refusal,
+        length: r.length,
     }
 }
 
@@ -114,17 +158,62 @@ pub extern "C" fn hub_kernel_summary(table: &[u8], hub: u32) -> HubKernelSummary
 pub extern "C" fn hub_kernel_listing(table: &[u8], text: &mut [u8]) -> HubKernelListingReply
     ensures { λ r. ⌜ ListedBytes (now (table .entry)) (now (text .entry)) r (now (text .exit)) ⌝ }
 {
-    if table.len() != BYTES {
-        return HubKernelListingReply {
-            refusal: rules::WRONG_LENGTH,
-            length: 0,
-        };
+    if table.len() == BYTES {
+        let mut words = [0u32; records::TABLE_SIZE];
+        return listing_over(table, &mut words, text);
     }
-    let mut words = [0u32; records::TABLE_SIZE];
-    bytes4::unpack(table, &mut words);
-    let r = listing::list(&words, text);
+    if table.len() == BYTES_TWO {
+        let mut words = [0u32; records::TABLE_SIZE_TWO];
+        return listing_over(table, &mut words, text);
+    }
     HubKernelListingReply {
-        refusal: r.refusal,
-        length: r.length,
+        refusal: rules::WRONG_LENGTH,
+        length: 0,
     }
+}
+
+// A table moved from edition 1 to edition 2, into a second lent slice. The refusal, 0 if it is done.
+#[no_mangle]
+pub extern "C" fn hub_kernel_move_up(from: &[u8], to: &mut [u8]) -> u32
+    ensures { λ r. ⌜ Moved (edgeUp (now (from .entry)) (length (now (to .entry)))) (bytesOf (movedUp (wordsFrom (now (from .entry)))))
+        (now (to .entry)) r (now (to .exit)) ⌝ }
+{
+    if from.len() != BYTES {
+        return rules::WRONG_LENGTH;
+    }
+    if to.len() != BYTES_TWO {
+        return rules::WRONG_LENGTH;
+    }
+    let mut source = [0u32; records::TABLE_SIZE];
+    let mut destination = [0u32; records::TABLE_SIZE_TWO];
+    bytes4::unpack(from, &mut source);
+    let refusal = editions::move_up(&source, &mut destination);
+    if refusal != 0 {
+        return refusal;
+    }
+    bytes4::pack(&destination, to);
+    refusal
+}
+
+// A table moved back, from edition 2 to edition 1.
+#[no_mangle]
+pub extern "C" fn hub_kernel_move_down(from: &[u8], to: &mut [u8]) -> u32
+    ensures { λ r. ⌜ Moved (edgeDown (now (from .entry)) (length (now (to .entry)))) (bytesOf (movedDown (wordsFrom (now (from .entry)))))
+        (now (to .entry)) r (now (to .exit)) ⌝ }
+{
+    if from.len() != BYTES_TWO {
+        return rules::WRONG_LENGTH;
+    }
+    if to.len() != BYTES {
+        return rules::WRONG_LENGTH;
+    }
+    let mut source = [0u32; records::TABLE_SIZE_TWO];
+    let mut destination = [0u32; records::TABLE_SIZE];
+    bytes4::unpack(from, &mut source);
+    let refusal = editions::move_down(&source, &mut destination);
+    if refusal != 0 {
+        return refusal;
+    }
+    bytes4::pack(&destination, to);
+    refusal
 }

@@ -1,18 +1,19 @@
--- What the lines of a set-up do to a state: each is accepted, adds its task or its hub, and prints 0 0 0 0. In order: one call; calls in
--- a row; the tasks; the hubs. Not here: how the lines are read (Reading.antt). Assumes nothing.
+-- What the lines of a set-up do to a state in the drill runner's table, which is of edition 2: each is accepted, adds its task or
+-- its hub, and prints 0 0 0 0. In order: one call; calls in a row; the tasks; the hubs. Not here: how the lines are read
+-- (Reading.antt). Assumes nothing.
 use Prim.Native.Nat.{_+_, _<_, _≤_, suc, zero, ℕ}
 use Rattle.lines.specs.Lines.{numbersOf, printed}
 use Rattle.listing.specs.Listing.{HubSetUp, hubLine, newHub as hubFrom, taskLine, textOfLines}
 use Rattle.rebuilt.proofs.Reading.{good}
 use Rattle.rebuilt.specs.Rebuilt.{Every, GoodHub, allAccepted}
 use Rattle.rules.proofs.After.{zero-at}
-use Rattle.rules.proofs.States.{reply-words, stateAfter, stateBy, table-words, valid-after}
+use Rattle.rules.proofs.States.{reply-words, stateAfter, stateBy, table-words, two-fitting, valid-after}
 use Rattle.rules.proofs.Valid.{Valid}
 use Rattle.rules.specs.Calls.{addHub, addTask, newHub, serve, served, serviceOf}
 use Rattle.rules.specs.Lists.{firstFree, next}
 use Rattle.rules.specs.Refusals.{need, refusal, refusalAt, refusalFor}
 use Rattle.rules.specs.Reply.{ahead, aheadFor, bearsAnswer, outcome, replyBy, replyTo, tableAfter}
-use Rattle.rules.specs.Table.{State, inactive, one, words}
+use Rattle.rules.specs.Table.{State, inactive, two, words}
 use Rattle.rules.specs.declared.Call.{Call}
 use Rattle.runner.proofs.Runs.{table-append}
 use Rattle.runner.specs.Runner.{callOf, replyText, tableThrough, textThrough}
@@ -31,8 +32,8 @@ accepted = 0 ∷ 0 ∷ 0 ∷ 0 ∷ []
 -- ---- calls in a row, from a state to another
 
 pub record Steps (s : State) (ls : List (List ℕ)) (s′ : State) : Type 0 where
-  pub table : tableThrough (words one s) (map good ls) ≡ words one s′
-  pub text : textThrough (words one s) (map good ls) ≡ allAccepted (length ls)
+  pub table : tableThrough (words two s) (map good ls) ≡ words two s′
+  pub text : textThrough (words two s) (map good ls) ≡ allAccepted (length ls)
   pub valid : Valid s′
   pub ready : s′ .ready ≡ []
 
@@ -47,29 +48,29 @@ module _ (s : State) (v : Valid s) (l : List ℕ) (s₁ : State)
   abbrev c : Call
   c = callOf (numbersOf l)
 
-  -- a line has no high word
-  accept-all : refusalAt one s c ≡ 0
-  accept-all = zero-at one s c accept (or-true (not (eqb (c .service) 1)))
+  -- edition 2 takes any message
+  accept-all : refusalAt two s c ≡ 0
+  accept-all = zero-at two s c accept (or-true (not (eqb (c .service) 1)))
 
-  after : stateAfter s c ≡ s₁
+  after : stateAfter two s c ≡ s₁
   unfolding stateAfter stateBy
   after = rw accept-all served-is
 
-  one-table : tableAfter (words one s) c ≡ words one s₁
-  one-table = table-words s v c ∙ ap (words one) after
+  step-table : tableAfter (words two s) c ≡ words two s₁
+  step-table = table-words two-fitting s v c ∙ ap (words two) after
 
-  one-text : replyText (replyTo (words one s) c) ≡ printed accepted
+  step-text : replyText (replyTo (words two s) c) ≡ printed accepted
   unfolding firstFree next outcome replyBy replyText
-  one-text = rw (reply-words s v c, accept-all, served-is, silent, alone, none)
+  step-text = rw (reply-words two-fitting s v c, accept-all, served-is, silent, alone, none)
 
   pub step-valid : Valid s₁
-  step-valid = subst Valid after (valid-after s v c)
+  step-valid = subst Valid after (valid-after two-fitting s v c)
 
   pub steps-cons : (ls : List (List ℕ)) (s′ : State) → Steps s₁ ls s′ → Steps s (l ∷ ls) s′
   unfolding tableThrough textOfLines textThrough
   steps-cons ls s′ w = record {
-    table = ap (λ (t : List ℕ). tableThrough t (map good ls)) one-table ∙ w .table;
-    text = ap₂ {C = List ℕ} _++_ one-text (ap (λ (t : List ℕ). textThrough t (map good ls)) one-table ∙ w .text);
+    table = ap (λ (t : List ℕ). tableThrough t (map good ls)) step-table ∙ w .table;
+    text = ap₂ {C = List ℕ} _++_ step-text (ap (λ (t : List ℕ). textThrough t (map good ls)) step-table ∙ w .text);
     valid = w .valid;
     ready = w .ready;
   }
@@ -90,8 +91,8 @@ map-append (x ∷ a) b = rw (map-append a b)
 
 pub steps-append : (s s₁ s′ : State) (a b : List (List ℕ)) → Steps s a s₁ → Steps s₁ b s′ → Steps s (a ++ b) s′
 steps-append s s₁ s′ a b p q = record {
-  table = rw (map-append a b, table-append (words one s) (map good a) (map good b), p .table) (q .table);
-  text = text-append (words one s) a b ∙ rw (p .table, p .text, q .text, length-append a b) (sym (accepted-append (length a) (length b)));
+  table = rw (map-append a b, table-append (words two s) (map good a) (map good b), p .table) (q .table);
+  text = text-append (words two s) a b ∙ rw (p .table, p .text, q .text, length-append a b) (sym (accepted-append (length a) (length b)));
   valid = q .valid;
   ready = q .ready;
 }

@@ -1,33 +1,34 @@
--- M-100, the promises of a listing. In order: the set-up of a well-formed table is acceptable; its lines are seven numbers each; what
--- a text of its form builds and prints; the listing builds the stripped table (`listing-builds`), each of its lines is accepted
--- (`listing-prints`); it is the only text that does (`listing-only`); same listing, same set-up (`listing-same`); its length
--- (`listing-most`). Assumes nothing.
+-- M-100, the promises of a listing. In order: the set-up of a well-formed table is acceptable; its lines are eight numbers each; what
+-- a text of its form builds and prints; the listing builds the stripped table in edition 2 (`listing-builds`, `listing-builds-up`),
+-- each of its lines is accepted (`listing-prints`); it is the only text that does (`listing-only`); same listing, same set-up
+-- (`listing-same`); a table and its move have one listing (`listing-moved`); its length (`listing-most`). Assumes nothing.
 use Prim.Native.Nat.{_*_, _+_, _<_, _≤_, suc, ℕ}
 use Rattle.lines.proofs.Decimal.{length-decimal}
 use Rattle.lines.specs.Lines.{all, decimal, joined, numberLimit, numbersOf, printed, readLines, spaced}
-use Rattle.listing.specs.Listing.{HubSetUp, SetUp, blankLine, built, hubLine, hubSetUp, listing, listingIn, newHub, priorityOf, setUp, setUpLines, setUpText, stripped, taskLine, textOfLines}
+use Rattle.listing.specs.Listing.{HubSetUp, SetUp, blankLine, built, hubLine, hubSetUp, listing, listingIn, newHub, priorityOf, setUp, setUpLines, setUpText, taskLine, textOfLines}
 use Rattle.lists.proofs.Laws.{boolCase}
 use Rattle.rebuilt.proofs.Building.{Steps, add-hubs, add-tasks, moreTasks, steps-append}
-use Rattle.rebuilt.proofs.Reading.{Seven, good, text-read}
-use Rattle.rebuilt.specs.Rebuilt.{Acceptable, Every, GoodHub, allAccepted}
-use Rattle.rules.proofs.After.{valid-in}
+use Rattle.rebuilt.proofs.Reading.{Eight, good, text-read}
+use Rattle.rebuilt.specs.Rebuilt.{Acceptable, Every, GoodHub, allAccepted, rebuilt, rebuiltUp}
+use Rattle.rules.proofs.After.{read-valid}
+use Rattle.rules.proofs.Editions.{down-shows, up-shows}
 use Rattle.rules.proofs.Kept.{valid-blank}
-use Rattle.rules.proofs.Layouts.{edition-one, one-laid}
+use Rattle.rules.proofs.Layouts.{edition-two}
 use Rattle.rules.proofs.Promise.{blank-accepted}
-use Rattle.rules.proofs.Reading.{read-words}
-use Rattle.rules.proofs.Room.{valid-room}
+use Rattle.rules.proofs.States.{one-fitting, read-back, two-fitting}
 use Rattle.rules.proofs.Valid.{Range, Valid}
 use Rattle.rules.specs.Calls.{blank, serve, served, serviceOf}
+use Rattle.rules.specs.Editions.{downRefusal, movedDown, movedUp, upRefusal}
 use Rattle.rules.specs.Lists.{firstFree, next}
 use Rattle.rules.specs.Refusals.{goodHub, refusalOf}
 use Rattle.rules.specs.Reply.{ahead, aheadFor, bearsAnswer, outcome, replyBy, replyIn, tableAfter, tableBy, tableIn}
-use Rattle.rules.specs.Table.{Board, Event, Fifo, Hub, Kind, NoKind, Port, Resource, Semaphore, State, editionOf, hub, inactive, kindOf, noHub, one, read, size, words}
-use Rattle.rules.specs.WellFormed.{wellFormedIn, within as between}
+use Rattle.rules.specs.Table.{Board, Event, Fifo, Hub, Kind, NoKind, Port, Resource, Semaphore, State, editionOf, hub, inactive, kindOf, noHub, one, read, size, stateOf, two, words}
+use Rattle.rules.specs.WellFormed.{wellFormed, within as between}
 use Rattle.runner.specs.Runner.{callOf, drillText, replyText, tableThrough, textThrough, zeros}
 use borrow.Author.Tests.{eqb-true, le-leb, leb-false, leb-true}
 use lib.Dec.{eqb, leb}
 use lib.ListN.{List·getD-eq-default, getD, length, length-append, length-map, length-replicate}
-use mathlib.Core.Bool.{Bool, _&&_, and-eq-true-iff, false, false≢true, true}
+use mathlib.Core.Bool.{Bool, _&&_, and-eq-true-iff, false≢true, true}
 use mathlib.Core.List.{List, [], _++_, _∷_, append-assoc, map}
 use mathlib.Core.Logic.{_↔_}
 use mathlib.Core.Path.{_∙_, _≡_, ap, refl, sym}
@@ -77,8 +78,8 @@ set-up-acceptable s v = record {
   kinds = every-at GoodHub hubSetUp noHub (s .hubs) (λ i h. good-range (kindOf (hub s i .kind)) (length (s .tasks)) (hub s i) (v .ranges .range i h));
 }
 
-pub listing-acceptable : (t : List ℕ) → wellFormedIn one t ≡ true → Acceptable (setUp (read one t))
-listing-acceptable t w = set-up-acceptable (read one t) (valid-in one t w)
+pub listing-acceptable : (t : List ℕ) → wellFormed t ≡ true → Acceptable (setUp (stateOf t))
+listing-acceptable t w = set-up-acceptable (stateOf t) (read-valid t w)
 
 -- ---- the numbers of an acceptable hub
 
@@ -107,15 +108,15 @@ low-kind n l s e =
     (λ b. let far : 7 ≤ n = leb-false n 6 b in
     absurd (false≢true (rw (List·getD-eq-default (NoKind ∷ Event ∷ Semaphore ∷ Port ∷ Fifo ∷ Resource ∷ Board ∷ []) NoKind far) at e)))
 
--- ---- its lines: seven numbers each, within the limit, and short
+-- ---- its lines: eight numbers each, within the limit, and short
 
-task-seven : (p : ℕ) → p ≤ 255 → Seven (taskLine p)
+task-eight : (p : ℕ) → p ≤ 255 → Eight (taskLine p)
 unfolding all
-task-seven p h = let q : p ≤ numberLimit = omega arith in (refl, rw (le-leb p numberLimit q))
+task-eight p h = let q : p ≤ numberLimit = omega arith in (refl, rw (le-leb p numberLimit q))
 
-hub-seven : (h : HubSetUp) → GoodHub h → Seven (hubLine h)
+hub-eight : (h : HubSetUp) → GoodHub h → Eight (hubLine h)
 unfolding all
-hub-seven h g =
+hub-eight h g =
     let k : h .kind ≤ numberLimit = omega (arith, low-kind (h .kind) (h .limit) (h .start) g) in
     let m = low-by (kindOf (h .kind)) (h .limit) (h .start) g in
     let l : h .limit ≤ numberLimit = omega (arith, m .0) in
@@ -123,13 +124,13 @@ hub-seven h g =
     (refl, rw (le-leb (h .kind) numberLimit k, le-leb (h .limit) numberLimit l, le-leb (h .start) numberLimit s))
 
 module _ (u : SetUp) (a : Acceptable u) where
-  sevens : Every Seven (setUpLines u)
+  eights : Every Eight (setUpLines u)
   unfolding Every all setUpLines
-  sevens = (
+  eights = (
     (refl, refl),
-    every-append Seven (map taskLine (u .priorities)) (map hubLine (u .hubs))
-        (every-map Seven taskLine (u .priorities) (every-to (λ p. p ≤ 255) (λ p. Seven (taskLine p)) task-seven (u .priorities) (a .priorities)))
-        (every-map Seven hubLine (u .hubs) (every-to GoodHub (λ h. Seven (hubLine h)) hub-seven (u .hubs) (a .kinds))),
+    every-append Eight (map taskLine (u .priorities)) (map hubLine (u .hubs))
+        (every-map Eight taskLine (u .priorities) (every-to (λ p. p ≤ 255) (λ p. Eight (taskLine p)) task-eight (u .priorities) (a .priorities)))
+        (every-map Eight hubLine (u .hubs) (every-to GoodHub (λ h. Eight (hubLine h)) hub-eight (u .hubs) (a .kinds))),
   )
 
   -- ---- what a text of its form builds and prints
@@ -145,30 +146,30 @@ module _ (u : SetUp) (a : Acceptable u) where
       let then = add-hubs (u .hubs) s₁ (first .valid) refl (rw zero-add (a .hubs)) (a .kinds) in
       steps-append blank s₁ (built u) (map taskLine (u .priorities)) (map hubLine (u .hubs)) first then
 
-  long : length zeros ≡ size one
+  long : length zeros ≡ size two
   unfolding zeros
-  long = length-replicate {A = ℕ} (size one) 0
+  long = length-replicate {A = ℕ} (size two) 0
 
-  edition : editionOf zeros ≡ one
-  edition = edition-one zeros long
+  edition : editionOf zeros ≡ two
+  edition = edition-two zeros long
 
   accepts-blank : refusalOf zeros (callOf (numbersOf blankLine)) ≡ 0
   unfolding numbersOf
   accepts-blank = blank-accepted zeros (callOf (numbersOf blankLine)) (rw edition long) refl
 
-  blanked : tableThrough zeros (map good (blankLine ∷ added)) ≡ tableThrough (words one blank) (map good added)
+  blanked : tableThrough zeros (map good (blankLine ∷ added)) ≡ tableThrough (words two blank) (map good added)
   unfolding blank numbersOf serve served serviceOf tableBy tableIn tableThrough
   blanked =
-      let e : tableAfter zeros (callOf (numbersOf blankLine)) ≡ words one blank = rw (accepts-blank, edition) refl in
+      let e : tableAfter zeros (callOf (numbersOf blankLine)) ≡ words two blank = rw (accepts-blank, edition) refl in
       ap (λ (t : List ℕ). tableThrough t (map good added)) e
 
-  blank-text : textThrough zeros (map good (blankLine ∷ added)) ≡ printed (0 ∷ 0 ∷ 0 ∷ 0 ∷ []) ++ textThrough (words one blank) (map good added)
+  blank-text : textThrough zeros (map good (blankLine ∷ added)) ≡ printed (0 ∷ 0 ∷ 0 ∷ 0 ∷ []) ++ textThrough (words two blank) (map good added)
   unfolding ahead aheadFor bearsAnswer blank firstFree next numbersOf outcome replyBy replyIn replyText serve served serviceOf tableBy tableIn textThrough
   blank-text = rw (accepts-blank, edition) refl
 
-  pub form-builds : tableThrough zeros (readLines (setUpText u)) ≡ words one (built u)
+  pub form-builds : tableThrough zeros (readLines (setUpText u)) ≡ words two (built u)
   unfolding setUpLines setUpText
-  form-builds = ap (tableThrough zeros) (text-read (setUpLines u) sevens) ∙ blanked ∙ steps .table
+  form-builds = ap (tableThrough zeros) (text-read (setUpLines u) eights) ∙ blanked ∙ steps .table
 
   one-more : (n : ℕ) → printed (0 ∷ 0 ∷ 0 ∷ 0 ∷ []) ++ allAccepted n ≡ allAccepted (1 + n)
   unfolding textOfLines
@@ -178,13 +179,16 @@ module _ (u : SetUp) (a : Acceptable u) where
   unfolding drillText setUpLines setUpText textOfLines
   form-prints =
       let many : length added ≡ length (u .priorities) + length (u .hubs) = length-append (map taskLine (u .priorities)) (map hubLine (u .hubs)) ∙ rw (length-map (u .priorities) taskLine, length-map (u .hubs) hubLine) in
-      ap (textThrough zeros) (text-read (setUpLines u) sevens)
+      ap (textThrough zeros) (text-read (setUpLines u) eights)
       ∙ blank-text
       ∙ ap (λ (r : List ℕ). printed (0 ∷ 0 ∷ 0 ∷ 0 ∷ []) ++ r) (steps .text ∙ ap allAccepted many)
       ∙ one-more (length (u .priorities) + length (u .hubs))
 
-  form-read : read one (words one (built u)) ≡ built u
-  form-read = read-words one one-laid (built u) (valid-room (built u) (steps .valid))
+  form-read : read two (words two (built u)) ≡ built u
+  form-read = read-back two-fitting (built u) (steps .valid)
+
+  form-read-one : read one (words one (built u)) ≡ built u
+  form-read-one = read-back one-fitting (built u) (steps .valid)
 
 -- the set-up of what a set-up builds
 priorities-back : (ps : List ℕ) → map priorityOf (map inactive ps) ≡ ps
@@ -201,40 +205,54 @@ unfolding built setUp
 set-up-built u = λ i. record { priorities = priorities-back (u .priorities) i; hubs = hubs-back (u .hubs) i }
 
 -- two set-ups that build one table are one
-same-set-up : (u v : SetUp) → Acceptable u → Acceptable v → words one (built u) ≡ words one (built v) → u ≡ v
+same-set-up : (u v : SetUp) → Acceptable u → Acceptable v → words two (built u) ≡ words two (built v) → u ≡ v
 same-set-up u v a b e =
-    sym (set-up-built u) ∙ ap setUp (sym (form-read u a) ∙ ap (read one) e ∙ form-read v b) ∙ set-up-built v
+    sym (set-up-built u) ∙ ap setUp (sym (form-read u a) ∙ ap (read two) e ∙ form-read v b) ∙ set-up-built v
 
--- ---- the promises
+-- ---- the promises, of a well-formed table of either edition
 
-module _ (t : List ℕ) (w : wellFormedIn one t ≡ true) where
+module _ (t : List ℕ) (w : wellFormed t ≡ true) where
   -- "Run through the drill runner, the listing must build the same table with every task inactive, every count at its start, and
-  -- all lists and stores empty."
-  pub listing-builds : tableThrough zeros (readLines (listing t)) ≡ words one (stripped (read one t))
+  -- all lists and stores empty"
+  pub listing-builds : tableThrough zeros (readLines (listing t)) ≡ rebuilt (stateOf t)
   unfolding listingIn
-  listing-builds = form-builds (setUp (read one t)) (listing-acceptable t w)
+  listing-builds = form-builds (setUp (stateOf t)) (listing-acceptable t w)
+
+  pub listing-builds-up : tableThrough zeros (readLines (listing t)) ≡ rebuiltUp (stateOf t)
+  listing-builds-up =
+      listing-builds ∙ ap (words two) (sym (form-read-one (setUp (stateOf t)) (listing-acceptable t w)))
 
   -- each of its lines prints refusal 0
-  pub listing-prints : drillText (listing t) ≡ allAccepted (1 + (length (setUp (read one t) .priorities) + length (setUp (read one t) .hubs)))
+  pub listing-prints : drillText (listing t) ≡ allAccepted (1 + (length (setUp (stateOf t) .priorities) + length (setUp (stateOf t) .hubs)))
   unfolding listingIn
-  listing-prints = form-prints (setUp (read one t)) (listing-acceptable t w)
+  listing-prints = form-prints (setUp (stateOf t)) (listing-acceptable t w)
 
   -- "The listing is the only text of this form for that set-up."
   pub listing-only : (u : SetUp) → Acceptable u → tableThrough zeros (readLines (setUpText u)) ≡ tableThrough zeros (readLines (listing t)) → setUpText u ≡ listing t
   unfolding listingIn
   listing-only u a e =
-      ap setUpText (same-set-up u (setUp (read one t)) a (listing-acceptable t w) (sym (form-builds u a) ∙ e ∙ listing-builds))
+      ap setUpText (same-set-up u (setUp (stateOf t)) a (listing-acceptable t w) (sym (form-builds u a) ∙ e ∙ listing-builds))
 
--- two well-formed tables have the same listing exactly if their set-ups are equal
-pub listing-same : (t₁ t₂ : List ℕ) → wellFormedIn one t₁ ≡ true → wellFormedIn one t₂ ≡ true → (listing t₁ ≡ listing t₂) ↔ (setUp (read one t₁) ≡ setUp (read one t₂))
+-- two well-formed tables, of one edition or of both, have the same listing exactly if their set-ups are equal
+pub listing-same : (t₁ t₂ : List ℕ) → wellFormed t₁ ≡ true → wellFormed t₂ ≡ true → (listing t₁ ≡ listing t₂) ↔ (setUp (stateOf t₁) ≡ setUp (stateOf t₂))
 unfolding listingIn
 listing-same t₁ t₂ w₁ w₂ = (
-  λ e. same-set-up (setUp (read one t₁)) (setUp (read one t₂)) (listing-acceptable t₁ w₁) (listing-acceptable t₂ w₂)
+  λ e. same-set-up (setUp (stateOf t₁)) (setUp (stateOf t₂)) (listing-acceptable t₁ w₁) (listing-acceptable t₂ w₂)
       (sym (listing-builds t₁ w₁) ∙ ap (λ (x : List ℕ). tableThrough zeros (readLines x)) e ∙ listing-builds t₂ w₂),
   λ e. ap setUpText e,
 )
 
--- ---- how long it is: 14 bytes, at most 16 for a task and 23 for a hub
+-- the listing of a table and of its move, where it is accepted, are the same text: M-105
+module _ (t : List ℕ) (room : ℕ) where
+  pub listing-moved : upRefusal t room ≡ 0 → listing (movedUp t) ≡ listing t
+  unfolding listingIn
+  listing-moved e = ap (λ (s : State). setUpText (setUp s)) (up-shows t room e)
+
+  pub listing-moved-down : downRefusal t room ≡ 0 → listing (movedDown t) ≡ listing t
+  unfolding listingIn
+  listing-moved-down e = ap (λ (s : State). setUpText (setUp s)) (down-shows t room e)
+
+-- ---- how long it is: 16 bytes, at most 18 for a task and 25 for a hub
 
 short-text : (k : ℕ) (ls : List (List ℕ)) → Every (λ l. length (printed l) ≤ k) ls → length (textOfLines ls) ≤ length ls * k
 unfolding Every textOfLines
@@ -267,18 +285,18 @@ digit-length n h = length-decimal 0 n (omega arith)
 ten-length : length (decimal 10) ≤ 2
 ten-length = length-decimal 1 10 (omega arith)
 
-task-short : (p : ℕ) → p ≤ 255 → length (printed (taskLine p)) ≤ 16
+task-short : (p : ℕ) → p ≤ 255 → length (printed (taskLine p)) ≤ 18
 unfolding total
 task-short p h =
-    omega (arith, printed-length 9 (0 ∷ p ∷ 0 ∷ 0 ∷ 0 ∷ 0 ∷ []), digit-length 9 (omega arith), digit-length 0 (omega arith), length-decimal 2 p (omega arith))
+    omega (arith, printed-length 9 (0 ∷ p ∷ 0 ∷ 0 ∷ 0 ∷ 0 ∷ 0 ∷ []), digit-length 9 (omega arith), digit-length 0 (omega arith), length-decimal 2 p (omega arith))
 
-hub-short : (h : HubSetUp) → GoodHub h → length (printed (hubLine h)) ≤ 23
+hub-short : (h : HubSetUp) → GoodHub h → length (printed (hubLine h)) ≤ 25
 unfolding total
 hub-short h g =
     let m = low-by (kindOf (h .kind)) (h .limit) (h .start) g in
     omega (
       arith,
-      printed-length 10 (0 ∷ h .kind ∷ 0 ∷ 0 ∷ h .limit ∷ h .start ∷ []),
+      printed-length 10 (0 ∷ h .kind ∷ 0 ∷ 0 ∷ h .limit ∷ h .start ∷ 0 ∷ []),
       ten-length,
       digit-length 0 (omega arith),
       digit-length (h .kind) (omega (arith, low-kind (h .kind) (h .limit) (h .start) g)),
@@ -286,17 +304,17 @@ hub-short h g =
       length-decimal 4 (h .start) (omega (arith, m .1)),
     )
 
-blank-short : length (printed blankLine) ≤ 14
+blank-short : length (printed blankLine) ≤ 16
 unfolding total
-blank-short = omega (arith, printed-length 0 (0 ∷ 0 ∷ 0 ∷ 0 ∷ 0 ∷ 0 ∷ []), digit-length 0 (omega arith))
+blank-short = omega (arith, printed-length 0 (0 ∷ 0 ∷ 0 ∷ 0 ∷ 0 ∷ 0 ∷ 0 ∷ []), digit-length 0 (omega arith))
 
-form-most : (u : SetUp) → Acceptable u → length (setUpText u) ≤ 638
+form-most : (u : SetUp) → Acceptable u → length (setUpText u) ≤ 704
 unfolding setUpLines setUpText textOfLines
 form-most u a =
     let ts = map taskLine (u .priorities) in
     let hs = map hubLine (u .hubs) in
-    let x = short-text 16 ts (every-map (λ l. length (printed l) ≤ 16) taskLine (u .priorities) (every-to (λ p. p ≤ 255) (λ p. length (printed (taskLine p)) ≤ 16) task-short (u .priorities) (a .priorities))) in
-    let y = short-text 23 hs (every-map (λ l. length (printed l) ≤ 23) hubLine (u .hubs) (every-to GoodHub (λ h. length (printed (hubLine h)) ≤ 23) hub-short (u .hubs) (a .kinds))) in
+    let x = short-text 18 ts (every-map (λ l. length (printed l) ≤ 18) taskLine (u .priorities) (every-to (λ p. p ≤ 255) (λ p. length (printed (taskLine p)) ≤ 18) task-short (u .priorities) (a .priorities))) in
+    let y = short-text 25 hs (every-map (λ l. length (printed l) ≤ 25) hubLine (u .hubs) (every-to GoodHub (λ h. length (printed (hubLine h)) ≤ 25) hub-short (u .hubs) (a .kinds))) in
     omega (
       arith,
       length-append (printed blankLine) (textOfLines (ts ++ hs)),
@@ -310,6 +328,6 @@ form-most u a =
       a .hubs,
     )
 
-pub listing-most : (t : List ℕ) → wellFormedIn one t ≡ true → length (listing t) ≤ 638
+pub listing-most : (t : List ℕ) → wellFormed t ≡ true → length (listing t) ≤ 704
 unfolding listingIn
-listing-most t w = form-most (setUp (read one t)) (listing-acceptable t w)
+listing-most t w = form-most (setUp (stateOf t)) (listing-acceptable t w)

@@ -1,4 +1,4 @@
--- A text of lines of seven numbers, read by the drill runner: each line is its numbers. In order: no newline stands in a line;
+-- A text of lines of eight numbers, read by the drill runner: each line is its numbers. In order: no newline stands in a line;
 -- the lines of the text; the numbers of each. Not here: what the calls do (Building.antt). Assumes nothing.
 use Prim.Native.Nat.{suc, ℕ}
 use Rattle.lines.proofs.Bools.{and-both, and-l, and-r}
@@ -44,24 +44,24 @@ lines-text (l ∷ ls) =
 
 -- ---- the numbers of each
 
--- seven numbers within the limit
-abbrev pub Seven : List ℕ → Type 0
-Seven l = (length l ≡ fieldCount) × (within l ≡ true)
+-- eight numbers within the limit
+abbrev pub Eight : List ℕ → Type 0
+Eight l = (length l ≡ fieldCount) × (within l ≡ true)
 
 abbrev pub good : List ℕ → Line
 good l = Good (numbersOf l)
 
-line-read : (n : ℕ) (l : List ℕ) → Seven l → lineOf n (spaced l) ≡ good l
+line-read : (n : ℕ) (l : List ℕ) → Eight l → lineOf n (spaced l) ≡ good l
 unfolding textOf
 line-read n l (e, w) =
     let same = listOf-numbersOf l e in
     ap (λ (x : List ℕ). lineOf n (spaced x)) (sym same) ∙ read-text n (numbersOf l) (rw same w)
 
-numbered-read : (n : ℕ) (ls : List (List ℕ)) → Every Seven ls → numbered n (map spaced ls) ≡ map good ls
+numbered-read : (n : ℕ) (ls : List (List ℕ)) → Every Eight ls → numbered n (map spaced ls) ≡ map good ls
 unfolding Every numbered
 numbered-read n [] e = refl
 numbered-read n (l ∷ ls) e = ap₂ {C = List Line} (λ x r. x ∷ r) (line-read n l (e .0)) (numbered-read (suc n) ls (e .1))
 
-pub text-read : (ls : List (List ℕ)) → Every Seven ls → readLines (textOfLines ls) ≡ map good ls
+pub text-read : (ls : List (List ℕ)) → Every Eight ls → readLines (textOfLines ls) ≡ map good ls
 unfolding readLines
 text-read ls e = ap (numbered 1) (lines-text ls) ∙ numbered-read 1 ls e

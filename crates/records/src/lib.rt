@@ -13,7 +13,9 @@ pub const TABLE_SIZE: usize = 600;
 
 pub const TASK_SIZE: usize = 8;
 
-// and 9 in edition 2, which has 744 words
+// edition 2 (M-105): "744 words in all", and "Task records have 9 words"
+pub const TABLE_SIZE_TWO: usize = 744;
+
 pub const TASK_SIZE_TWO: usize = 9;
 
 // "contents: edition 1, tasks T, hubs H": the words that hold T and H

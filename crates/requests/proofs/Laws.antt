@@ -25,9 +25,9 @@ use Rattle.rules.proofs.Room.{waiters-room}
 use Rattle.rules.proofs.Settled.{InUse, length-answer, partners, partners-in}
 use Rattle.rules.proofs.Standing.{first-waits}
 use Rattle.rules.proofs.Valid.{Held, Range, Valid}
-use Rattle.rules.proofs.Verdicts.{Each, held-side, hubAfter, range-side, waitersMet}
+use Rattle.rules.proofs.Verdicts.{Each, held-side, hubAfter, range-side, update-row, waitersMet}
 use Rattle.rules.specs.Calls.{HubRequest, hold, kept, meetAll, serve, settle, wait}
-use Rattle.rules.specs.HubTable.{Verdict, fail, message, met, notNow, onPut, onSide, putBoard, readers, verdict}
+use Rattle.rules.specs.HubTable.{Verdict, fail, message, notNow, verdict}
 use Rattle.rules.specs.Lists.{answer, firstWaiting, holding, leave, queued, unqueue}
 use Rattle.rules.specs.Refusals.{refusalFor}
 use Rattle.rules.specs.Reply.{aheadFor}
@@ -216,12 +216,9 @@ module _ (key : ℕ → ℕ) (s : State) (g : Valid s) (c : Call) (a : refusalFo
   pub refused-ahead : c .mode ≡ 2 → 0 ≡ aheadFor HubRequest (serve key HubRequest s c) c
   refused-ahead m = nobody (λ q. m)
 
-  update-met : hub s (c .target) .kind ≡ 6 → c .side ≡ 1 → verdict s c ≡ met 1 (message c ∷ []) 0 (readers s (hub s (c .target) .waiters) (message c))
-  unfolding kindOf onPut onSide putBoard sideOf verdict
-  update-met k d = rw (d, k) refl
-
   pub update-ahead : hub s (c .target) .kind ≡ 6 → c .side ≡ 1 → 0 ≡ aheadFor HubRequest (serve key HubRequest s c) c
-  update-ahead k d = nobody (λ q. absurd (let e = update-met k d in false≢true cc))
+  unfolding kindOf
+  update-ahead k d = nobody (λ q. absurd (let e = update-row s c (ap kindOf k) d in false≢true cc))
 
 -- the others in the list that it joins, where it waits
 module _ (s : State) (i h : ℕ) where

@@ -5,7 +5,9 @@ pub mod Answers
 pub mod Cases
 pub mod Changes
 pub mod Cut
+pub mod Editions
 pub mod Handed
+pub mod HighWords
 pub mod Hubs
 pub mod Kept
 pub mod Layouts

@@ -1,4 +1,4 @@
--- What the rules promise of every call, over tables of words: a table is any list of words, a call any seven numbers.
+-- What the rules promise of every call, over tables of words: a table is any list of words, a call any eight numbers.
 -- In order: the refusal, the table after an accepted call, calls in a row, the answer, and that any two results that fit are
 -- equal. Each statement has a short proof here, by After.antt. `replyTo`, `tableAfter` and `summaryOf` are in specs/Reply.antt.
 -- Not here: that the code does it (crate kernel). Assumes nothing.

@@ -122,6 +122,12 @@ pub few : (s : State) (c : Call)
 unfolding verdict
 few s c = few-side (sideOf (c .side)) s (hub s (c .target)) c
 
+-- a Board's update: it writes, and meets every reader
+pub update-row : (s : State) (c : Call) → kindOf (hub s (c .target) .kind) ≡ Board → c .side ≡ 1
+    → verdict s c ≡ met 1 (message c ∷ []) 0 (readers s (hub s (c .target) .waiters) (message c))
+unfolding onPut onSide putBoard sideOf verdict
+update-row s c b e = rw (e, b) refl
+
 -- ---- the hub after a verdict: its kind's range, with i the caller, and whoever f names in use
 
 unfoldable pub hubAfter : Hub → Verdict → Hub

@@ -6,12 +6,12 @@ use Prim.Native.Nat.{_*_, _+_, _-_, _<_, _≤_, suc, suc-le-suc, zero, ℕ}
 use Rattle.lists.proofs.Laws.{boolCase, entries-numbers}
 use Rattle.lists.proofs.Padding.{replicate-allZero}
 use Rattle.lists.specs.Lists.{allZero, entries, numbers, packed}
-use Rattle.rules.proofs.Layouts.{Laid, answer-at, message-word, one-laid, sized}
+use Rattle.rules.proofs.Layouts.{Laid, answer-at, message-word, sized}
 use Rattle.rules.proofs.Reading.{length-tab, read-hub, read-hubs, read-tasks}
 use Rattle.rules.proofs.Rows.{rows-none}
 use Rattle.rules.proofs.Tests.{t-below-all, t-hubs}
 use Rattle.rules.proofs.Valid.{Fits, Held, Range}
-use Rattle.rules.specs.Table.{Board, Event, Fifo, Hub, Kind, Layout, NoKind, Port, Resource, Semaphore, Task, contents, heldIn, hub, hubAt, hubWordAt, hubWords, hubsAt, kindOf, one, part, read, readyAt, rows, size, storeFrom, storeOf, storePart, storeSize, storeWords, storesAt, tab, taskAt, taskFrom, taskSize, taskWords, tasksAt, waitPart, waitWords, waitsAt, words}
+use Rattle.rules.specs.Table.{Board, Event, Fifo, Hub, Kind, Layout, NoKind, Port, Resource, Semaphore, Task, contents, heldIn, hub, hubAt, hubWordAt, hubWords, hubsAt, kindOf, part, read, readyAt, rows, size, storeFrom, storeOf, storePart, storeSize, storeWords, storesAt, tab, taskAt, taskFrom, taskSize, taskWords, tasksAt, waitPart, waitWords, waitsAt, words}
 use Rattle.rules.specs.WellFormed.{contentsRight, hubsRight, listsPacked, storeRight, storesRight, unusedZero, valid, written, zeroFrom}
 use borrow.Author.Tests.{eqb-true, leb-true, ltb-false, ltb-true}
 use lib.Dec.{ltb}
@@ -24,17 +24,8 @@ use native.Mathlib.Nat.{mul-le-mul-right, suc-mul, zero-add, zero-mul}
 use native.Mathlib.Numerals.{towards-suc}
 use native.Mathlib.Omega.{arith}
 
--- ---- words that are read as a message and written again are the same
+-- ---- n words from a on, one by one
 
--- all of them, or those of 32 bits
-unfoldable pub Again : (ℕ → Type 0) → Layout → Type 0
-Again ok L = (w : ℕ → ℕ) → ((k : ℕ) → ok (w k)) → (k : ℕ) → k < L .width → getD (L .message (L .messageFrom w)) k 0 ≡ w k
-
-one-again : Again (λ x. Unit {0}) one
-unfolding Again
-one-again w all k h = let z : k ≡ 0 = omega arith in rw z
-
--- n words from a on, one by one
 window : ℕ → ℕ → List ℕ → List ℕ
 window zero a t = []
 window (suc n) a t = getD t a 0 ∷ window n (suc a) t
@@ -145,7 +136,7 @@ written-says L t e =
 
 -- ---- such a table is the words of what is read
 
-module _ {ts : ℕ} {L : Layout} (y : Laid ts L) (ok : ℕ → Type 0) (none : ok 0) (same : Again ok L) (t : List ℕ) (low : (k : ℕ) → ok (getD t k 0)) (w : Written L t) where
+module _ {ts : ℕ} {L : Layout} (y : Laid ts L) (t : List ℕ) (low : (k : ℕ) → getD t k 0 < 4294967296) (w : Written L t) where
   -- row j of 16, of n words each
   row-fits : (b n j : ℕ) → j < 16 → b + 16 * n ≤ size L → b + j * n + n ≤ length t
   row-fits b n j h fits = omega (arith, w .long, suc-mul j n, mul-le-mul-right n h)
@@ -160,7 +151,7 @@ module _ {ts : ℕ} {L : Layout} (y : Laid ts L) (ok : ℕ → Type 0) (none : o
       rw (length-part t (waitsAt L + h * 16) 16 (row-fits (waitsAt L) 16 h lt (omega arith))) at (entries-numbers (waitPart L t h) e)
 
   task-words : (i : ℕ) → i < 16 → taskWords L (taskAt L t i) ≡ part (tasksAt + i * taskSize L) (taskSize L) t
-  unfolding Again taskAt
+  unfolding taskAt
   task-words i lt =
       part-same t (taskWords L x) (tasksAt + i * taskSize L) (taskSize L) (sized y .task x) (row-fits tasksAt (taskSize L) i lt (omega arith)) word
     where
@@ -173,7 +164,7 @@ module _ {ts : ℕ} {L : Layout} (y : Laid ts L) (ok : ℕ → Type 0) (none : o
       rest : (k : ℕ) → k < 1 + L .width → getD (taskWords L x) (6 + k) 0 ≡ at (6 + k)
       rest k h =
           boolCase (ltb k (L .width))
-          (λ b. let n = ltb-true k (L .width) b in message-word L (y .long) x k n ∙ same (λ j. at (6 + j)) (λ j. low (tasksAt + i * taskSize L + (6 + j))) k n)
+          (λ b. let n = ltb-true k (L .width) b in message-word L (y .long) x k n ∙ y .again (λ j. at (6 + j)) (λ j. low (tasksAt + i * taskSize L + (6 + j))) k n)
           (λ b. let n : k ≡ L .width = omega (arith, ltb-false k (L .width) b) in rw n (answer-at L (y .long) x))
 
       word : (k : ℕ) → k < taskSize L → getD (taskWords L x) k 0 ≡ at k
@@ -186,17 +177,16 @@ module _ {ts : ℕ} {L : Layout} (y : Laid ts L) (ok : ℕ → Type 0) (none : o
       word (suc (suc (suc (suc (suc (suc k)))))) h =
           let e : 6 + k ≡ suc (suc (suc (suc (suc (suc k))))) = omega arith in rw e at (rest k (omega arith))
 
-  part-low : (a n k : ℕ) → ok (getD (part a n t) k 0)
+  part-low : (a n k : ℕ) → getD (part a n t) k 0 < 4294967296
   part-low a n k =
       boolCase (ltb k n)
       (λ b. rw (getD-take n (drop a t) k 0 (ltb-true k n b), getD-drop a t k 0) (low (a + k)))
-      (λ b. let out : length (part a n t) ≤ k = omega (arith, ltb-false k n b, length-take n (drop a t)) in rw (List·getD-eq-default (part a n t) 0 out) none)
+      (λ b. let out : length (part a n t) ≤ k = omega (arith, ltb-false k n b, length-take n (drop a t)) in rw (List·getD-eq-default (part a n t) 0 out) (omega arith))
 
   length-store : (h : ℕ) → h < 16 → length (storePart L t h) ≡ storeSize L
   length-store h lt = length-part t (storesAt L + h * storeSize L) (storeSize L) (row-fits (storesAt L) (storeSize L) h lt (omega arith))
 
   messages-words : (n h : ℕ) → h < 16 → allZero (drop (n * L .width) (storePart L t h)) ≡ true → storeWords L (storeFrom L n (storePart L t h)) ≡ storePart L t h
-  unfolding Again
   messages-words n h lt e =
       rows-tab store v (L .message) from n 8 0 0 (omega (arith, length-store h lt)) each zeros
       ∙ take-all (8 * v) store (omega (arith, length-store h lt))
@@ -214,7 +204,7 @@ module _ {ts : ℕ} {L : Layout} (y : Laid ts L) (ok : ℕ → Type 0) (none : o
       each j hj lt8 =
           simp zero-add
           (part-same store (L .message (from j)) (j * v) v (y .long (from j)) (omega (arith, length-store h lt, suc-mul j v, mul-le-mul-right v lt8))
-          (λ k hk. same (λ k. getD store (j * v + k) 0) (λ k. part-low (storesAt L + h * storeSize L) (storeSize L) (j * v + k)) k hk))
+          (λ k hk. y .again (λ k. getD store (j * v + k) 0) (λ k. part-low (storesAt L + h * storeSize L) (storeSize L) (j * v + k)) k hk))
 
       zeros : zeroFrom (0 + n * v) (0 + 8 * v) store ≡ true
       zeros = simp zero-add (rw (take-all (8 * v - n * v) (drop (n * v) store) (rw length-drop (omega (arith, length-store h lt)))) e)
@@ -292,13 +282,9 @@ module _ {ts : ℕ} {L : Layout} (y : Laid ts L) (ok : ℕ → Type 0) (none : o
       storeRows : (j : ℕ) → j < getD t 2 0 → j < 16 → storeOf L (hubAt L t (0 + j)) ≡ storePart L t j
       storeRows j h lt = rw zero-add (store-words (kindOf (hubWordAt L t j 0)) (hubWordAt L t j 1) j lt (w .stores j h))
 
--- a table of 32-bit words in every edition, and any table in edition 1
+-- a table of 32-bit words
 pub words-read : {ts : ℕ} {L : Layout} → Laid ts L → (t : List ℕ) → ((k : ℕ) → getD t k 0 < 4294967296) → written L t ≡ true → t ≡ words L (read L t)
-unfolding Again
-words-read {L = L} y t low e = words-read-of y (λ x. x < 4294967296) (omega arith) (y .again) t low (written-says L t e)
-
-pub words-read-one : (t : List ℕ) → written one t ≡ true → t ≡ words one (read one t)
-words-read-one t e = words-read-of one-laid (λ x. Unit {0}) tt one-again t (λ k. tt) (written-says one t e)
+words-read {L = L} y t low e = words-read-of y t low (written-says L t e)
 
 -- ---- what the words say of the state: how many records, and that a FIFO's count is how many words it holds
 

@@ -5,3 +5,4 @@ pub mod HubTable
 pub mod Calls
 pub mod Refusals
 pub mod Reply
+pub mod Editions

@@ -85,8 +85,7 @@ refusalFor Unknown s c = 3
 unfoldable pub refusal : State → Call → ℕ
 refusal s c = refusalFor (serviceOf (c .service)) s c
 
--- ---- M-105: an edition 1 table "with a high word above 0": "a hub request on them is refusal 6". Of a hub request nothing is tested
--- behind it
+-- ---- M-105: "Edition 1 tables still run; with a high word above 0 a hub request on them is refusal 6", the last of a request's tests
 
 abbrev pub goodMessage : Layout → Call → Bool
 goodMessage L c = not (eqb (c .service) 1) || (leb 2 (L .width) || eqb (c .high) 0)

@@ -8,7 +8,7 @@ use Rattle.lines.specs.declared.Line.{Line}
 use Rattle.lines.specs.declared.Numbers.{Numbers}
 use Rattle.lines.specs.declared.Scan.{Scan}
 use Rattle.rules.specs.Reply.{answerNumber, refusalNumber, replyTo, tableAfter}
-use Rattle.rules.specs.Table.{one, size}
+use Rattle.rules.specs.Table.{size, two}
 use Rattle.rules.specs.declared.Call.{Call}
 use Rattle.rules.specs.declared.Reply.{Reply}
 use Rattle.runner.specs.declared.Answered.the-variants.{Drained, Full}
@@ -19,7 +19,7 @@ use mathlib.Core.Path.{_≡_}
 
 -- ---- a line, on table t
 
--- "A call is seven numbers": those of a good line, in the paper's order; a line has no high word yet (M-105)
+-- "A call is seven numbers", and M-105's "eighth number, the high word": those of a good line, in the paper's order
 abbrev pub callOf : Numbers → Call
 callOf x =
     record {
@@ -30,7 +30,7 @@ callOf x =
       mode = x .mode;
       ticks = x .ticks;
       word = x .word;
-      high = 0;
+      high = x .high;
     }
 
 -- "It prints refusal, answer and next", and M-104: "The drill runner prints four numbers per call."
@@ -59,9 +59,9 @@ tableThrough t (l ∷ ls) = tableThrough (tableOn t l) ls
 
 -- ---- a whole drill
 
--- "Its table starts as all zeros."
+-- "Its table starts as all zeros.", and M-105: "The runner's table now has 744 words", those of edition 2
 unfoldable pub zeros : List ℕ
-zeros = replicate (size one) 0
+zeros = replicate (size two) 0
 
 -- what is printed for an input
 unfoldable pub drillText : List ℕ → List ℕ

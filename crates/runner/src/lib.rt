@@ -32,7 +32,7 @@ fn call_of(x: Numbers) -> Call
         mode: x.mode,
         ticks: x.ticks,
         word: x.word,
-        high: 0,
+        high: x.high,
     }
 }
 

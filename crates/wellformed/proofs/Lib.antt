@@ -1,3 +1,4 @@
+pub mod Editions
 pub mod Hubs
 pub mod Marks
 pub mod Parts

@@ -2,7 +2,7 @@
 use Prim.Native.Nat.{ℕ}
 use Rattle.editions.proofs.high_zero.Statement.{statement}
 use Rattle.editions.proofs.high_zero.Tie as tie
-use Rattle.editions.specs.Editions.{highZero, zerosAt}
+use Rattle.rules.specs.Editions.{highZero, zerosAt}
 use borrow.Author.Needs.{needs}
 use mathlib.Core.Bool.{Bool, _&&_}
 use mathlib.Core.Path.{_∙_, ap, ap₂}

@@ -1,5 +1,5 @@
 -- `editions::refusal_of` meets its contract, each way out by its tests. Assumes nothing.
-use Rattle.editions.proofs.Refusals.{refused-malformed, refused-room, refused-source, tested}
+use Rattle.rules.proofs.Editions.{refused-malformed, refused-room, refused-source, tested}
 use Rattle.editions.proofs.refusal_of.Statement.{statement}
 use Rattle.editions.proofs.refusal_of.Tie as tie
 use Rattle.rules.proofs.Layouts.{store-place}

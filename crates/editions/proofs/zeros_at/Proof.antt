@@ -1,9 +1,9 @@
 -- `editions::zeros_at` meets its contract: the words so far are 0. Assumes nothing.
 use Prim.Native.Nat.{_-_, _≤_}
-use Rattle.editions.proofs.Zeros.{zeros-more, zeros-none, zeros-not}
+use Rattle.rules.proofs.HighWords.{zeros-more, zeros-none, zeros-not}
 use Rattle.editions.proofs.zeros_at.Statement.{statement}
 use Rattle.editions.proofs.zeros_at.Tie as tie
-use Rattle.editions.specs.Editions.{zerosAt}
+use Rattle.rules.specs.Editions.{zerosAt}
 use borrow.Author.Needs.{needs}
 use mathlib.Core.Bool.{true}
 use mathlib.Core.Path.{_∙_, _≡_, sym}

@@ -1,8 +1,8 @@
 -- `kernel::call` meets its contract: `call_in`, in the edition that fits the length. Assumes nothing.
-use Rattle.kernel.proofs.Laws.{edition-laid-of}
 use Rattle.kernel.proofs.call.Statement.{statement}
 use Rattle.kernel.proofs.call.Tie as tie
 use Rattle.rules.specs.Table.{editionOf}
+use Rattle.wellformed.proofs.Editions.{edition-laid-of}
 use borrow.Author.Needs.{needs}
 
 task-size-requires : tie.Need-task-size-requires

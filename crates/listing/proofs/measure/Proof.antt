@@ -11,7 +11,7 @@ use native.Mathlib.Nat.{zero-add}
 use native.Mathlib.Omega.{arith}
 
 abbrev Inv-loop : tie.InvT-loop
-Inv-loop t ts n m bytes₀ k₀ bytes k = (k ≤ 1 + n + m) × (bytes ≤ k * 77) × (bytes + length (rest (lineAt ts t n) (1 + n + m) k) ≡ length (whole (lineAt ts t n) (1 + n + m)))
+Inv-loop t ts n m bytes₀ k₀ bytes k = (k ≤ 1 + n + m) × (bytes ≤ k * 88) × (bytes + length (rest (lineAt ts t n) (1 + n + m) k) ≡ length (whole (lineAt ts t n) (1 + n + m)))
 
 abbrev μ-loop : tie.MeasureT-loop
 μ-loop t ts n m bytes₀ k₀ bytes k = 1 + n + m - k
