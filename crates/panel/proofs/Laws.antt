@@ -5,7 +5,7 @@ use Prim.Native.Nat.{suc, zero, ℕ}
 use Rattle.bytes4.specs.Bytes.{Packed, Unpacked, bytesOf, wordsFrom}
 use Rattle.listing.specs.Listing.{ListedFrom}
 use Rattle.listing.specs.declared.Listed.{Listed}
-use Rattle.panel.specs.Edge.{Called, CalledOver, ListedBytes, ListedOver, bytesIn, edgeAfter, edgeListing, edgeMove, edgeReply, edgeSummary, edgeText, fits, listingNumbersOf, numbersOf, summaryNumbersOf}
+use Rattle.panel.specs.Edge.{Called, ListedBytes, bytesIn, edgeAfter, edgeListing, edgeMove, edgeReply, edgeSummary, edgeText, fits, listingNumbersOf, numbersOf, summaryNumbersOf}
 use Rattle.panel.specs.declared.HubKernelListingReply.{HubKernelListingReply}
 use Rattle.panel.specs.declared.HubKernelReply.{HubKernelReply}
 use Rattle.panel.specs.declared.HubKernelSummaryReply.{HubKernelSummaryReply}
@@ -35,11 +35,11 @@ refused-keeps t c r = refused-keeps-by _ _ t _ c r
 
 -- ---- the bytes of a table of either edition
 
-fits-one : (b : List ℕ) → length b ≡ bytesIn one → fits b ≡ true
+pub fits-one : (b : List ℕ) → length b ≡ bytesIn one → fits b ≡ true
 unfolding fits
 fits-one b h = rw (eq-eqb (length b) (bytesIn one) h) refl
 
-fits-two : (b : List ℕ) → length b ≡ bytesIn two → fits b ≡ true
+pub fits-two : (b : List ℕ) → length b ≡ bytesIn two → fits b ≡ true
 unfolding fits
 fits-two b h = rw (eq-eqb (length b) (bytesIn two) h, or-true (eqb (length b) (bytesIn one))) refl
 
@@ -50,75 +50,54 @@ fits-none b h k = rw (ne-eqb (length b) (bytesIn one) h, ne-eqb (length b) (byte
 -- ---- the ways out of a call
 
 module _ (b : List ℕ) (c : Call) where
-  module _ {t : List ℕ} (u : Unpacked b t) {r : Reply} (p : r ≡ replyTo t c) {n : HubKernelReply} (e : n ≡ numbersOf r) where
-    pub over-accepted : {t′ b′ : List ℕ} → t′ ≡ tableAfter t c → Packed t′ b′ → CalledOver b c n b′
-    over-accepted q w = record {
-      reply = rw (← u .words, ← p) e;
-      bytes = rw (← u .words, ← q) (w .bytes);
-      words = rw (← u .words, ← q) (w .back);
-    }
-
-    pub over-refused : (n .refusal ≡ 0 → ⊥) → CalledOver b c n b
-    over-refused w =
-        let k : tableAfter t c ≡ t = refused-keeps t c (rw (e, p) at w) in
-        record { reply = rw (← u .words, ← p) e; bytes = rw (← u .words, k) (sym (u .back)); words = rw (← u .words, k) }
-
-  called-fits : fits b ≡ true → {n : HubKernelReply} {b′ : List ℕ} → CalledOver b c n b′ → Called b c n b′
-  unfolding edgeAfter edgeReply
-  called-fits h o = record { reply = rw h (o .reply); bytes = rw h (o .bytes); words = λ _. o .words }
-
-  pub called-one : length b ≡ bytesIn one → {n : HubKernelReply} {b′ : List ℕ} → CalledOver b c n b′ → Called b c n b′
-  called-one h = called-fits (fits-one b h)
-
-  pub called-two : length b ≡ bytesIn two → {n : HubKernelReply} {b′ : List ℕ} → CalledOver b c n b′ → Called b c n b′
-  called-two h = called-fits (fits-two b h)
-
   pub called-length : (length b ≡ bytesIn one → ⊥) → (length b ≡ bytesIn two → ⊥) → Called b c (record { refusal = 1; answer = 0; next = 0; ahead = 0 }) b
   unfolding edgeAfter edgeReply
   called-length h k =
       let none = fits-none b h k in
       record { reply = rw none; bytes = rw none; words = λ e. absurd (false≢true (sym none ∙ e)) }
 
+  module _ (h : fits b ≡ true) {t : List ℕ} (u : Unpacked b t) {r : Reply} (p : r ≡ replyTo t c) {n : HubKernelReply} (e : n ≡ numbersOf r) where
+    pub called-accepted : {t′ b′ : List ℕ} → t′ ≡ tableAfter t c → Packed t′ b′ → Called b c n b′
+    unfolding edgeAfter edgeReply
+    called-accepted q w = record {
+      reply = rw (h, ← u .words, ← p) e;
+      bytes = rw (h, ← u .words, ← q) (w .bytes);
+      words = λ _. rw (← u .words, ← q) (w .back);
+    }
+
+    pub called-refused : (n .refusal ≡ 0 → ⊥) → Called b c n b
+    unfolding edgeAfter edgeReply
+    called-refused w =
+        let k : tableAfter t c ≡ t = refused-keeps t c (rw (e, p) at w) in
+        record {
+          reply = rw (h, ← u .words, ← p) e;
+          bytes = rw (h, ← u .words, k) (sym (u .back));
+          words = λ _. rw (← u .words, k);
+        }
+
 -- ---- the ways out of the summary
 
 module _ (b : List ℕ) (i : ℕ) where
-  pub summed-over : {t : List ℕ} → Unpacked b t → {s : Summary} → s ≡ summaryOf t i → summaryNumbersOf s ≡ summaryNumbersOf (summaryOf (wordsFrom b) i)
-  summed-over u e = rw (← u .words, ← e)
-
-  summed-fits : fits b ≡ true → {r : HubKernelSummaryReply} → r ≡ summaryNumbersOf (summaryOf (wordsFrom b) i) → r ≡ edgeSummary b i
-  unfolding edgeSummary
-  summed-fits h e = rw h e
-
-  pub summed-one : length b ≡ bytesIn one → {r : HubKernelSummaryReply} → r ≡ summaryNumbersOf (summaryOf (wordsFrom b) i) → r ≡ edgeSummary b i
-  summed-one h = summed-fits (fits-one b h)
-
-  pub summed-two : length b ≡ bytesIn two → {r : HubKernelSummaryReply} → r ≡ summaryNumbersOf (summaryOf (wordsFrom b) i) → r ≡ edgeSummary b i
-  summed-two h = summed-fits (fits-two b h)
-
   pub summed-length : (length b ≡ bytesIn one → ⊥) → (length b ≡ bytesIn two → ⊥)
       → _≡_ {A = HubKernelSummaryReply} (record { refusal = 1; mask = 0; count = 0 }) (edgeSummary b i)
   unfolding edgeSummary
   summed-length h k = rw (fits-none b h k)
 
+  pub summed : fits b ≡ true → {t : List ℕ} → Unpacked b t → {s : Summary} → s ≡ summaryOf t i → {r : HubKernelSummaryReply} → r ≡ summaryNumbersOf s → r ≡ edgeSummary b i
+  unfolding edgeSummary
+  summed h u e n = rw (h, ← u .words, ← e) n
+
 -- ---- the ways out of the listing
 
 module _ (b text : List ℕ) where
-  pub listed-over : {t : List ℕ} → Unpacked b t → {r : Listed} {text′ : List ℕ} → ListedFrom t text r text′ → ListedOver b text (listingNumbersOf r) text′
-  listed-over u e = record { reply = rw (← u .words, ← e .reply); bytes = rw (← u .words) (e .bytes) }
-
-  listed-fits : fits b ≡ true → {r : HubKernelListingReply} {text′ : List ℕ} → ListedOver b text r text′ → ListedBytes b text r text′
-  unfolding edgeListing edgeText
-  listed-fits h o = record { reply = rw h (o .reply); bytes = rw h (o .bytes) }
-
-  pub listed-one : length b ≡ bytesIn one → {r : HubKernelListingReply} {text′ : List ℕ} → ListedOver b text r text′ → ListedBytes b text r text′
-  listed-one h = listed-fits (fits-one b h)
-
-  pub listed-two : length b ≡ bytesIn two → {r : HubKernelListingReply} {text′ : List ℕ} → ListedOver b text r text′ → ListedBytes b text r text′
-  listed-two h = listed-fits (fits-two b h)
-
   pub listed-length : (length b ≡ bytesIn one → ⊥) → (length b ≡ bytesIn two → ⊥) → ListedBytes b text (record { refusal = 1; length = 0 }) text
   unfolding edgeListing edgeText
   listed-length h k = let none = fits-none b h k in record { reply = rw none; bytes = rw none }
+
+  pub listed : fits b ≡ true → {t : List ℕ} → Unpacked b t → {r : Listed} {text′ : List ℕ} → ListedFrom t text r text′
+      → {n : HubKernelListingReply} → n ≡ listingNumbersOf r → ListedBytes b text n text′
+  unfolding edgeListing edgeText
+  listed h u e n = record { reply = rw (h, ← u .words, ← e .reply) n; bytes = rw (h, ← u .words) (e .bytes) }
 
 -- ---- the ways out of a move, from L to M: `refusal` and `done` are what the move over words says of a source
 

@@ -52,12 +52,6 @@ edgeAfter b c = cond (fits b) (bytesOf (tableAfter (wordsFrom b) c)) b
 unfoldable pub edgeSummary : List ℕ → ℕ → HubKernelSummaryReply
 edgeSummary b hub = cond (fits b) (summaryNumbersOf (summaryOf (wordsFrom b) hub)) (record { refusal = 1; mask = 0; count = 0 })
 
--- of a table of either edition
-pub record CalledOver (before : List ℕ) (c : Call) (r : HubKernelReply) (after : List ℕ) : Type 0 where
-  pub reply : r ≡ numbersOf (replyTo (wordsFrom before) c)
-  pub bytes : after ≡ bytesOf (tableAfter (wordsFrom before) c)
-  pub words : wordsFrom after ≡ tableAfter (wordsFrom before) c
-
 -- what one call over bytes gives back and leaves; and the words of what it leaves, for the next call
 pub record Called (before : List ℕ) (c : Call) (r : HubKernelReply) (after : List ℕ) : Type 0 where
   pub reply : r ≡ edgeReply before c
@@ -74,11 +68,6 @@ edgeListing b room = cond (fits b) (listingNumbersOf (listingReply (wordsFrom b)
 
 unfoldable pub edgeText : List ℕ → List ℕ → List ℕ
 edgeText b text = cond (fits b) (textAfter (wordsFrom b) text) text
-
--- of a table of either edition
-pub record ListedOver (b text : List ℕ) (r : HubKernelListingReply) (text′ : List ℕ) : Type 0 where
-  pub reply : r ≡ listingNumbersOf (listingReply (wordsFrom b) (length text))
-  pub bytes : text′ ≡ textAfter (wordsFrom b) text
 
 pub record ListedBytes (b text : List ℕ) (r : HubKernelListingReply) (text′ : List ℕ) : Type 0 where
   pub reply : r ≡ edgeListing b (length text)

@@ -1,15 +1,14 @@
 // The C edge: "A host program in C hands the table as 2,400 bytes, words little-endian, and the call's numbers"; a table of edition 2
 // has 2,976 (M-105). Thin over the word kernel. include/hub_kernel.h has the same five functions for C.
-// Each exported function takes an array of as many words as the edition has, and hands it to the one function that works over both.
-ghost use Prim.Native.Nat.{_*_};
 ghost use Rattle.bytes4.specs.Bytes.{bytesOf, wordsFrom};
-ghost use Rattle.panel.specs.Edge.{Called, CalledOver, ListedBytes, ListedOver, callOf, edgeDown, edgeSummary, edgeUp, numbersOf, summaryNumbersOf};
+ghost use Rattle.panel.specs.Edge.{Called, ListedBytes, callOf, edgeDown, edgeSummary, edgeUp, listingNumbersOf, numbersOf, summaryNumbersOf};
 ghost use Rattle.rules.specs.Editions.{Moved, movedDown, movedUp};
-ghost use Rattle.rules.specs.Reply.{summaryOf};
 ghost use lib.ListN.{length};
 ghost use mathlib.Core.Path.{_≡_};
+use listing::Listed;
 use rules::Call;
 use rules::Reply;
+use rules::Summary;
 
 // "A host program in C hands the table as 2,400 bytes", and one of edition 2 as 2,976.
 const BYTES: usize = 4 * records::TABLE_SIZE;
@@ -50,22 +49,8 @@ fn numbers_of(r: Reply) -> HubKernelReply
     }
 }
 
-// One call over the words of a table: the bytes are unpacked, the kernel called, and packed again unless the call is refused.
-fn call_over(table: &mut [u8], words: &mut [u32], c: Call) -> HubKernelReply
-    requires { ⌜ length (now table) ≡ 4 * length (now words) ⌝ }
-    ensures { λ r. ⌜ CalledOver (now (table .entry)) c r (now (table .exit)) ⌝ }
-{
-    bytes4::unpack(&*table, words);
-    let reply = kernel::call(words, c);
-    let numbers = numbers_of(reply);
-    if numbers.refusal != 0 {
-        return numbers;
-    }
-    bytes4::pack(&*words, table);
-    numbers
-}
-
-// One call, by its eight numbers.
+// One call, by its eight numbers: the bytes are unpacked, the kernel called, and packed again unless the call is refused. Each edition
+// has an array of its own, so that the compiler knows its length where the bytes are unpacked.
 #[no_mangle]
 pub extern "C" fn hub_kernel_call(
     table: &mut [u8],
@@ -92,11 +77,23 @@ pub extern "C" fn hub_kernel_call(
     };
     if table.len() == BYTES {
         let mut words = [0u32; records::TABLE_SIZE];
-        return call_over(table, &mut words, c);
+        bytes4::unpack(&*table, &mut words);
+        let numbers = numbers_of(kernel::call(&mut words, c));
+        if numbers.refusal != 0 {
+            return numbers;
+        }
+        bytes4::pack(&words, table);
+        return numbers;
     }
     if table.len() == BYTES_TWO {
         let mut words = [0u32; records::TABLE_SIZE_TWO];
-        return call_over(table, &mut words, c);
+        bytes4::unpack(&*table, &mut words);
+        let reply = numbers_of(kernel::call(&mut words, c));
+        if reply.refusal != 0 {
+            return reply;
+        }
+        bytes4::pack(&words, table);
+        return reply;
     }
     HubKernelReply {
         refusal: rules::WRONG_LENGTH,
@@ -106,13 +103,9 @@ pub extern "C" fn hub_kernel_call(
     }
 }
 
-// The hub summary over the words of a table.
-fn summary_over(table: &[u8], words: &mut [u32], hub: u32) -> HubKernelSummaryReply
-    requires { ⌜ length (now table) ≡ 4 * length (now words) ⌝ }
-    ensures { λ r. ⌜ r ≡ summaryNumbersOf (summaryOf (wordsFrom (now (table .entry))) hub) ⌝ }
+fn summary_numbers(s: Summary) -> HubKernelSummaryReply
+    ensures { λ r. ⌜ r ≡ summaryNumbersOf s ⌝ }
 {
-    bytes4::unpack(table, words);
-    let s = kernel::summary(&*words, hub);
     HubKernelSummaryReply {
         refusal: s.refusal,
         mask: s.mask,
@@ -127,11 +120,13 @@ pub extern "C" fn hub_kernel_summary(table: &[u8], hub: u32) -> HubKernelSummary
 {
     if table.len() == BYTES {
         let mut words = [0u32; records::TABLE_SIZE];
-        return summary_over(table, &mut words, hub);
+        bytes4::unpack(table, &mut words);
+        return summary_numbers(kernel::summary(&words, hub));
     }
     if table.len() == BYTES_TWO {
         let mut words = [0u32; records::TABLE_SIZE_TWO];
-        return summary_over(table, &mut words, hub);
+        bytes4::unpack(table, &mut words);
+        return summary_numbers(kernel::summary(&words, hub));
     }
     HubKernelSummaryReply {
         refusal: rules::WRONG_LENGTH,
@@ -140,13 +135,9 @@ pub extern "C" fn hub_kernel_summary(table: &[u8], hub: u32) -> HubKernelSummary
     }
 }
 
-// The listing over the words of a table, written into a lent buffer.
-fn listing_over(table: &[u8], words: &mut [u32], text: &mut [u8]) -> HubKernelListingReply
-    requires { ⌜ length (now table) ≡ 4 * length (now words) ⌝ }
-    ensures { λ r. ⌜ ListedOver (now (table .entry)) (now (text .entry)) r (now (text .exit)) ⌝ }
+fn listing_numbers(r: Listed) -> HubKernelListingReply
+    ensures { λ n. ⌜ n ≡ listingNumbersOf r ⌝ }
 {
-    bytes4::unpack(table, words);
-    let r = listing::list(&*words, text);
     HubKernelListingReply {
         refusal: r.refusal,
         length: r.length,
@@ -160,11 +151,13 @@ pub extern "C" fn hub_kernel_listing(table: &[u8], text: &mut [u8]) -> HubKernel
 {
     if table.len() == BYTES {
         let mut words = [0u32; records::TABLE_SIZE];
-        return listing_over(table, &mut words, text);
+        bytes4::unpack(table, &mut words);
+        return listing_numbers(listing::list(&words, text));
     }
     if table.len() == BYTES_TWO {
         let mut words = [0u32; records::TABLE_SIZE_TWO];
-        return listing_over(table, &mut words, text);
+        bytes4::unpack(table, &mut words);
+        return listing_numbers(listing::list(&words, text));
     }
     HubKernelListingReply {
         refusal: rules::WRONG_LENGTH,

@@ -96,7 +96,7 @@ pub fn keys(t: &[u32], ts: usize) -> [u32; 16]
     let mut ks = [0u32; 16];
     let mut i = 0;
     while i < 16 {
-        ks[i] = records::field(t, records::TASKS_AT, ts, i, records::PRIORITY);
+        ks[i] = t[records::task_at(ts, TaskNo(i)) + records::PRIORITY];
         i += 1;
     }
     ks

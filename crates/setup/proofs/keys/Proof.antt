@@ -20,11 +20,20 @@ abbrev μ-loop : tie.MeasureT-loop
 loop-holds : tie.Need-loop-holds Inv-loop μ-loop
 loop-holds c = (omega arith, refl, below-none _)
 
-field-requires : tie.Need-field-requires Inv-loop μ-loop
-field-requires c κs = search needs
+task-at-requires : tie.Need-task-at-requires Inv-loop μ-loop
+task-at-requires c κs = search needs
+
+add-ks : tie.Need-add-ks Inv-loop μ-loop
+add-ks c = search needs
 
 mul-ks : tie.Need-mul-ks Inv-loop μ-loop
 mul-ks c = search needs
+
+shared-slice-read-ks : tie.Need-shared-slice-read-ks Inv-loop μ-loop
+shared-slice-read-ks c = search needs
+
+mul-ks-2 : tie.Need-mul-ks-2 Inv-loop μ-loop
+mul-ks-2 c = search needs
 
 array-write-ks : tie.Need-array-write-ks Inv-loop μ-loop
 array-write-ks c = search needs
@@ -37,17 +46,18 @@ loop-less c = search needs
 
 loop-again : tie.Need-loop-again Inv-loop μ-loop
 loop-again c =
-    let l = c .before .before in
+    let l = c .before .before .before in
     let ks = l .loop .ks in
     let i = l .loop .i in
-    let key = c .field .result in
     let t = l .before .before .args .t .now in
-    let ts = l .before .before .args .ts in (
+    let ts = l .before .before .args .ts in
+    let place = c .before .task-at in
+    let key = getD t (place .result + 2) 0 in (
       omega arith,
       simp length-set (l .loop .inv .1),
       below-more (λ (j : ℕ). getD (set ks i key) j 0 ≡ getD t (8 + j * ts + 2) 0) i
           (λ j h. getD-set-other ks i j key 0 (λ e. omega arith) ∙ l .loop .inv .2 j h)
-          (getD-set-same ks i key 0 (omega arith) ∙ c .field .ensures),
+          (getD-set-same ks i key 0 (omega arith) ∙ ap (λ (p : ℕ). getD t (p + 2) 0) (place .ensures .place)),
     )
 
 returns : tie.Need-returns Inv-loop μ-loop
@@ -63,8 +73,11 @@ keys-spec =
     Inv-loop
     μ-loop
     loop-holds
-    field-requires
+    task-at-requires
+    add-ks
     mul-ks
+    shared-slice-read-ks
+    mul-ks-2
     array-write-ks
     add-i
     loop-less
