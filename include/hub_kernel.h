@@ -1,11 +1,11 @@
-/* The hub kernel for C and C++ hosts: five functions over a table of 2,976 bytes, or of
+/* The hub kernel for C and C++ hosts: six functions over a table of 2,976 bytes, or of
  * 2,400 (edition 1, whose messages have 32 bits instead of 64).
  *
  *     uint8_t table[HUB_KERNEL_TABLE_BYTES_2];
  *     hub_kernel_call(table, sizeof table, HUB_KERNEL_BLANK, 0, 0, 0, 0, 0, 0, 0);
  *
  * Link with libpanel.a (`rt staticlib panel` writes target/staticlib/libpanel.a, for
- * x86-64 Linux). It exports the five functions below and uses nothing but the C
+ * x86-64 Linux). It exports the six functions below and uses nothing but the C
  * library's memcpy, memmove and memset.
  *
  * THE TABLE is words of 32 bits, each as four bytes, the least first, whatever the
@@ -131,6 +131,33 @@
  * after it keep what they held; room for HUB_KERNEL_LISTING_MOST bytes always suffices.
  * A refused listing writes no byte and has length 0. No byte of the table is written.
  *
+ * THE COMPARISON tells at which words two tables of one edition differ: what a call changed,
+ * if one is a copy from before it; or what has to be sent to bring an old copy up to date.
+ * hub_kernel_compare writes an entry for each such word, in rising order, to the start of a
+ * buffer that the host lends, and gives back how many entries there are. An entry is three
+ * words of the buffer:
+ *
+ *     places[3 * i]        the place: the number of the word in the table, from 0; its four
+ *                          bytes start at 4 * place
+ *     places[3 * i + 1]    the old word, which stands there in the first table
+ *     places[3 * i + 2]    the new word, which stands there in the second
+ *
+ * Put the new words into the first table, and it is the second, byte for byte; no entry is
+ * idle, so a table compared with itself gives 0. Compared the other way round, the entries
+ * are the same with old and new exchanged. The buffer is of uint32_t, aligned as such, its
+ * words in the machine's own order; `words` counts these words, not bytes and not entries.
+ * HUB_KERNEL_COMPARE_WORDS words always suffice for edition 1, HUB_KERNEL_COMPARE_WORDS_2
+ * for both:
+ *
+ *     uint32_t places[HUB_KERNEL_COMPARE_WORDS_2];
+ *     hub_kernel_compare_reply reply = hub_kernel_compare(before, sizeof before, after,
+ *         sizeof after, places, sizeof places / sizeof *places);
+ *
+ * Words behind the last entry keep what they held. A refused comparison writes nothing and
+ * has count 0, so whether 0 means "the same" is for `refusal` to say. No byte of a table is
+ * written, so the two may be one and the same; the buffer must not overlap either. Tables of
+ * differing editions can't be compared, not even one with its move.
+ *
  * REFUSALS, tested in this order:
  *
  *   1  the length is neither 2,400 nor 2,976 bytes. The moves: the two lengths aren't 2,400
@@ -144,11 +171,13 @@
  *      edition 1. Service 7: ticks outside that range. Service 9: priority above 255 or
  *      side above 1. Service 10: kind not 1 to 6, limit or start outside the table below
  *   7  service 9 or 10 with 16 already
- *   8  the listing: the buffer is shorter than it
+ *   8  the listing: the buffer is shorter than it. The comparison: than 3 words an entry
  *   9  the move down: some high word of the source isn't 0
+ *   13 the comparison: the tables are of differing editions
  *
- * The listing and the moves have no service and no hub: of these the listing tests 1, 2
- * and 8, the move up 1 and 2, the move down 1, 2 and 9.
+ * The listing, the moves and the comparison have no service and no hub: of these the listing
+ * tests 1, 2 and 8, the move up 1 and 2, the move down 1, 2 and 9. The comparison tests 1 and
+ * 2 for the first table, then 1 and 2 for the second, then 13, then 8.
  *
  *   kind         count                       limit          start
  *   1 Event      0 or 1                      1              0
@@ -158,21 +187,24 @@
  *   5 Resource   0 free, else owner plus 1   1              0
  *   6 Board      0 unwritten, 1 written      1              0
  *
- * PROVED, for every length and every content of the table, every eight numbers, every
- * buffer and every destination: the call returns, reads nothing but the table, writes
- * nothing but the table (the listing: nothing but the buffer; a move: nothing but the
- * destination), and its reply and every byte afterwards are those of the rules (crate
- * panel, `hub_kernel_call`, `hub_kernel_summary`, `hub_kernel_listing`,
- * `hub_kernel_move_up` and `hub_kernel_move_down`, whose contracts have no condition). The
- * tables after any run of calls and moves from a Blank stay well formed, so refusal 2 never
- * comes there.
+ * PROVED, for every length and every content of the tables, every eight numbers, every
+ * buffer and every destination: the call returns, reads nothing but the table (the
+ * comparison: nothing but the two), writes nothing but the table (the listing and the
+ * comparison: nothing but the buffer; a move: nothing but the destination), and its reply and
+ * every byte afterwards are those of the rules (crate panel, `hub_kernel_call`,
+ * `hub_kernel_summary`, `hub_kernel_listing`, `hub_kernel_move_up`, `hub_kernel_move_down`
+ * and `hub_kernel_compare`, whose contracts have no condition). The tables after any run of
+ * calls and moves from a Blank stay well formed, so refusal 2 never comes there.
  *
  * ASSUMED: the prover and the compiler of Rattle, with LLVM behind it; and of the host,
  * that `table` isn't NULL (not even for 0 bytes), points to `bytes` bytes that it may
  * read (and for hub_kernel_call write), and that nothing else reads or writes them until
  * the call has returned; the same of `text` and its `room` bytes, which may be written and
- * share no byte with the table, and of a move's `from` and `to`, of which `to` may be
- * written and shares no byte with `from`. About 4 kB of stack are used, by a move about 6 kB.
+ * share no byte with the table, of a move's `from` and `to`, of which `to` may be written and
+ * shares no byte with `from`, and of a comparison's two tables and its `places`, `words` words
+ * that may be written, are aligned, and share no byte with a table (not NULL either, not even
+ * for 0 words). About 4 kB of stack are used, by a move or a comparison about
+ * 6 kB.
  */
 #ifndef HUB_KERNEL_H
 #define HUB_KERNEL_H
@@ -219,6 +251,10 @@ enum {
 
 /* Bytes of the longest listing: 16 tasks and 16 Semaphores, all numbers of full length. */
 enum { HUB_KERNEL_LISTING_MOST = 704 };
+
+/* Words of a buffer in which every comparison of two tables of edition 1, of edition 2, has
+ * room: three for each word of a table. */
+enum { HUB_KERNEL_COMPARE_WORDS = 1800, HUB_KERNEL_COMPARE_WORDS_2 = 2232 };
 
 /* A task record's words, in bytes from its start. Edition 2 has the high word behind the
  * low one, and so its answer one place further. */
@@ -302,7 +338,8 @@ enum {
     HUB_KERNEL_BAD_ARGUMENT = 6,
     HUB_KERNEL_TABLE_FULL = 7,
     HUB_KERNEL_SHORT_BUFFER = 8,
-    HUB_KERNEL_HIGH_WORD = 9
+    HUB_KERNEL_HIGH_WORD = 9,
+    HUB_KERNEL_OTHER_EDITION = 13
 };
 
 /* Largest numbers. */
@@ -352,6 +389,18 @@ uint32_t hub_kernel_move_up(const uint8_t *from, size_t from_bytes, uint8_t *to,
  * 9, and then nothing is written, or 0 if done. The two must not overlap. */
 uint32_t hub_kernel_move_down(const uint8_t *from, size_t from_bytes, uint8_t *to,
                               size_t to_bytes);
+
+typedef struct hub_kernel_compare_reply {
+    uint32_t refusal; /* 0 accepted, else 1, 2, 13 or 8; then nothing is written and count is 0 */
+    uint32_t count;   /* entries written to the start of `places`, three words each */
+} hub_kernel_compare_reply;
+
+/* Where the second table differs from the first: place, old word and new word of each such
+ * word, into the `words` words at `places`, which must not overlap a table. Writes nothing
+ * else. */
+hub_kernel_compare_reply hub_kernel_compare(const uint8_t *first, size_t first_bytes,
+                                            const uint8_t *second, size_t second_bytes,
+                                            uint32_t *places, size_t words);
 
 #ifdef __cplusplus
 }

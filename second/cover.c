@@ -28,8 +28,9 @@ typedef enum { CLASS_0, LOW_ONLY, HIGH_ONLY, BOTH_WORDS, CLASSES } message_class
 /* All rows are there for each edition; the names say what of both.
  * Rows that stand alone, wipes among them. Those above them are products: services,
  * kind by side by outcome, kind by side, kind by side by how many are ahead, and those of
- * M-105: services and kinds with a high word, messages; those below are the families of
- * damaged tables. Of a move the edition is its source's. */
+ * M-105: services and kinds with a high word, messages; of M-106: services between the
+ * tables compared; those below are the families of damaged tables. Of a move the edition is
+ * its source's, of a comparison its first table's. */
 #define SINGLE_ROWS(ROW)                                                        \
     ROW(MEETS_SUSPENDED, "request: meets a suspended waiter")                   \
     ROW(MEETS_URGENT, "request: meets a more urgent waiter, who runs next")     \
@@ -235,6 +236,60 @@ typedef enum { CLASS_0, LOW_ONLY, HIGH_ONLY, BOTH_WORDS, CLASSES } message_class
     ROW(MOVE_9_HELD_6, "move refusal 9: one high word, a FIFO's 6th")           \
     ROW(MOVE_9_HELD_7, "move refusal 9: one high word, a FIFO's 7th")           \
     ROW(MOVE_9_HELD_8, "move refusal 9: one high word, a FIFO's 8th")           \
+    ROW(COMPARE_0, "compare: no place differs")                                 \
+    ROW(COMPARE_1, "compare: 1 place differs")                                  \
+    ROW(COMPARE_2, "compare: 2 to 9 places differ")                             \
+    ROW(COMPARE_10, "compare: 10 to 99 places differ")                          \
+    ROW(COMPARE_100, "compare: 100 places and more differ")                     \
+    ROW(COMPARE_ALL, "compare: every place differs that can")                   \
+    ROW(COMPARE_TASKS, "compare: place 1 differs, T")                           \
+    ROW(COMPARE_HUBS, "compare: place 2 differs, H")                            \
+    ROW(COMPARE_TASK, "compare: a task record differs")                         \
+    ROW(COMPARE_HUB, "compare: a hub record differs")                           \
+    ROW(COMPARE_READY, "compare: the ready list differs")                       \
+    ROW(COMPARE_WAITING, "compare: a waiting list differs")                     \
+    ROW(COMPARE_STORE, "compare: a store differs")                              \
+    ROW(COMPARE_LAST, "compare: the last word differs")                         \
+    ROW(COMPARE_LAST_ALONE, "compare: the last word alone differs")             \
+    ROW(COMPARE_LOW, "compare: of a message the low word alone differs")        \
+    ROW(COMPARE_HIGH, "compare: of a message the high word alone differs")      \
+    ROW(COMPARE_PAIR, "compare: both words of a message differ")                \
+    ROW(COMPARE_OLD_0, "compare: an old word is 0")                             \
+    ROW(COMPARE_NEW_0, "compare: a new word is 0")                              \
+    ROW(COMPARE_OLD_MAX, "compare: an old word is 4294967295")                  \
+    ROW(COMPARE_NEW_MAX, "compare: a new word is 4294967295")                   \
+    ROW(COMPARE_BIT_0, "compare: two words differ in bit 0 alone")              \
+    ROW(COMPARE_BIT_31, "compare: two words differ in bit 31 alone")            \
+    ROW(COMPARE_REFUSED, "compare: before and after a refused call")            \
+    ROW(COMPARE_NO_ROOM, "compare: nothing to write, and no room")              \
+    ROW(COMPARE_EXACT, "compare: exactly the room there is")                    \
+    ROW(COMPARE_PAST_1, "compare: one word or two behind the last entry")       \
+    ROW(COMPARE_PAST_3, "compare: more words behind the last entry")            \
+    ROW(COMPARE_F1, "compare refusal 1: the first table")                       \
+    ROW(COMPARE_F1_AND_1, "compare refusal 1: the first table, the second too") \
+    ROW(COMPARE_F1_AND_2, "compare refusal 1: the first table, the second malformed") \
+    ROW(COMPARE_F1_AND_8, "compare refusal 1: the first table, no room either") \
+    ROW(COMPARE_F2, "compare refusal 2: the first table")                       \
+    ROW(COMPARE_F2_AND_1, "compare refusal 2: the first table, the second's length") \
+    ROW(COMPARE_F2_AND_2, "compare refusal 2: the first table, the second too") \
+    ROW(COMPARE_F2_AND_13, "compare refusal 2: the first table, the other edition") \
+    ROW(COMPARE_F2_AND_8, "compare refusal 2: the first table, no room either") \
+    ROW(COMPARE_S1, "compare refusal 1: the second table")                      \
+    ROW(COMPARE_S1_AND_8, "compare refusal 1: the second table, no room either") \
+    ROW(COMPARE_S2, "compare refusal 2: the second table")                      \
+    ROW(COMPARE_S2_AND_13, "compare refusal 2: the second table, the other edition") \
+    ROW(COMPARE_S2_AND_8, "compare refusal 2: the second table, no room either") \
+    ROW(COMPARE_13, "compare refusal 13")                                       \
+    ROW(COMPARE_13_AND_8, "compare refusal 13: no room either")                 \
+    ROW(COMPARE_13_MOVED, "compare refusal 13: a table and its move")           \
+    ROW(COMPARE_8, "compare refusal 8")                                         \
+    ROW(COMPARE_8_NONE, "compare refusal 8: no room at all")                    \
+    ROW(COMPARE_8_BY_1, "compare refusal 8: one word missing")                  \
+    ROW(COMPARE_8_BY_2, "compare refusal 8: two words missing")                 \
+    ROW(COMPARE_8_BY_3, "compare refusal 8: one entry missing")                 \
+    ROW(COMPARE_1_BYTES_FIRST, "compare refusal 1: the first table of other bytes") \
+    ROW(COMPARE_1_BYTES_SECOND, "compare refusal 1: the second table of other bytes") \
+    ROW(COMPARE_1_BYTES_BY_1, "compare refusal 1: one byte too few or too many") \
     ROW(DAMAGED_AND_3, "refusal 2: service above 10 as well")                   \
     ROW(SERVICE_11, "refusal 3: service 11")                                    \
     ROW(SERVICE_ABOVE, "refusal 3: service above 11")                           \
@@ -368,7 +423,8 @@ enum {
     HIGH_REFUSED_ROWS = HIGH_SERVICE_ROWS + ADD_HUB + 1,
     MESSAGE_ROWS = HIGH_REFUSED_ROWS + BOARD * WIPE,
     CLEARED_ROWS = MESSAGE_ROWS + PATHS * CLASSES,
-    BEFORE_SINGLE_ROWS = CLEARED_ROWS + SLEEP * CLASSES - 1,
+    COMPARE_ROWS = CLEARED_ROWS + SLEEP * CLASSES, /* M-106, neighbours: services */
+    BEFORE_SINGLE_ROWS = COMPARE_ROWS + ADD_HUB,
 #define ROW(symbol, name) symbol,
     SINGLE_ROWS(ROW)
 #undef ROW
@@ -442,9 +498,11 @@ static int row_in_edition(uint32_t edition, size_t row)
     }
     if (row >= MESSAGE_ROWS && row < CLEARED_ROWS)
         return edition == EDITION_2 || (row - MESSAGE_ROWS) % CLASSES <= LOW_ONLY;
-    if (row >= CLEARED_ROWS && row <= BEFORE_SINGLE_ROWS)
+    if (row >= CLEARED_ROWS && row < COMPARE_ROWS)
         return (row - CLEARED_ROWS) % CLASSES != CLASS_0 &&
                (edition == EDITION_2 || (row - CLEARED_ROWS) % CLASSES == LOW_ONLY);
+    if (row == COMPARE_HIGH || row == COMPARE_PAIR)
+        return edition == EDITION_2;
     if (row == MOVE_1_AND_9 || (row >= MOVE_2_AND_9 && row <= MOVE_9_HELD_8))
         return edition == EDITION_2;
     return 1;
@@ -470,7 +528,7 @@ static int row_reachable(uint32_t edition, size_t row)
 static const char *const services[] = {"Blank", "Hub request", "Start", "Stop", "Suspend",
                                        "Resume", "Yield", "Sleep", "Tick", "Add task", "Add hub"};
 
-/* The rows of M-105 that are products. */
+/* The rows of M-105 and M-106 that are products. */
 static void high_row_name(size_t row, char *name, size_t size)
 {
     static const char *const paths[] = {
@@ -491,10 +549,12 @@ static void high_row_name(size_t row, char *name, size_t size)
     else if (row < CLEARED_ROWS)
         snprintf(name, size, "message: %s, %s", paths[(row - MESSAGE_ROWS) / CLASSES],
                  classes[(row - MESSAGE_ROWS) % CLASSES]);
-    else
+    else if (row < COMPARE_ROWS)
         snprintf(name, size, "message: the caller's own before %s, %s",
                  services[HUB_REQUEST + (row - CLEARED_ROWS) / CLASSES],
                  classes[(row - CLEARED_ROWS) % CLASSES]);
+    else
+        snprintf(name, size, "compare: before and after %s", services[row - COMPARE_ROWS]);
 }
 
 static void row_name(size_t row, char *name, size_t size)
@@ -1482,6 +1542,164 @@ void cover_move_in_run(cover *seen, const uint32_t *from)
 {
     hit(seen, MOVE_IN_RUN);
     hit_if(seen, somebody_in(from, WAITING), MOVE_IN_RUN_WAITING);
+}
+
+/* ---- Comparisons ------------------------------------------------------- */
+
+/* At how many places two tables can differ: not in the contents, since T or H costs a word of
+ * a record; and of the 256 words of the waiting lists in 16 (gen.h, gen_apart). */
+static uint32_t differing_most(const layout *of)
+{
+    return of->words - TASKS_AT - (HUBS - 1) * LIST_WORDS;
+}
+
+static int differs(const cover_compared *of, size_t place)
+{
+    return of->first[place] != of->second[place];
+}
+
+/* Some word from one place up to another differs. */
+static int some_differ(const cover_compared *of, size_t from, size_t to)
+{
+    return memcmp(of->first + from, of->second + from, (to - from) * sizeof *of->first) != 0;
+}
+
+static void cover_compared_bodies(cover *seen, const cover_compared *of)
+{
+    const layout *form = layout_for(of->first_words);
+
+    hit_if(seen, differs(of, TASKS_IN_USE_AT), COMPARE_TASKS);
+    hit_if(seen, differs(of, HUBS_IN_USE_AT), COMPARE_HUBS);
+    hit_if(seen, some_differ(of, TASKS_AT, form->hubs_at), COMPARE_TASK);
+    hit_if(seen, some_differ(of, form->hubs_at, form->ready_at), COMPARE_HUB);
+    hit_if(seen, some_differ(of, form->ready_at, form->waiting_at), COMPARE_READY);
+    hit_if(seen, some_differ(of, form->waiting_at, form->stores_at), COMPARE_WAITING);
+    hit_if(seen, some_differ(of, form->stores_at, form->words), COMPARE_STORE);
+    hit_if(seen, differs(of, form->words - 1), COMPARE_LAST);
+    hit_if(seen, differs(of, form->words - 1) && of->reply.count == 1, COMPARE_LAST_ALONE);
+}
+
+static void cover_compared_message(cover *seen, const cover_compared *of, size_t place)
+{
+    int low = differs(of, place);
+    int high = seen->edition == EDITION_2 && differs(of, place + 1);
+
+    hit_if(seen, low && !high, COMPARE_LOW);
+    hit_if(seen, high && !low, COMPARE_HIGH);
+    hit_if(seen, high && low, COMPARE_PAIR);
+}
+
+static void cover_compared_messages(cover *seen, const cover_compared *of)
+{
+    for (uint32_t task = 0; task < TASKS; task++)
+        cover_compared_message(seen, of, field_place(of->first, task, T_WORD));
+    for (uint32_t i = 0; i < HUBS * HELD_MOST; i++)
+        cover_compared_message(seen, of, held_place(of->first, i / HELD_MOST, i % HELD_MOST));
+}
+
+static void cover_compared_words(cover *seen, const cover_compared *of)
+{
+    for (size_t place = 0; place < of->first_words; place++) {
+        uint32_t old = of->first[place], new = of->second[place];
+        if (old == new)
+            continue;
+        hit_if(seen, old == 0, COMPARE_OLD_0);
+        hit_if(seen, new == 0, COMPARE_NEW_0);
+        hit_if(seen, old == UINT32_MAX, COMPARE_OLD_MAX);
+        hit_if(seen, new == UINT32_MAX, COMPARE_NEW_MAX);
+        hit_if(seen, (old ^ new) == 1, COMPARE_BIT_0);
+        hit_if(seen, (old ^ new) == UINT32_C(1) << 31, COMPARE_BIT_31);
+    }
+}
+
+static void cover_compared_tables(cover *seen, const cover_compared *of)
+{
+    uint32_t count = of->reply.count;
+    size_t left = of->room - ENTRY_WORDS * (size_t)count;
+
+    hit(seen, count == 0    ? COMPARE_0
+              : count == 1  ? COMPARE_1
+              : count < 10  ? COMPARE_2
+              : count < 100 ? COMPARE_10
+                            : COMPARE_100);
+    hit_if(seen, count == differing_most(layout_for(of->first_words)), COMPARE_ALL);
+    hit_if(seen, count == 0 && of->room == 0, COMPARE_NO_ROOM);
+    hit_if(seen, count > 0 && left == 0, COMPARE_EXACT);
+    hit_if(seen, left == 1 || left == 2, COMPARE_PAST_1);
+    hit_if(seen, left > 2, COMPARE_PAST_3);
+    cover_compared_bodies(seen, of);
+    cover_compared_messages(seen, of);
+    cover_compared_words(seen, of);
+}
+
+/* What else there is to refuse; without room for an entry the buffer is short wherever a
+ * place differs. */
+static void cover_compare_first(cover *seen, const cover_compared *of)
+{
+    int length = of->reply.refusal == BAD_LENGTH, second = layout_for(of->second_words) == NULL;
+
+    hit(seen, length ? COMPARE_F1 : COMPARE_F2);
+    hit_if(seen, second, length ? COMPARE_F1_AND_1 : COMPARE_F2_AND_1);
+    hit_if(seen, of->second_malformed, length ? COMPARE_F1_AND_2 : COMPARE_F2_AND_2);
+    hit_if(seen, !length && !second && !of->second_malformed &&
+                     of->first_words != of->second_words,
+           COMPARE_F2_AND_13);
+    hit_if(seen, of->room < ENTRY_WORDS, length ? COMPARE_F1_AND_8 : COMPARE_F2_AND_8);
+}
+
+static void cover_compare_second(cover *seen, const cover_compared *of)
+{
+    int length = of->reply.refusal == BAD_LENGTH;
+
+    hit(seen, length ? COMPARE_S1 : COMPARE_S2);
+    hit_if(seen, !length && of->first_words != of->second_words, COMPARE_S2_AND_13);
+    hit_if(seen, of->room < ENTRY_WORDS, length ? COMPARE_S1_AND_8 : COMPARE_S2_AND_8);
+}
+
+static void cover_compare_short(cover *seen, const cover_compared *of)
+{
+    size_t needed = 0;
+
+    for (size_t place = 0; place < of->first_words; place++)
+        needed += differs(of, place) ? ENTRY_WORDS : 0;
+    hit(seen, COMPARE_8);
+    hit_if(seen, of->room == 0, COMPARE_8_NONE);
+    hit_if(seen, of->room + 1 == needed, COMPARE_8_BY_1);
+    hit_if(seen, of->room + 2 == needed, COMPARE_8_BY_2);
+    hit_if(seen, of->room + 3 == needed, COMPARE_8_BY_3);
+}
+
+void cover_compare(cover *seen, const cover_compared *of)
+{
+    if (of->reply.refusal == ACCEPTED) {
+        cover_compared_tables(seen, of);
+    } else if (of->reply.refusal == SHORT_BUFFER) {
+        cover_compare_short(seen, of);
+    } else if (of->reply.refusal == DIFFERING_EDITIONS) {
+        hit(seen, COMPARE_13);
+        hit_if(seen, of->room < ENTRY_WORDS, COMPARE_13_AND_8);
+    } else if (layout_for(of->first_words) == NULL || of->first_malformed) {
+        cover_compare_first(seen, of);
+    } else {
+        cover_compare_second(seen, of);
+    }
+}
+
+void cover_compare_bytes(cover *seen, size_t first_bytes, size_t second_bytes)
+{
+    size_t right = layouts[seen->edition - EDITION_1].words * 4;
+
+    hit(seen, first_bytes != right ? COMPARE_1_BYTES_FIRST : COMPARE_1_BYTES_SECOND);
+    hit_if(seen, first_bytes + 1 == right || first_bytes == right + 1 ||
+                     second_bytes + 1 == right || second_bytes == right + 1,
+           COMPARE_1_BYTES_BY_1);
+}
+
+void cover_compare_moved(cover *seen) { hit(seen, COMPARE_13_MOVED); }
+
+void cover_neighbours(cover *seen, const uint32_t call[8], uint32_t refusal)
+{
+    hit(seen, refusal == ACCEPTED ? COMPARE_ROWS + call[C_SERVICE] : COMPARE_REFUSED);
 }
 
 /* ---- The table --------------------------------------------------------- */

@@ -8,7 +8,7 @@
 
 #include "second.h"
 
-enum { COVER_LEAST = 100, COVER_ROWS_MAX = 1280 };
+enum { COVER_LEAST = 100, COVER_ROWS_MAX = 1408 };
 
 /* A table of rows for each edition. Hits go to the one that `edition` says, which the tests
  * set; it isn't read from the tables, some of which lie about it. */
@@ -49,6 +49,20 @@ void cover_move(cover *seen, const uint32_t *from, const cover_moved *move);
 void cover_move_back(cover *seen);
 void cover_move_bytes(cover *seen, size_t from_bytes, size_t to_bytes); /* refused with 1 */
 void cover_move_in_run(cover *seen, const uint32_t *from);
+
+/* A comparison whose first table is of this edition, or meant to be. */
+typedef struct {
+    const uint32_t *first, *second;
+    size_t first_words, second_words, room;
+    int first_malformed, second_malformed; /* of 600 or 744 words that aren't well formed */
+    second_compare_reply reply;
+} cover_compared;
+void cover_compare(cover *seen, const cover_compared *of);
+void cover_compare_bytes(cover *seen, size_t first_bytes, size_t second_bytes); /* refused with 1 */
+void cover_compare_moved(cover *seen); /* a table with its move: refused with 13 */
+
+/* The tables compared are those before and after this call. */
+void cover_neighbours(cover *seen, const uint32_t call[8], uint32_t refusal);
 
 /* Prints the table, every reachable row with its hits. */
 void cover_print(const cover *seen);

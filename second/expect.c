@@ -1,5 +1,5 @@
-/* The tests' own working-out of document 01 and requests M-100, M-101, M-103, M-104 and
- * M-105; expect.h says how it differs. */
+/* The tests' own working-out of document 01 and requests M-100, M-101 and M-103 to M-106;
+ * expect.h says how it differs. */
 #include "expect.h"
 
 #include <stdio.h>
@@ -676,6 +676,68 @@ uint32_t expect_high_words(const uint32_t table[744])
     for (int at = 488 + 1; at < 744; at += 2)
         high += table[at] != 0;
     return high;
+}
+
+/* ---- The comparison ---------------------------------------------------- */
+
+/* "Refusals 1 and 2 for the first table, then for the second". */
+static uint32_t unfit(const uint32_t *table, size_t words)
+{
+    if (words != 600 && words != 744)
+        return 1;
+    return expect_well_formed(table, words) ? 0 : 2;
+}
+
+/* The first of the places from `from` on where the two differ, which they do somewhere: by
+ * halves, the two being alike up to `alike`, and not up to `unlike`. */
+static uint32_t first_difference(const uint32_t *a, const uint32_t *b, uint32_t from,
+                                 uint32_t words)
+{
+    uint32_t alike = from, unlike = words;
+
+    while (unlike - alike > 1) {
+        uint32_t half = alike + (unlike - alike) / 2;
+        if (memcmp(a + alike, b + alike, 4 * (half - alike)) == 0)
+            alike = half;
+        else
+            unlike = half;
+    }
+    return alike;
+}
+
+/* "Putting the new words into the first table must give the second": they are put in one
+ * by one, until it does. Gives how many it took. */
+static uint32_t mend(const uint32_t *first, const uint32_t *second, uint32_t words,
+                     uint32_t entries[][3])
+{
+    uint32_t mended[744], count = 0, place = 0;
+
+    memcpy(mended, first, 4 * words);
+    while (memcmp(mended, second, 4 * words) != 0) {
+        place = first_difference(mended, second, place, words);
+        entries[count][0] = place;
+        entries[count][1] = mended[place];
+        entries[count++][2] = mended[place] = second[place];
+    }
+    return count;
+}
+
+second_compare_reply expect_compare(const uint32_t *first, size_t first_words,
+                                    const uint32_t *second, size_t second_words,
+                                    uint32_t *places, size_t room)
+{
+    uint32_t entries[744][3], count, of_first = unfit(first, first_words);
+    uint32_t of_second = unfit(second, second_words);
+
+    if (of_first != 0 || of_second != 0)
+        return (second_compare_reply){of_first != 0 ? of_first : of_second, 0};
+    if (first[0] != second[0]) /* both are well formed, so they say what they are */
+        return (second_compare_reply){13, 0};
+    count = mend(first, second, (uint32_t)first_words, entries);
+    if (room / 3 < count)
+        return (second_compare_reply){8, 0};
+    memcpy(places, entries, count * sizeof *entries);
+    return (second_compare_reply){0, count};
 }
 
 /* ---- The listing ------------------------------------------------------- */

@@ -1,9 +1,9 @@
-/* What the tests expect of a call, of a listing and of a move, worked out a second way:
+/* What the tests expect of a call, a listing, a move and a comparison, worked out a second way:
  * slowly, and with none of second.c's mechanisms. Well formed is read sentence
  * by sentence with counts over all entries; lists are never shifted: a task has
  * a rank, and a list is its members sorted by priority and rank. A message is a pair of
  * words, not a number; a table of either edition is laid out wide first, and a move is the
- * same things written the other way. */
+ * same things written the other way. A comparison is the mending of a copy. */
 #ifndef EXPECT_H
 #define EXPECT_H
 
@@ -12,7 +12,7 @@
 
 #include "second.h"
 
-/* Everything but a refusal and a move is asked of 600 or 744 words. */
+/* Everything but a refusal, a move and a comparison is asked of 600 or 744 words. */
 int expect_well_formed(const uint32_t *table, size_t words);
 
 /* The running task plus 1, or 0, of a well-formed table. */
@@ -45,5 +45,11 @@ void expect_stripped(const uint32_t *table, size_t words, uint32_t *stripped, si
 
 /* Priorities in order; kinds, limits and starts in order. Both have so many words. */
 int expect_same_set_up(const uint32_t *a, const uint32_t *b, size_t words);
+
+/* The comparison, into a buffer of `room` words: a copy of the first table is mended, each
+ * time at the first place where it isn't yet the second, until it is. */
+second_compare_reply expect_compare(const uint32_t *first, size_t first_words,
+                                    const uint32_t *second, size_t second_words,
+                                    uint32_t *places, size_t room);
 
 #endif

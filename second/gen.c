@@ -855,25 +855,124 @@ static int may_have_message(const uint32_t *table, uint32_t task)
            (task_field(table, task, T_SIDE) == PUT && (kind == PORT || kind == FIFO));
 }
 
-int gen_one_high(gen_random *random, uint32_t *table)
+enum { MESSAGES_MOST = TASKS + HUBS * HELD_MOST };
+
+/* Where the low words of all messages stand that the table has, or may have; how many. */
+static uint32_t message_places(const uint32_t *table, size_t places[MESSAGES_MOST])
 {
-    size_t places[TASKS + HUBS * HELD_MOST];
     uint32_t count = 0;
 
     for (uint32_t task = 0; task < tasks_in_use(table); task++)
         if (may_have_message(table, task))
-            places[count++] = field_place(table, task, T_HIGH);
+            places[count++] = field_place(table, task, T_WORD);
     for (uint32_t hub = 0; hub < hubs_in_use(table); hub++) {
         uint32_t kind = hub_field(table, hub, H_KIND);
         for (uint32_t i = 0; (kind == FIFO || kind == BOARD) && i < hub_field(table, hub, H_COUNT);
              i++)
-            places[count++] = held_place(table, hub, i) + 1;
+            places[count++] = held_place(table, hub, i);
     }
+    return count;
+}
+
+int gen_one_high(gen_random *random, uint32_t *table)
+{
+    size_t places[MESSAGES_MOST];
+    uint32_t count = message_places(table, places);
+
+    if (count == 0)
+        return 0;
+    size_t place = places[gen_below(random, count)] + 1;
+    table[place] = at_least(random, 1);
+    return 1;
+}
+
+/* ---- Pairs of tables --------------------------------------------------- */
+
+static uint32_t another_word(gen_random *random, uint32_t word)
+{
+    uint32_t other = gen_chance(random, 50) ? word ^ ONE_OF(random, 1, UINT32_C(1) << 31)
+                                            : any_word(random);
+    return other != word ? other : word + 1;
+}
+
+int gen_one_word(gen_random *random, uint32_t *table)
+{
+    size_t places[MESSAGES_MOST];
+    uint32_t count = message_places(table, places);
+
     if (count == 0)
         return 0;
     size_t place = places[gen_below(random, count)];
-    table[place] = at_least(random, 1);
+    if (edition_of(table) == EDITION_2 && gen_chance(random, 50))
+        place++;
+    table[place] = another_word(random, table[place]);
     return 1;
+}
+
+/* A message none of whose words is 0. */
+static void lay_full_message(gen_random *random, uint32_t *table, size_t place)
+{
+    for (uint32_t i = 0; i < layout_of(table)->message_words; i++)
+        table[place + i] = at_least(random, 1);
+}
+
+static void build_full(gen_random *random, uint32_t *table)
+{
+    for (uint32_t hub = 0; hub < HUBS; hub++) {
+        memcpy(table + hub_place(table, hub), ((uint32_t[]){FIFO, FIFO_MAX, FIFO_MAX, 0}),
+               HUB_WORDS * sizeof *table);
+        for (uint32_t i = 0; i < FIFO_MAX; i++)
+            lay_full_message(random, table, held_place(table, hub, i));
+    }
+    for (uint32_t task = 0; task < TASKS; task++) {
+        uint32_t *record = table + task_place(table, task);
+        record[T_STATE] = READY;
+        record[T_SUSPENDED] = gen_below(random, 2);
+        record[T_PRIORITY] = gen_below(random, PRIORITY_MAX + 1);
+        lay_full_message(random, table, task_place(table, task) + T_WORD);
+        table[field_place(table, task, T_ANSWER)] = OK;
+    }
+    build_lists(random, table);
+}
+
+/* Each hub's count and limit are others than a full FIFO's, and its start isn't 0. */
+static void build_awaited(gen_random *random, const uint32_t *full, uint32_t *table)
+{
+    for (uint32_t number = 0; number < HUBS; number++) {
+        uint32_t *hub = table + hub_place(table, number);
+        hub[H_KIND] = SEMAPHORE;
+        hub[H_LIMIT] = from_to(random, FIFO_MAX + 1, SEMAPHORE_MAX);
+        hub[H_START] = from_to(random, 1, hub[H_LIMIT]);
+        hub[H_COUNT] = ONE_OF(random, 0, hub[H_LIMIT]);
+    }
+    for (uint32_t task = 0; task < TASKS; task++) {
+        uint32_t *record = table + task_place(table, task);
+        uint32_t priority = task_field(full, task, T_PRIORITY) + from_to(random, 1, PRIORITY_MAX);
+        record[T_SUSPENDED] = 1 - task_field(full, task, T_SUSPENDED);
+        record[T_PRIORITY] = priority % (PRIORITY_MAX + 1);
+        build_waiter(random, table, task, gen_below(random, HUBS));
+        if (record[T_TICKS] == 0)
+            record[T_TICKS] = TICKS_MAX;
+    }
+    build_lists(random, table);
+}
+
+void gen_apart(gen_random *random, uint32_t edition, uint32_t *full, uint32_t *awaited)
+{
+    build_contents(full, edition, TASKS, HUBS);
+    build_contents(awaited, edition, TASKS, HUBS);
+    build_full(random, full);
+    build_awaited(random, full, awaited);
+}
+
+void gen_last_word(gen_random *random, uint32_t edition, uint32_t *one, uint32_t *other)
+{
+    uint32_t last = layouts[edition - EDITION_1].words - 1;
+
+    build_contents(one, edition, TASKS, HUBS);
+    build_full(random, one);
+    memcpy(other, one, (last + 1) * sizeof *one);
+    other[last] = another_word(random, one[last]);
 }
 
 /* ---- Set-ups ----------------------------------------------------------- */
@@ -1144,9 +1243,10 @@ static int spoil_unused(gen_random *random, uint32_t *table, const damage *famil
     at = table + starts[family->which] + from_to(random, in_use * part, TASKS * part - 1);
     if (family->field == 1 && family->which == TASK_BODY)
         at = table + field_place(table, from_to(random, in_use, TASKS - 1), T_HIGH);
-    if (family->field == 1 && family->which == STORE_BODY)
-        at = table + held_place(table, from_to(random, in_use, HUBS - 1),
-                                gen_below(random, HELD_MOST)) + 1;
+    if (family->field == 1 && family->which == STORE_BODY) {
+        uint32_t hub = from_to(random, in_use, HUBS - 1); /* before the number: see the head */
+        at = table + held_place(table, hub, gen_below(random, HELD_MOST)) + 1;
+    }
     *at = at_least(random, 1);
     return 1;
 }

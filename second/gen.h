@@ -14,6 +14,8 @@
  *   g  requests to Boards that readers wait at (M-103): gen_board
  *   h  requests to hubs at which many wait (M-104): gen_queue, then gen_ask
  *   i  tables to be moved (M-105): any of the above, and gen_clear_high, gen_one_high
+ *   j  pairs of tables to be compared (M-106): any two of the above, a table before and after
+ *      a call, and gen_one_word, gen_apart, gen_last_word
  */
 #ifndef GEN_H
 #define GEN_H
@@ -81,6 +83,21 @@ void gen_ask(gen_random *random, const uint32_t *table, uint32_t hub, uint32_t c
  * when there is no such place. */
 void gen_clear_high(uint32_t *table);
 int gen_one_high(gen_random *random, uint32_t *table);
+
+/* Another word at one place where a message stands, its low or its high word: at times with
+ * one bit changed, the lowest or the highest. Gives 0 when there is no such place. */
+int gen_one_word(gen_random *random, uint32_t *table);
+
+/* Two well-formed tables that differ at as many places as two of one edition can: 352, in
+ * edition 2 496. In one all hubs are full FIFOs and all tasks ready with a message received;
+ * in the other all tasks wait at Semaphores. More there can't be: edition and starts are the
+ * same; where T or H differs, one table has a record in use that the other hasn't, and in
+ * every record (a hub's with its store) some word is 0; and the lists of both have at most
+ * 32 entries, at as many places. */
+void gen_apart(gen_random *random, uint32_t edition, uint32_t *full, uint32_t *awaited);
+
+/* Two well-formed tables that differ in the last word alone. */
+void gen_last_word(gen_random *random, uint32_t edition, uint32_t *one, uint32_t *other);
 
 /* Well formed as well, with a set-up of every size, none and 16 often, whose
  * numbers have every count of digits. */

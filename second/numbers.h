@@ -1,4 +1,4 @@
-/* The numbers of document 01, M-100, M-103 and M-105, each once and with its name.
+/* The numbers of document 01, M-100, M-103, M-105 and M-106, each once and with its name.
  * Nothing here computes anything but a place in the table and what stands there. Shared
  * by the second program, its generator and its tests; the drills and the constructed
  * cases of the tests write the same numbers out, and expect.c has places of its own, so
@@ -47,11 +47,15 @@ enum {
 };
 enum { W = 1, NW = 2, WT = 3 };
 
-/* Refusals. */
+/* Refusals; 10 to 12 are other requests'. */
 enum {
     ACCEPTED, BAD_LENGTH, NOT_WELL_FORMED, NO_SUCH_SERVICE, NOT_RUNNING,
-    NOT_IN_USE, BAD_ARGUMENT, TABLE_FULL, SHORT_BUFFER, HIGH_WORD
+    NOT_IN_USE, BAD_ARGUMENT, TABLE_FULL, SHORT_BUFFER, HIGH_WORD,
+    DIFFERING_EDITIONS = 13
 };
+
+/* An entry of a comparison: place, old word, new word. */
+enum { E_PLACE, E_OLD, E_NEW, ENTRY_WORDS };
 
 /* The edges in text: the numbers of a line and its bytes at most, the runner's table, and
  * the longest listing, which has 16 tasks of priority 100 and more, and 16 Semaphores whose

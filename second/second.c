@@ -1,6 +1,6 @@
-/* The hub kernel of document 01 with M-100, M-101, M-103, M-104 and M-105, from the papers
- * alone: messages, well formed, lists, hubs, services, refusals, the listing, the moves,
- * edges, in that order. The contract is second.h.
+/* The hub kernel of document 01 with M-100, M-101 and M-103 to M-106, from the papers alone:
+ * messages, well formed, lists, hubs, services, refusals, the listing, the moves, the
+ * comparison, edges, in that order. The contract is second.h.
  *
  * Both editions run through the same rules: where a place depends on the edition, it is
  * asked of the table, and a message is one number of 64 bits, which edition 1 writes in
@@ -967,6 +967,58 @@ uint32_t second_move_down(const uint32_t *from, size_t from_words, uint32_t *to,
     return move(from, from_words, &layouts[1], to, to_words, &layouts[0]);
 }
 
+/* ---- The comparison ---------------------------------------------------- */
+
+/* 1 or 2, as every call tests them first; else 0. */
+static uint32_t table_refusal(const uint32_t *table, size_t words)
+{
+    if (layout_for(words) == NULL)
+        return BAD_LENGTH;
+    return second_well_formed(table, words) == SECOND_RIGHT ? ACCEPTED : NOT_WELL_FORMED;
+}
+
+static void write_entry(uint32_t *entry, uint32_t place, uint32_t old, uint32_t new)
+{
+    entry[E_PLACE] = place;
+    entry[E_OLD] = old;
+    entry[E_NEW] = new;
+}
+
+/* Gives how many places differ. With nowhere to write, they are only counted: that tells
+ * whether there is room for them before a word is written. */
+static uint32_t differing(const uint32_t *old, const uint32_t *new, size_t words, uint32_t *places)
+{
+    uint32_t count = 0;
+
+    for (uint32_t place = 0; place < words; place++) {
+        if (old[place] == new[place])
+            continue;
+        if (places != NULL)
+            write_entry(places + ENTRY_WORDS * count, place, old[place], new[place]);
+        count++;
+    }
+    return count;
+}
+
+second_compare_reply second_compare(const uint32_t *first, size_t first_words,
+                                    const uint32_t *second, size_t second_words,
+                                    uint32_t *places, size_t room)
+{
+    second_compare_reply reply = {table_refusal(first, first_words), 0};
+
+    if (reply.refusal == ACCEPTED)
+        reply.refusal = table_refusal(second, second_words);
+    if (reply.refusal == ACCEPTED && first_words != second_words)
+        reply.refusal = DIFFERING_EDITIONS;
+    if (reply.refusal != ACCEPTED)
+        return reply;
+    uint32_t count = differing(first, second, first_words, NULL);
+    if (room < ENTRY_WORDS * (size_t)count)
+        return (second_compare_reply){SHORT_BUFFER, 0};
+    reply.count = differing(first, second, first_words, places);
+    return reply;
+}
+
 /* ---- Edges ------------------------------------------------------------- */
 
 second_reply second_call(uint32_t *table, size_t words, const uint32_t call[8])
@@ -1101,4 +1153,20 @@ uint32_t second_move_down_bytes(const uint8_t *from, size_t from_bytes, uint8_t 
                                 size_t to_bytes)
 {
     return move_bytes(from, from_bytes, to, to_bytes, second_move_down);
+}
+
+/* A length that is no table's is told as 0 words, which is no table's either; whether that
+ * is the refusal depends on the other table. */
+second_compare_reply second_compare_bytes(const uint8_t *first, size_t first_bytes,
+                                          const uint8_t *second, size_t second_bytes,
+                                          uint32_t *places, size_t room)
+{
+    uint32_t old[WORDS_MOST], new[WORDS_MOST];
+    size_t old_words = whole_words(first_bytes), new_words = whole_words(second_bytes);
+
+    if (layout_for(old_words) != NULL)
+        words_from_bytes(old, first, old_words);
+    if (layout_for(new_words) != NULL)
+        words_from_bytes(new, second, new_words);
+    return second_compare(old, old_words, new, new_words, places, room);
 }

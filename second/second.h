@@ -1,6 +1,6 @@
-/* The second program: the hub kernel of document 01 again, with requests M-100,
- * M-101, M-103, M-104 and M-105, in C11, written from the papers alone. It is what the
- * proved kernel is compared with.
+/* The second program: the hub kernel of document 01 again, with requests M-100, M-101 and
+ * M-103 to M-106, in C11, written from the papers alone. It is what the proved kernel is
+ * compared with.
  *
  * Ownership: the caller owns the table and lends it for one call. No globals,
  * no allocation, nothing kept between calls.
@@ -11,8 +11,8 @@
  * mode, ticks, word, high. The high word is read by hub requests only; in edition 2 a
  * message is word + 2^32 * high. numbers.h has the places and the names of all values.
  *
- * Refusals, tested in this order; a refused call answers 0, next 0, ahead 0 (mask 0,
- * count 0; length 0) and writes nothing:
+ * Refusals, tested in this order, but for the comparison, whose order stands with it; a
+ * refused call answers 0, next 0, ahead 0 (mask 0, count 0; length 0) and writes nothing:
  *   1  a length that is neither size
  *   2  table not well formed (never for Blank, which makes the edition that fits the
  *      length); so is, since M-101, one in which an inactive task owns a Resource: Stop
@@ -23,8 +23,9 @@
  *   6  an argument outside its range; side 3 at a hub that isn't a Board; service 1 on
  *      edition 1: a high word above 0
  *   7  service 9 or 10 with 16 already
- *   8  the listing: the buffer is shorter than it
+ *   8  the listing: the buffer is shorter than it; the comparison: than its entries
  *   9  the move to edition 1: some high word isn't 0
+ *   13 the comparison: the two tables are of differing editions
  */
 #ifndef SECOND_H
 #define SECOND_H
@@ -50,6 +51,11 @@ typedef struct {
     uint32_t refusal; /* 0 accepted, else 1, 2 or 8 */
     uint32_t length;  /* bytes written, at most 704 */
 } second_listing_reply;
+
+typedef struct {
+    uint32_t refusal; /* 0 accepted, else 1, 2, 13 or 8 */
+    uint32_t count;   /* entries written, of three words each */
+} second_compare_reply;
 
 /* What second_well_formed found wrong first. */
 typedef enum {
@@ -92,6 +98,16 @@ second_listing_reply second_listing(const uint32_t *table, size_t words, uint8_t
 uint32_t second_move_up(const uint32_t *from, size_t from_words, uint32_t *to, size_t to_words);
 uint32_t second_move_down(const uint32_t *from, size_t from_words, uint32_t *to, size_t to_words);
 
+/* The places at which two tables of one edition differ (request M-106), in rising order:
+ * three words an entry, the place (from 0), the first table's word (old) and the second's
+ * (new), written to the start of a lent buffer of `room` words; the words behind the last
+ * entry are left. Refused with 1 or 2 for the first table, then for the second, then with 13,
+ * then with 8 when the buffer has fewer than 3 * count words. The buffer must not overlap a
+ * table; the two tables may be one, since both are only read. */
+second_compare_reply second_compare(const uint32_t *first, size_t first_words,
+                                    const uint32_t *second, size_t second_words,
+                                    uint32_t *places, size_t room);
+
 /* 0 when well formed, else the first broken clause (a second_clause). */
 int second_well_formed(const uint32_t *table, size_t words);
 
@@ -103,5 +119,10 @@ uint32_t second_move_up_bytes(const uint8_t *from, size_t from_bytes, uint8_t *t
                               size_t to_bytes);
 uint32_t second_move_down_bytes(const uint8_t *from, size_t from_bytes, uint8_t *to,
                                 size_t to_bytes);
+
+/* The tables are bytes, at any address; the buffer is words, and `room` counts words. */
+second_compare_reply second_compare_bytes(const uint8_t *first, size_t first_bytes,
+                                          const uint8_t *second, size_t second_bytes,
+                                          uint32_t *places, size_t room);
 
 #endif

@@ -1,7 +1,7 @@
 /* The second program's tests: constructed cases, runs from Blank with demand 3
  * checked, built tables, Stops of owners, requests to Boards and to hubs at which many
- * wait, damaged tables, listings, all on both editions; moves from one to the other, in
- * the middle of runs too; coverage.
+ * wait, damaged tables, listings, pairs of tables compared, all on both editions; moves from
+ * one to the other, in the middle of runs too; coverage.
  * `test SIZE` runs them all, one line each; the first failure ends the program.
  *
  * Each call is checked against expect.c word for word, and besides for what
@@ -10,7 +10,10 @@
  * list has the caller (M-104).
  *
  * A listing is checked against expect.c byte for byte, the buffer's other bytes
- * with it, and for what it is for: the drill runner builds the set-up from it. */
+ * with it, and for what it is for: the drill runner builds the set-up from it.
+ *
+ * A comparison is checked against expect.c word for word, the buffer's other words with it,
+ * and for what it is for: its new words put into the first table give the second. */
 #define _POSIX_C_SOURCE 200809L
 
 #include <inttypes.h>
@@ -38,17 +41,18 @@ typedef struct {
     uint32_t set_ups, rooms;      /* family e: tables listed; tables listed into every room */
     uint32_t moves, moved_runs;   /* family i: tables moved, so many done each way at least;
                                    * runs with moves in the middle */
+    uint32_t pairs, pair_rooms;   /* family j: pairs compared; of these, into every room */
     uint32_t least;               /* calls on each edition */
     unsigned seconds;             /* a program that loops is ended after these */
     int coverage;                 /* rows must have their hits */
 } scale;
 
 static const scale scales[] = {
-    {"quick", 60, 400, 1000, 8, 400, 400, 400, 3, 3000, 200, 3, 1500, 40, 40000, 60, 0},
-    {"gate", 1500, 500, 60000, 8, 20000, 20000, 20000, 110, 200000, 20000, 80, 100000, 600,
-     1000000, 600, 1},
+    {"quick", 60, 400, 1000, 8, 400, 400, 400, 3, 3000, 200, 3, 1500, 40, 500, 3, 40000, 60, 0},
+    {"gate", 1500, 500, 60000, 8, 20000, 20000, 20000, 110, 200000, 20000, 80, 100000, 600, 30000,
+     60, 1000000, 600, 1},
     {"long", 20000, 1000, 1000000, 8, 400000, 400000, 400000, 1000, 5000000, 400000, 2000, 2000000,
-     10000, 30000000, 14400, 1},
+     10000, 600000, 1500, 30000000, 14400, 1},
 };
 
 /* Where the tests are, for the report of a failure, and what they counted. */
@@ -61,8 +65,10 @@ typedef struct {
     uint64_t moves_digest;
     uint64_t digest; /* of all calls, replies and tables: the same on every machine */
     uint64_t listings, listings_digest; /* of all listings, their replies and texts */
+    uint64_t compares, compares_digest; /* of all comparisons, their replies and entries */
     gen_random random;
     gen_random other; /* the listings' buffers: the draws of calls and tables stay as they are */
+    gen_random third; /* the comparisons' buffers, and the tables that they are given besides */
     cover seen;
     ledger book;
 } bench;
@@ -83,6 +89,7 @@ static void begin(bench *at, const char *part, uint64_t seed)
     at->seed = seed;
     gen_seed(&at->random, seed);
     gen_seed(&at->other, ~seed);
+    gen_seed(&at->third, seed + (UINT64_C(1) << 32));
 }
 
 /* What follows is of tables of this edition. */
@@ -275,6 +282,208 @@ static int check_pair(bench *at, const uint32_t *a, const uint32_t *b)
     return same;
 }
 
+/* ---- One comparison ---------------------------------------------------- */
+
+enum { BEHIND = 24, ROOM_WORDS = ENTRY_WORDS * WORDS_MOST }; /* enough for every comparison */
+enum { PLACES_WORDS = ROOM_WORDS + 2 * BEHIND };             /* no room reaches the last BEHIND */
+
+/* Two tables, of WORDS_MOST words each whatever their lengths. */
+typedef struct {
+    uint32_t first[WORDS_MOST], second[WORDS_MOST];
+    size_t first_words, second_words;
+} pair;
+
+static void hold_places(bench *at, uint32_t *places)
+{
+    for (size_t i = 0; i < PLACES_WORDS; i++)
+        places[i] = gen_word(&at->third);
+}
+
+/* The places rise, and the new words put into the first table give the second. That no
+ * entry is idle is told by its old word, which stands there, and isn't the new one. */
+static void check_entries(bench *at, const pair *of, const uint32_t *places, uint32_t count)
+{
+    uint32_t table[WORDS_MOST];
+
+    memcpy(table, of->first, sizeof table);
+    for (uint32_t i = 0; i < count; i++) {
+        const uint32_t *entry = places + ENTRY_WORDS * i;
+        if (entry[E_PLACE] >= of->first_words || (i > 0 && entry[E_PLACE] <= entry[-ENTRY_WORDS]))
+            fail(at, NULL, "the comparison: the places don't rise");
+        if (entry[E_OLD] != of->first[entry[E_PLACE]] || entry[E_OLD] == entry[E_NEW])
+            fail(at, NULL, "the comparison: an old word isn't the first table's, or is the new");
+        table[entry[E_PLACE]] = entry[E_NEW];
+    }
+    if (memcmp(table, of->second, 4 * of->first_words) != 0)
+        fail(at, NULL, "the comparison: the new words don't make the second table");
+}
+
+/* The second with the first: the same entries, old and new exchanged, and refused alike. */
+static void check_exchanged(bench *at, const pair *of, size_t room, second_compare_reply reply,
+                            const uint32_t *places)
+{
+    uint32_t back[PLACES_WORDS];
+    second_compare_reply again = second_compare(of->second, of->second_words, of->first,
+                                                of->first_words, back, room);
+
+    if (again.refusal != reply.refusal || again.count != reply.count)
+        fail(at, NULL, "the comparison the other way has another reply");
+    for (uint32_t i = 0; i < ENTRY_WORDS * reply.count; i += ENTRY_WORDS)
+        if (back[i + E_PLACE] != places[i + E_PLACE] || back[i + E_OLD] != places[i + E_NEW] ||
+            back[i + E_NEW] != places[i + E_OLD])
+            fail(at, NULL, "the comparison the other way isn't this one exchanged");
+}
+
+/* A table with itself, one and the same: nothing differs, and no room is needed. */
+static void check_with_itself(bench *at, const uint32_t *table, size_t words)
+{
+    uint32_t place = 7;
+    second_compare_reply reply = second_compare(table, words, table, words, &place, 0);
+
+    if (reply.refusal != ACCEPTED || reply.count != 0 || place != 7)
+        fail(at, NULL, "a table differs from itself");
+}
+
+/* The tables as bytes, which lie anywhere, one of them at an odd address. */
+static void check_compare_bytes(bench *at, const pair *of, size_t first_bytes, size_t second_bytes,
+                                size_t room, second_compare_reply reply, const uint32_t *held,
+                                const uint32_t *after)
+{
+    uint8_t first[BYTES_MOST + 8], second[BYTES_MOST + 8];
+    uint8_t first_before[BYTES_MOST + 8], second_before[BYTES_MOST + 8];
+    size_t place = at->compares / 4 % 2, other = 1 - place;
+    uint32_t places[PLACES_WORDS];
+
+    memset(first, 0, sizeof first);
+    memset(second, 0, sizeof second);
+    to_bytes(first + place, of->first, WORDS_MOST);
+    to_bytes(second + other, of->second, WORDS_MOST);
+    memcpy(first_before, first, sizeof first);
+    memcpy(second_before, second, sizeof second);
+    memcpy(places, held, sizeof places);
+    second_compare_reply again = second_compare_bytes(first + place, first_bytes, second + other,
+                                                      second_bytes, places, room);
+    if (again.refusal != reply.refusal || again.count != reply.count ||
+        memcmp(places, after, sizeof places) != 0)
+        fail(at, NULL, "the byte version of the comparison differs");
+    if (memcmp(first, first_before, sizeof first) != 0 ||
+        memcmp(second, second_before, sizeof second) != 0)
+        fail(at, NULL, "the byte version of the comparison wrote to a table");
+}
+
+static void digest_compare(bench *at, size_t room, second_compare_reply reply,
+                           const uint32_t *places)
+{
+    uint64_t mixed = at->compares_digest;
+
+    mixed = (mixed ^ room) * UINT64_C(0x100000001B3);
+    mixed = (mixed ^ reply.refusal) * UINT64_C(0x100000001B3);
+    for (size_t i = 0; i < ENTRY_WORDS * (size_t)reply.count; i++)
+        mixed = (mixed ^ places[i]) * UINT64_C(0x100000001B3);
+    at->compares_digest = mixed;
+}
+
+/* So many words, and no table. */
+static int is_malformed(const uint32_t *table, size_t words)
+{
+    return layout_for(words) != NULL && !expect_well_formed(table, words);
+}
+
+static second_compare_reply check_compare(bench *at, const pair *of, size_t room)
+{
+    uint32_t held[PLACES_WORDS], places[PLACES_WORDS], expected[PLACES_WORDS];
+    pair lent = *of;
+
+    hold_places(at, held);
+    memcpy(places, held, sizeof places);
+    memcpy(expected, held, sizeof expected);
+    at->compares++;
+    second_compare_reply reply = second_compare(lent.first, of->first_words, lent.second,
+                                                of->second_words, places, room);
+    second_compare_reply expects = expect_compare(of->first, of->first_words, of->second,
+                                                  of->second_words, expected, room);
+    size_t written = ENTRY_WORDS * (size_t)expects.count;
+
+    if (reply.refusal != expects.refusal)
+        fail(at, NULL, "the comparison: another refusal was expected");
+    if (reply.refusal != ACCEPTED && reply.count != 0)
+        fail(at, NULL, "a refused comparison has a count");
+    if (reply.refusal != ACCEPTED && memcmp(places, held, sizeof places) != 0)
+        fail(at, NULL, "a refused comparison was written");
+    if (memcmp(&lent, of, sizeof lent) != 0)
+        fail(at, NULL, "a comparison changed a table");
+    if (reply.count != expects.count)
+        fail(at, NULL, "the comparison: another count was expected");
+    if (memcmp(places + written, held + written, sizeof held - 4 * written) != 0)
+        fail(at, NULL, "a word past the last entry changed");
+    if (reply.refusal == ACCEPTED)
+        check_entries(at, of, places, reply.count);
+    if (memcmp(places, expected, sizeof places) != 0)
+        fail(at, NULL, "other entries were expected");
+    if (reply.refusal != BAD_LENGTH && reply.refusal != NOT_WELL_FORMED) {
+        check_exchanged(at, of, room, reply, places);
+        check_with_itself(at, of->first, of->first_words);
+    }
+    if (at->compares % 4 == 0)
+        check_compare_bytes(at, of, 4 * of->first_words, 4 * of->second_words, room, reply, held,
+                            places);
+    cover_compare(&at->seen, &(cover_compared){of->first, of->second, of->first_words,
+                                               of->second_words, room,
+                                               is_malformed(of->first, of->first_words),
+                                               is_malformed(of->second, of->second_words), reply});
+    digest_compare(at, room, reply, places);
+    return reply;
+}
+
+/* The words that a comparison needs, if it isn't refused for its tables; else of any. */
+static uint32_t words_needed(bench *at, const pair *of)
+{
+    uint32_t places[ROOM_WORDS];
+    second_compare_reply reply = expect_compare(of->first, of->first_words, of->second,
+                                                of->second_words, places, ROOM_WORDS);
+
+    return reply.refusal == ACCEPTED ? ENTRY_WORDS * reply.count
+                                     : ENTRY_WORDS * gen_below(&at->third, WORDS_MOST);
+}
+
+/* None, less than an entry, up to one entry too few, just enough, up to one entry more, much
+ * more, or any. */
+static size_t draw_words(bench *at, const pair *of)
+{
+    uint32_t needed = words_needed(at, of), draw = gen_below(&at->third, 10);
+    uint32_t some = 1 + gen_below(&at->third, ENTRY_WORDS);
+
+    if (draw < 2)
+        return draw == 0 ? 0 : some - 1;
+    if (draw < 5)
+        return needed >= some ? needed - some : 0;
+    if (draw < 7)
+        return needed;
+    if (draw < 9)
+        return needed + (draw == 7 ? some : BEHIND);
+    return gen_below(&at->third, ROOM_WORDS + 1);
+}
+
+/* Two tables of the edition at hand. */
+static pair pair_of(const bench *at, const uint32_t *first, const uint32_t *second)
+{
+    pair of = {.first_words = words_of(at), .second_words = words_of(at)};
+
+    memcpy(of.first, first, bytes_of(at));
+    memcpy(of.second, second, bytes_of(at));
+    return of;
+}
+
+/* The tables before and after a call. */
+static void compare_neighbours(bench *at, const uint32_t *before, const uint32_t *call,
+                               uint32_t refusal, const uint32_t *after)
+{
+    pair of = pair_of(at, before, after);
+
+    if (check_compare(at, &of, draw_words(at, &of)).refusal != NOT_WELL_FORMED)
+        cover_neighbours(&at->seen, call, refusal);
+}
+
 /* What an accepted call has to say as ahead, from the table after it alone: where the
  * caller waits by this call, the entries up to its own; else 0. */
 static uint32_t ahead_read(const uint32_t *call, const uint32_t *after)
@@ -333,6 +542,7 @@ static second_reply check_call(bench *at, uint32_t *table, const uint32_t *call)
         check_listing(at, table, draw_room(at, table));
         if (reply.refusal == ACCEPTED && well_formed(at, before))
             cover_pair(&at->seen, check_pair(at, before, table) ? COVER_KEPT : COVER_ADDED);
+        compare_neighbours(at, before, call, reply.refusal, table);
     }
     return reply;
 }
@@ -386,6 +596,18 @@ static void check_move_bytes(bench *at, const uint32_t *from, size_t length, siz
         fail(at, NULL, "the byte version of the move differs");
 }
 
+/* A table and its move are of differing editions, whatever the room. */
+static void compare_with_move(bench *at, const uint32_t *from, const uint32_t *moved)
+{
+    pair of = {.first_words = words_of(at), .second_words = other_form(at)->words};
+
+    memcpy(of.first, from, bytes_of(at));
+    memcpy(of.second, moved, 4 * of.second_words);
+    if (check_compare(at, &of, draw_words(at, &of)).refusal != DIFFERING_EDITIONS)
+        fail(at, NULL, "a table was compared with its move");
+    cover_compare_moved(&at->seen);
+}
+
 /* A move from a table of this edition, of WORDS_MOST words whatever its length, into a
  * destination of so many words. */
 static uint32_t check_move(bench *at, const uint32_t *from, size_t from_words, size_t to_words,
@@ -424,6 +646,8 @@ static uint32_t check_move(bench *at, const uint32_t *from, size_t from_words, s
         at->moves_digest = (at->moves_digest ^ to[i]) * UINT64_C(0x100000001B3);
     at->moved[at->form->edition - EDITION_1] += of.refusal == ACCEPTED;
     memcpy(moved, to, WORDS_MOST * sizeof *to);
+    if (of.refusal == ACCEPTED && at->moves[at->form->edition - EDITION_1] % 16 == 0)
+        compare_with_move(at, from, moved);
     return of.refusal;
 }
 
@@ -1329,6 +1553,168 @@ static void case_longest(bench *at)
             fail(at, NULL, "the longest listing has 704 bytes");
 }
 
+static void take_calls(bench *at, uint32_t *table, const uint32_t calls[][8], size_t count)
+{
+    for (size_t i = 0; i < count; i++)
+        if (second_call(table, words_of(at), calls[i]).refusal != 0)
+            fail(at, calls[i], "the case's calls are accepted");
+}
+
+/* Entries written out, into just enough room. */
+static void entries_are(bench *at, const pair *of, const uint32_t entries[][3], uint32_t count)
+{
+    uint32_t places[ENTRY_WORDS * 16];
+    second_compare_reply reply = second_compare(of->first, of->first_words, of->second,
+                                                of->second_words, places, ENTRY_WORDS * count);
+
+    if (reply.refusal != 0 || reply.count != count ||
+        memcmp(places, entries, count * sizeof *entries) != 0)
+        fail(at, NULL, "the case expects other entries");
+    for (size_t room = 0; room <= ENTRY_WORDS * count + BEHIND; room++)
+        if (check_compare(at, of, room).refusal != (room < ENTRY_WORDS * count ? 8u : 0u))
+            fail(at, NULL, "8 exactly if the buffer is shorter");
+}
+
+/* M-106: a get that has to wait, on both editions; a put of 64 bits that meets it, on
+ * edition 2. */
+static void case_compare(bench *at)
+{
+    static const uint32_t set_up[][8] = {
+        {0}, {9, 0, 5, 1}, {9, 0, 3, 1}, {10, 0, 4, 0, 0, 1, 0},
+    };
+    static const uint32_t get[][8] = {{1, 1, 0, 2, 3, 2, 0, 0}};
+    static const uint32_t put[][8] = {{1, 0, 0, 1, 1, 0, 77, 5}};
+    static const uint32_t waits[][3] = {{16, 2, 3}, {19, 0, 1},  {20, 0, 2}, {21, 0, 2},
+                                        {200, 2, 1}, {201, 1, 0}, {216, 0, 2}};
+    static const uint32_t waits_2[][3] = {{17, 2, 3}, {20, 0, 1},  {21, 0, 2}, {22, 0, 2},
+                                          {216, 2, 1}, {217, 1, 0}, {232, 0, 2}};
+    static const uint32_t met[][3] = {{16, 0, 1}, {17, 3, 2},  {20, 1, 0},  {21, 2, 0}, {22, 2, 0},
+                                      {23, 0, 77}, {24, 0, 5}, {25, 0, 1}, {216, 1, 2}, {217, 0, 1},
+                                      {232, 2, 0}};
+    uint32_t before[WORDS_MOST], after[WORDS_MOST];
+
+    for (uint32_t edition = EDITION_1; edition <= EDITION_2; edition++) {
+        begin(at, "entries written out", edition);
+        set_edition(at, edition);
+        memset(before, 0, sizeof before);
+        take_calls(at, before, set_up, 4);
+        memcpy(after, before, sizeof after);
+        take_calls(at, after, get, 1);
+        pair of = pair_of(at, before, after);
+        entries_are(at, &of, edition == EDITION_1 ? waits : waits_2, 7);
+    }
+    memcpy(before, after, sizeof before);
+    take_calls(at, after, put, 1);
+    pair of = pair_of(at, before, after);
+    entries_are(at, &of, met, 11);
+}
+
+enum { RIGHT, CHANGED, WRONG, OTHER, OTHER_WRONG, CUT, LONG, GIVEN };
+
+/* Tables of the edition at hand and of the other, well formed and not, and such as have a
+ * word too few or too many; the second of them isn't the first. */
+static void draw_given(bench *at, uint32_t tables[GIVEN][WORDS_MOST], size_t words[GIVEN])
+{
+    uint32_t edition = at->form->edition, other = other_form(at)->edition;
+
+    memset(tables, 0, GIVEN * sizeof *tables);
+    for (int i = 0; i < GIVEN; i++)
+        words[i] = i == OTHER || i == OTHER_WRONG ? other_form(at)->words
+                   : i == CUT                     ? words_of(at) - 1
+                   : i == LONG                    ? words_of(at) + 1
+                                                  : words_of(at);
+    gen_table(&at->random, edition, tables[RIGHT]);
+    do
+        gen_table(&at->random, edition, tables[CHANGED]);
+    while (same_words(at, tables[RIGHT], tables[CHANGED]));
+    gen_damaged(&at->random, edition, gen_below(&at->random, 100), tables[WRONG]);
+    gen_table(&at->random, other, tables[OTHER]);
+    gen_damaged(&at->random, other, gen_below(&at->random, 100), tables[OTHER_WRONG]);
+    gen_table(&at->random, edition, tables[CUT]);
+    gen_table(&at->random, edition, tables[LONG]);
+}
+
+/* The order of a comparison's refusals: 1 and 2 of the first table, of the second, 13, 8. */
+static void case_compare_order(bench *at)
+{
+    static const struct {
+        int first, second;
+        uint32_t room, refusal;
+    } order[] = {
+        {CUT, RIGHT, ROOM_WORDS, 1},     {CUT, RIGHT, 0, 1},       {CUT, WRONG, 0, 1},
+        {CUT, LONG, ROOM_WORDS, 1},      {LONG, OTHER, 0, 1},      {LONG, OTHER_WRONG, 0, 1},
+        {WRONG, RIGHT, ROOM_WORDS, 2},   {WRONG, CUT, 0, 2},       {WRONG, LONG, ROOM_WORDS, 2},
+        {WRONG, OTHER, ROOM_WORDS, 2},   {WRONG, OTHER, 0, 2},     {WRONG, OTHER_WRONG, 0, 2},
+        {WRONG, WRONG, 0, 2},            {RIGHT, CUT, 0, 1},       {RIGHT, LONG, ROOM_WORDS, 1},
+        {RIGHT, WRONG, ROOM_WORDS, 2},   {RIGHT, WRONG, 0, 2},     {RIGHT, OTHER_WRONG, 0, 2},
+        {RIGHT, OTHER, ROOM_WORDS, 13},  {RIGHT, OTHER, 0, 13},    {RIGHT, CHANGED, 0, 8},
+        {RIGHT, CHANGED, ROOM_WORDS, 0}, {RIGHT, RIGHT, 0, 0},
+    };
+    uint32_t tables[GIVEN][WORDS_MOST];
+    size_t words[GIVEN];
+
+    for (uint32_t edition = EDITION_2; edition >= EDITION_1; edition--) {
+        begin(at, "order of refusals, compared", edition);
+        set_edition(at, edition);
+        for (size_t i = 0; i < LENGTH_ROUNDS * sizeof order / sizeof *order; i++) {
+            size_t j = i % (sizeof order / sizeof *order);
+            pair of;
+            if (j == 0)
+                draw_given(at, tables, words);
+            memcpy(of.first, tables[order[j].first], sizeof of.first);
+            memcpy(of.second, tables[order[j].second], sizeof of.second);
+            of.first_words = words[order[j].first];
+            of.second_words = words[order[j].second];
+            if (check_compare(at, &of, order[j].room).refusal != order[j].refusal)
+                fail(at, NULL, "the case expects another refusal");
+        }
+    }
+}
+
+/* Tables of so many bytes, cut short or with zeros behind. */
+static void compare_byte_lengths(bench *at, const pair *of, size_t first, size_t second)
+{
+    uint32_t held[PLACES_WORDS], after[PLACES_WORDS];
+    size_t room = gen_chance(&at->third, 50) ? 0 : ROOM_WORDS;
+
+    hold_places(at, held);
+    memcpy(after, held, sizeof after);
+    second_compare_reply reply = expect_compare(of->first, first % 4 == 0 ? first / 4 : 0,
+                                                of->second, second % 4 == 0 ? second / 4 : 0,
+                                                after, room);
+    check_compare_bytes(at, of, first, second, room, reply, held, after);
+    if (reply.refusal == BAD_LENGTH)
+        cover_compare_bytes(&at->seen, first, second);
+}
+
+/* Every pair of lengths around both sizes. */
+static void case_compare_lengths(bench *at)
+{
+    static const size_t lengths[] = {0, 1, 599, 600, 601, 743, 744, 745};
+    static const size_t byte_lengths[] = {0,    1,    600,  744,  2396, 2397, 2399, 2400, 2401,
+                                          2402, 2404, 2972, 2975, 2976, 2977, 2978, 2980};
+    enum { BYTE_LENGTHS = sizeof byte_lengths / sizeof *byte_lengths };
+    pair of;
+
+    for (uint32_t edition = EDITION_2; edition >= EDITION_1; edition--) {
+        begin(at, "lengths, compared", edition);
+        set_edition(at, edition);
+        for (int round = 0; round < LENGTH_ROUNDS; round++) {
+            memset(&of, 0, sizeof of);
+            gen_table(&at->random, edition, of.first);
+            gen_table(&at->random, round % 3 == 0 ? other_form(at)->edition : edition, of.second);
+            for (size_t i = 0; i < 64; i++) {
+                of.first_words = lengths[i / 8];
+                of.second_words = lengths[i % 8];
+                check_compare(at, &of, draw_words(at, &of));
+            }
+            for (size_t i = 0; i < BYTE_LENGTHS * BYTE_LENGTHS; i++)
+                compare_byte_lengths(at, &of, byte_lengths[i / BYTE_LENGTHS],
+                                     byte_lengths[i % BYTE_LENGTHS]);
+        }
+    }
+}
+
 /* ---- Families ---------------------------------------------------------- */
 
 static void part_cases(bench *at)
@@ -1358,6 +1744,10 @@ static void part_cases(bench *at)
     case_bytes_2(at);
     case_listings(at);
     case_longest(at);
+    case_compare(at);
+    case_compare_order(at);
+    case_compare_lengths(at);
+    set_edition(at, EDITION_1);
 }
 
 /* Calls with a high word: on edition 1 few, since it refuses the requests among them. */
@@ -1740,6 +2130,109 @@ static void part_moves(bench *at, const scale *to)
     }
 }
 
+/* A table of any family, and a call on it: the table before and after. */
+static void draw_neighbours(bench *at, pair *of)
+{
+    uint32_t call[8], edition = at->form->edition;
+    gen_mood mood;
+
+    draw_mood(at, &mood);
+    mood.tasks = mood.hubs = gen_chance(&at->random, 20) ? TASKS : 0; /* something to add, or not */
+    switch (gen_below(&at->random, 6)) {
+    case 0:
+        gen_stop(&at->random, edition, of->first, call);
+        break;
+    case 1:
+        gen_board(&at->random, edition, of->first, call);
+        break;
+    case 2:
+        gen_queue(&at->random, edition, of->first, call);
+        break;
+    default:
+        gen_table(&at->random, edition, of->first);
+        gen_call(&at->random, &mood, of->first, call);
+        break;
+    }
+    if (gen_chance(&at->random, 5))
+        call[C_SERVICE] = BLANK;
+    memcpy(of->second, of->first, bytes_of(at));
+    second_reply reply = second_call(of->second, words_of(at), call);
+    cover_neighbours(&at->seen, call, reply.refusal);
+}
+
+/* Two tables of the edition at hand, near to each other or far apart. */
+static void draw_pair(bench *at, pair *of)
+{
+    uint32_t edition = at->form->edition, draw = gen_below(&at->random, 10);
+
+    if (draw < 4) {
+        draw_neighbours(at, of);
+    } else if (draw < 6) {
+        gen_table(&at->random, edition, of->first);
+        gen_set_up(&at->random, edition, of->second);
+    } else if (draw == 6) {
+        gen_apart(&at->random, edition, of->first, of->second);
+    } else if (draw == 7) {
+        gen_last_word(&at->random, edition, of->first, of->second);
+    } else { /* the same, or but for one word */
+        gen_table(&at->random, edition, of->first);
+        memcpy(of->second, of->first, bytes_of(at));
+        if (draw == 8)
+            gen_one_word(&at->random, of->second);
+    }
+}
+
+/* Then one of them, or both, is damaged, of the other edition, or of another length. */
+static void spoil_pair(bench *at, pair *of)
+{
+    static const size_t lengths[] = {0, 1, 599, 601, 743, 745};
+    const layout *other = other_form(at);
+    uint32_t family = gen_below(&at->random, (uint32_t)gen_damages(EDITION_1));
+
+    if (gen_chance(&at->random, 12)) {
+        gen_table(&at->random, other->edition, of->second);
+        of->second_words = other->words;
+    }
+    if (gen_chance(&at->random, 10))
+        gen_damaged(&at->random, at->form->edition, family, of->first);
+    if (gen_chance(&at->random, 10))
+        gen_damaged(&at->random, of->second_words == other->words ? other->edition
+                                                                  : at->form->edition,
+                    family, of->second);
+    if (gen_chance(&at->random, 6))
+        of->first_words = lengths[gen_below(&at->random, 6)];
+    if (gen_chance(&at->random, 6))
+        of->second_words = lengths[gen_below(&at->random, 6)];
+}
+
+static void every_word_of_room(bench *at, const pair *of)
+{
+    size_t needed = words_needed(at, of);
+
+    for (size_t room = 0; room <= needed + BEHIND; room++)
+        if (check_compare(at, of, room).refusal != (room < needed ? 8u : 0u))
+            fail(at, NULL, "8 exactly if the buffer is shorter");
+}
+
+/* Every pair as drawn, into some rooms or into every one; then spoiled. */
+static void part_compares(bench *at, const scale *to)
+{
+    for (uint32_t i = 0; i < to->pairs; i++) {
+        pair of = {.first_words = words_of(at), .second_words = words_of(at)};
+
+        begin(at, "compares", i);
+        draw_pair(at, &of);
+        if (second_well_formed(of.first, words_of(at)) != SECOND_RIGHT ||
+            second_well_formed(of.second, words_of(at)) != SECOND_RIGHT)
+            fail(at, NULL, "a table drawn to be compared isn't well formed");
+        check_compare(at, &of, draw_words(at, &of));
+        if (i < to->pair_rooms)
+            every_word_of_room(at, &of);
+        spoil_pair(at, &of);
+        check_compare(at, &of, draw_words(at, &of));
+    }
+}
+
 /* ---- The parts --------------------------------------------------------- */
 
 static double seconds(void)
@@ -1765,7 +2258,7 @@ static void run_cases(bench *at)
     part_cases(at);
     report("cases",
            "marked lines, refusal order, lengths, bytes, corners, Stops, Boards, ahead, pairs, "
-           "moves, listings",
+           "moves, listings, comparisons",
            at->calls - calls, "calls", since);
 }
 
@@ -1835,6 +2328,19 @@ static void run_listings(bench *at, const scale *to)
     report("listings", what, at->listings - listings, "texts", since);
 }
 
+static void run_compares(bench *at, const scale *to)
+{
+    char what[128];
+    uint64_t compares = at->compares;
+    double since = seconds();
+
+    part_compares(at, to);
+    snprintf(what, sizeof what,
+             "%" PRIu32 " pairs, %" PRIu32 " into every room; %" PRIu64 " in parts above",
+             to->pairs, to->pair_rooms, compares);
+    report("compares", what, at->compares - compares, "pairs", since);
+}
+
 static void run_moves(bench *at, const scale *to)
 {
     char what[128];
@@ -1893,6 +2399,7 @@ int main(int count, char **words)
             run_well_formed(&at, &scales[i]);
             run_damaged(&at, &scales[i]);
             run_listings(&at, &scales[i]);
+            run_compares(&at, &scales[i]);
             printf("edition %" PRIu32 "  %10" PRIu64 " calls\n", edition, at.calls - calls);
             if (at.calls - calls < scales[i].least)
                 fail(&at, NULL, "too few calls were made on this edition");
@@ -1904,6 +2411,7 @@ int main(int count, char **words)
         printf("digest     %016" PRIx64 "\n", at.digest);
         printf("digest     %016" PRIx64 " of the listings\n", at.listings_digest);
         printf("digest     %016" PRIx64 " of the moves\n", at.moves_digest);
+        printf("digest     %016" PRIx64 " of the comparisons\n", at.compares_digest);
         return 0;
     }
     fprintf(stderr, "usage: test quick|gate|long [coverage|demand3]\n");

@@ -2,8 +2,9 @@
  * prints of each step which of met, failed and timed out it was: a step that
  * came back is not a step that was met. Orders to the drive are messages of 64 bits,
  * on a table of edition 2. Then crews that all want the fan: whoever has to wait is
- * told how many are ahead. Last an old table, of edition 1, that is moved up while
- * requests wait in it, and later back down.
+ * told how many are ahead. Then an old table, of edition 1, that is moved up while
+ * requests wait in it, and later back down. Last what single steps changed in the table,
+ * and a copy of it that is kept up to date by that alone.
  *
  * The host owns the table and acts for the task that `next` names. When no task
  * can run it lets a tick pass. A task that waited finds what became of its
@@ -11,6 +12,7 @@
 #include <inttypes.h>
 #include <stdio.h>
 #include <stdlib.h>
+#include <string.h>
 
 #include "hub_kernel.h"
 
@@ -114,6 +116,12 @@ static uint32_t word_at(const panel *of, size_t place)
 {
     const uint8_t *byte = of->table + place;
     return byte[0] | (uint32_t)byte[1] << 8 | (uint32_t)byte[2] << 16 | (uint32_t)byte[3] << 24;
+}
+
+static void put_word(panel *to, size_t place, uint32_t word)
+{
+    for (size_t i = 0; i < 4; i++)
+        to->table[place + i] = (uint8_t)(word >> 8 * i);
 }
 
 static int is_edition_2(const panel *it) { return it->bytes == HUB_KERNEL_TABLE_BYTES_2; }
@@ -472,11 +480,93 @@ static void move_the_old_table(void)
     tell(&it, NIGHT_CREW);
 }
 
+/* ---- What a step changed ----------------------------------------------- */
+
+static const char *const task_names[] = {"checklist", "drive"};
+static const char *const hub_names[] = {"fan", "orders", "stopped", "reversed"};
+
+/* Names the word at this byte of an edition 2 table, if it is of a task or a hub in use. */
+static void print_place(uint32_t byte)
+{
+    static const char *const task_words[] = {"state",      "suspended", "priority",
+                                             "hub plus 1", "ticks",     "side",
+                                             "word",       "high word", "answer"};
+    static const char *const hub_words[] = {"kind", "count", "limit", "start"};
+
+    if (byte >= HUB_KERNEL_STORES_AT_2) {
+        byte -= HUB_KERNEL_STORES_AT_2;
+        printf("%s, word %" PRIu32 " held", hub_names[byte / HUB_KERNEL_STORE_BYTES_2],
+               byte % HUB_KERNEL_STORE_BYTES_2 / 4 + 1);
+    } else if (byte >= HUB_KERNEL_WAITING_AT_2) {
+        byte -= HUB_KERNEL_WAITING_AT_2;
+        printf("%s, waiting list, entry %" PRIu32, hub_names[byte / HUB_KERNEL_LIST_BYTES],
+               byte % HUB_KERNEL_LIST_BYTES / 4 + 1);
+    } else if (byte >= HUB_KERNEL_READY_AT_2) {
+        printf("ready list, entry %" PRIu32, (byte - HUB_KERNEL_READY_AT_2) / 4 + 1);
+    } else if (byte >= HUB_KERNEL_HUBS_AT_2) {
+        byte -= HUB_KERNEL_HUBS_AT_2;
+        printf("%s, %s", hub_names[byte / HUB_KERNEL_HUB_BYTES],
+               hub_words[byte % HUB_KERNEL_HUB_BYTES / 4]);
+    } else if (byte >= HUB_KERNEL_TASKS_AT) {
+        byte -= HUB_KERNEL_TASKS_AT;
+        printf("%s, %s", task_names[byte / HUB_KERNEL_TASK_BYTES_2],
+               task_words[byte % HUB_KERNEL_TASK_BYTES_2 / 4]);
+    } else {
+        printf("contents, word %" PRIu32, byte / 4);
+    }
+}
+
+/* Prints what is different now, and puts it into the copy from before: that is the same
+ * table then, and the whole of it never had to be sent. */
+static void bring_up_to_date(panel *copy, const panel *now)
+{
+    uint32_t places[HUB_KERNEL_COMPARE_WORDS_2];
+    hub_kernel_compare_reply reply = hub_kernel_compare(copy->table, copy->bytes, now->table,
+                                                        now->bytes, places,
+                                                        sizeof places / sizeof *places);
+
+    if (reply.refusal != HUB_KERNEL_ACCEPTED) { /* count 0 alone would say "nothing changed" */
+        printf("compare: refusal %" PRIu32 "\n", reply.refusal);
+        exit(1);
+    }
+    for (uint32_t i = 0; i < reply.count; i++) {
+        const uint32_t *entry = places + 3 * i;
+        printf("    ");
+        print_place(4 * entry[0]);
+        printf(": %" PRIu32 ", now %" PRIu32 "\n", entry[1], entry[2]);
+        put_word(copy, 4 * entry[0], entry[2]);
+    }
+    printf("    %" PRIu32 " of %d words changed; the copy is %s\n", reply.count,
+           (int)HUB_KERNEL_TABLE_WORDS_2,
+           memcmp(copy->table, now->table, now->bytes) == 0 ? "up to date" : "WRONG");
+}
+
+/* The drive has to wait for its order; the order meets it; a tick when nobody counts ticks
+ * leaves every word as it was. */
+static void show_changes(void)
+{
+    panel it, copy;
+
+    printf("what a step changed\n");
+    set_up(&it);
+    copy = it;
+    ask(&it, DRIVE, (step){"", GET(ORDERS, HUB_KERNEL_W)});
+    printf("drive        waits for an order\n");
+    bring_up_to_date(&copy, &it);
+    ask(&it, CHECKLIST, (step){"", ORDER(RUN, FULL_SPEED)});
+    printf("checklist    orders full speed\n");
+    bring_up_to_date(&copy, &it);
+    pass_tick(&it);
+    printf("a tick passes\n");
+    bring_up_to_date(&copy, &it);
+}
+
 int main(void)
 {
     walk("the drive answers", prompt_drive);
     walk("the drive hangs", stuck_drive);
     queue_for_the_fan();
     move_the_old_table();
+    show_changes();
     return 0;
 }

@@ -1,2 +1,2 @@
 # Refusal 8 gives the length that would be needed.
-s/{SHORT_BUFFER, 0}/{SHORT_BUFFER, (uint32_t)counted.length}/
+/^second_listing_reply second_listing(/,/^}/s/{SHORT_BUFFER, 0}/{SHORT_BUFFER, (uint32_t)counted.length}/

@@ -1,6 +1,7 @@
 /* Times of the proved kernel against the second program, side by side in one
  * process: the same recorded accepted calls, a refused call, the summary, on each edition,
- * and the moves. The floor is reading the table's bytes once. Medians of many rounds, in
+ * the moves, and the comparison of a table with the one before its last call. The floor is
+ * reading the table's bytes once (of a comparison: both tables' bytes). Medians of many rounds, in
  * each of which all take turns; what counts are the ratios. The rows of edition 1 are drawn
  * as they were before there was an edition 2, without high words.
  *
@@ -27,6 +28,8 @@ typedef struct {
     const layout *form;         /* the table's edition */
     uint32_t words[WORDS_MOST]; /* the table before the first call */
     uint8_t bytes[BYTES_MOST];  /* the same */
+    uint32_t after[WORDS_MOST]; /* the table after the first call, for the comparison */
+    uint8_t after_bytes[BYTES_MOST];
     uint32_t calls[CALLS][CALL_NUMBERS];
     uint32_t count;
     uint32_t requests; /* how many of the calls are service 1 */
@@ -49,8 +52,10 @@ static size_t bytes_of(const load *it) { return 4 * (size_t)it->form->words; }
 
 static void lay_bytes(load *it)
 {
-    for (size_t i = 0; i < bytes_of(it); i++)
+    for (size_t i = 0; i < bytes_of(it); i++) {
         it->bytes[i] = (uint8_t)(it->words[i / 4] >> i % 4 * 8);
+        it->after_bytes[i] = (uint8_t)(it->after[i / 4] >> i % 4 * 8);
+    }
 }
 
 /* ---- The loads --------------------------------------------------------- */
@@ -164,6 +169,22 @@ static load draw_moved(const char *name, const load *from)
     it.form = &layouts[1];
     if (second_move_up(from->words, WORDS, it.words, WORDS_2) != ACCEPTED) {
         fprintf(stderr, "bench: %s: not moved\n", name);
+        exit(1);
+    }
+    lay_bytes(&it);
+    return it;
+}
+
+/* Two neighbours of one run: the table, and the same after the first call. */
+static load draw_neighbours(const char *name, const load *from)
+{
+    load it = *from;
+
+    it.name = name;
+    memcpy(it.after, it.words, sizeof it.after);
+    if (second_call(it.after, it.form->words, it.calls[0]).refusal != ACCEPTED ||
+        memcmp(it.after, it.words, bytes_of(&it)) == 0) {
+        fprintf(stderr, "bench: %s: nothing changed\n", name);
         exit(1);
     }
     lay_bytes(&it);
@@ -286,10 +307,48 @@ static uint32_t second_word_moves(const load *it, uint8_t *bytes, uint32_t *word
     return sum;
 }
 
+/* The round's copy of the table with the load's own of it after a call. */
+static uint32_t kernel_compares(const load *it, uint8_t *bytes, uint32_t *words)
+{
+    uint32_t places[ENTRY_WORDS * WORDS_MOST] = {0}, sum = 0;
+
+    (void)words;
+    for (uint32_t i = 0; i < it->count; i++)
+        sum += hub_kernel_compare(bytes, bytes_of(it), it->after_bytes, bytes_of(it), places,
+                                  ENTRY_WORDS * WORDS_MOST).count +
+               places[i % 3];
+    return sum;
+}
+
+static uint32_t second_byte_compares(const load *it, uint8_t *bytes, uint32_t *words)
+{
+    uint32_t places[ENTRY_WORDS * WORDS_MOST] = {0}, sum = 0;
+
+    (void)words;
+    for (uint32_t i = 0; i < it->count; i++)
+        sum += second_compare_bytes(bytes, bytes_of(it), it->after_bytes, bytes_of(it), places,
+                                    ENTRY_WORDS * WORDS_MOST).count +
+               places[i % 3];
+    return sum;
+}
+
+static uint32_t second_word_compares(const load *it, uint8_t *bytes, uint32_t *words)
+{
+    uint32_t places[ENTRY_WORDS * WORDS_MOST] = {0}, sum = 0;
+
+    (void)bytes;
+    for (uint32_t i = 0; i < it->count; i++)
+        sum += second_compare(words, it->form->words, it->after, it->form->words, places,
+                              ENTRY_WORDS * WORDS_MOST).count +
+               places[i % 3];
+    return sum;
+}
+
 /* The bytes are told to change each time, or the compiler would read them once.
  * Unrolled, so that the loop's own place in the program weighs nothing; and made for each
  * length, which the compiler then knows. */
-static inline __attribute__((always_inline)) uint32_t read_bytes(const load *it, uint8_t *bytes,
+static inline __attribute__((always_inline)) uint32_t read_bytes(const load *it,
+                                                                 const uint8_t *bytes,
                                                                  size_t length)
 {
     uint32_t sum = 0, word;
@@ -310,6 +369,14 @@ static uint32_t floor_reads(const load *it, uint8_t *bytes, uint32_t *words)
     (void)words;
     return it->form->edition == EDITION_1 ? read_bytes(it, bytes, BYTES)
                                           : read_bytes(it, bytes, BYTES_2);
+}
+
+static uint32_t floor_reads_both(const load *it, uint8_t *bytes, uint32_t *words)
+{
+    (void)words;
+    return it->form->edition == EDITION_1
+               ? read_bytes(it, bytes, BYTES) + read_bytes(it, it->after_bytes, BYTES)
+               : read_bytes(it, bytes, BYTES_2) + read_bytes(it, it->after_bytes, BYTES_2);
 }
 
 /* ---- The rounds -------------------------------------------------------- */
@@ -375,13 +442,16 @@ static const work calls[SIDES] = {kernel_calls, second_byte_calls, second_word_c
 static const work summaries[SIDES] = {kernel_summaries, second_byte_summaries,
                                       second_word_summaries, floor_reads};
 static const work moves[SIDES] = {kernel_moves, second_byte_moves, second_word_moves, floor_reads};
+static const work compares[SIDES] = {kernel_compares, second_byte_compares, second_word_compares,
+                                     floor_reads_both};
 
 typedef struct {
     load of;
     const work *sides;
 } row;
 
-enum { ROWS_OF_EDITION = 8, ROWS = 2 * ROWS_OF_EDITION + 2 };
+enum { ROWS_OF_EDITION = 8, MOVES_AT = 2 * ROWS_OF_EDITION, COMPARES_AT = MOVES_AT + 2 };
+enum { ROWS = COMPARES_AT + 2 };
 
 static void named(row *to, const load *of, const char *name, const work *sides)
 {
@@ -418,7 +488,7 @@ static void print_edition(const row *rows, uint32_t rounds)
 
 int main(int count, char **words)
 {
-    static row rows[ROWS]; /* edition 1, edition 2, the moves */
+    static row rows[ROWS]; /* edition 1, edition 2, the moves, the comparisons */
     long rounds = count == 2 || count == 3 ? atol(words[1]) : 0;
     long alone = count == 3 ? atol(words[2]) : 0;
 
@@ -431,8 +501,13 @@ int main(int count, char **words)
     draw_rows(rows, &layouts[0]);
     draw_rows(rows + ROWS_OF_EDITION, &layouts[1]);
     load full = rows[1].of, moved = draw_moved("moved", &full);
-    named(&rows[ROWS - 2], &full, "move up, 16/16, long lists", moves);
-    named(&rows[ROWS - 1], &moved, "move down, 16/16, long lists", moves);
+    named(&rows[MOVES_AT], &full, "move up, 16/16, long lists", moves);
+    named(&rows[MOVES_AT + 1], &moved, "move down, 16/16, long lists", moves);
+    for (int i = 0; i < EDITIONS; i++) {
+        load neighbours = draw_neighbours("neighbours", &rows[i * ROWS_OF_EDITION + 1].of);
+        named(&rows[COMPARES_AT + i], &neighbours,
+              i == 0 ? "neighbours, 16/16, edition 1" : "neighbours, 16/16, edition 2", compares);
+    }
 
     if (alone != 0) {
         const row *it = &rows[alone - 1];
@@ -445,7 +520,10 @@ int main(int count, char **words)
     print_edition(rows, (uint32_t)rounds);
     print_edition(rows + ROWS_OF_EDITION, (uint32_t)rounds);
     printf("moves\n");
-    measure(&rows[ROWS - 2].of, moves, (uint32_t)rounds);
-    measure(&rows[ROWS - 1].of, moves, (uint32_t)rounds);
+    for (int i = MOVES_AT; i < COMPARES_AT; i++)
+        measure(&rows[i].of, rows[i].sides, (uint32_t)rounds);
+    printf("comparisons\n");
+    for (int i = COMPARES_AT; i < ROWS; i++)
+        measure(&rows[i].of, rows[i].sides, (uint32_t)rounds);
     return 0;
 }

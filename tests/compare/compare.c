@@ -1,13 +1,15 @@
-/* The proved kernel, through the five functions of hub_kernel.h, against the second
+/* The proved kernel, through the six functions of hub_kernel.h, against the second
  * program, on tables of both editions: after every call the reply's four numbers and every
  * byte of the table, and the summary of a hub; of listings the reply and every byte of the
- * buffer; of moves the refusal and every byte of source and destination. `compare SIZE`
- * runs all parts, one line each; the first difference ends the program.
+ * buffer; of moves the refusal and every byte of source and destination; of pairs of tables
+ * that the kernel compares the reply, every word of the buffer and every byte of both.
+ * `compare SIZE` runs all parts, one line each; the first difference ends the program.
  *
  * Each side keeps its own table through a run, moves among it, so a difference can't be
  * mended by the other. The kernel's table moves to another address before every call, odd
  * ones among them, and the bytes around it are watched; so do its buffer before every
- * listing and its destination before every move. */
+ * listing, its destination before every move, and the second table and the buffer of words
+ * before every pair. */
 #define _POSIX_C_SOURCE 200809L
 
 #include <inttypes.h>
@@ -37,18 +39,21 @@ typedef struct {
     uint32_t moves;               /* tables of each edition moved, there and back */
     uint32_t moved_runs;          /* runs from Blank that move */
     uint32_t length_pairs;        /* moves with each pair of lengths, each way and edition */
-    uint64_t least, least_moved;  /* promised: calls on each edition, moves done each way */
+    uint32_t pairs, pair_rooms;   /* pairs of tables; of these, into every room */
+    uint64_t least, least_moved;  /* promised: calls on each edition, moves done each way, */
+    uint64_t least_pairs;         /* and pairs of both editions */
     unsigned seconds;             /* a program that loops is ended after these */
 } scale;
 
 static const scale scales[] = {
-    {"quick", 40, 300, 1000, 8, 400, 400, 400, 2, 2000, 50, 400, 5, 800, 20, 1, 25000, 2000, 300},
+    {"quick", 40, 300, 1000, 8, 400, 400, 400, 2, 2000, 50, 400, 5, 800, 20, 1, 400, 3, 25000, 2000,
+     3000, 300},
     {"gate", 1200, 400, 40000, 8, 10000, 10000, 20000, 40, 150000, 750, 15000, 100, 48000, 200, 10,
-     1000000, 100000, 900},
+     30000, 30, 1000000, 100000, 200000, 900},
     {"long", 20000, 1000, 1000000, 8, 300000, 300000, 300000, 800, 4000000, 10000, 400000, 3000,
-     1500000, 6000, 300, 30000000, 3000000, 28800},
+     1500000, 6000, 300, 900000, 1000, 30000000, 3000000, 6000000, 28800},
     {"campaign", 65000, 1000, 3200000, 8, 1000000, 1000000, 1000000, 2600, 13000000, 32000, 1300000,
-     10000, 5000000, 20000, 1000, 100000000, 10000000, 28800},
+     10000, 5000000, 20000, 1000, 3000000, 3000, 100000000, 10000000, 20000000, 28800},
 };
 
 /* Lengths in bytes around both sizes, the sizes among them, and their words. */
@@ -59,6 +64,8 @@ enum { LENGTHS = sizeof lengths / sizeof *lengths };
 enum { LONGEST = BYTES_MOST + 4, AROUND = 64, PLACES = 16, WATCHED = 0xA5 };
 enum { ROOM = AROUND + PLACES + LONGEST + AROUND };
 enum { PAST = 24, ROOM_MOST = LISTING_MOST + PAST };
+enum { MOST_ENTRIES = 352, MOST_ENTRIES_2 = 496 }; /* of two tables that gen_apart draws */
+enum { WORDS_ROOM = ENTRY_WORDS * WORDS_MOST + PAST }; /* the longest buffer of words lent */
 enum {
     MET_MOST = TASKS - 2,     /* by one Stop: neither the caller nor the target waits for it */
     READERS_MOST = TASKS - 1, /* by one update: the caller doesn't wait */
@@ -73,22 +80,27 @@ typedef struct {
     uint64_t ahead[AHEAD_MOST + 1]; /* of requests that have to wait */
     uint64_t listings, listing_refusals[SHORT_BUFFER + 1], longest;
     uint64_t moves[HIGH_WORD + 1]; /* from this edition to the other, by refusal */
+    uint64_t pairs[DIFFERING_EDITIONS + 1]; /* compared, the first of this edition, by refusal */
+    uint64_t same, one, most; /* of these: without an entry, with one, the most entries */
 } tally;
 
 typedef struct {
     const char *part;
     uint64_t seed; /* of the part's draws, for the report of a difference */
-    uint64_t calls, listings, moves;
+    uint64_t calls, listings, moves, pairs;
     const layout *form; /* the edition at hand */
     tally seen[EDITIONS];
     uint64_t moved_in_runs[EDITIONS], waited_in_moves;
     gen_random random; /* the calls and tables */
     gen_random other;  /* places and hubs: the draws of the calls stay the generator's own */
+    gen_random third;  /* what pairs need besides: the draws of all else stay as they are */
     uint8_t room[ROOM];
     uint8_t *table; /* the kernel's, somewhere in the room */
     size_t length;
     uint8_t text_room[AROUND + PLACES + ROOM_MOST + AROUND]; /* the kernel's buffer is in here */
-    uint8_t to_room[ROOM];                                   /* and here its destination */
+    uint8_t to_room[ROOM];                                   /* and here its destination, */
+    uint8_t first_room[ROOM], second_room[ROOM];             /* a pair's two tables, */
+    uint32_t places_room[AROUND + PLACES + WORDS_ROOM + AROUND]; /* and its buffer of words */
 } comparison;
 
 typedef uint32_t (*move_words)(const uint32_t *, size_t, uint32_t *, size_t);
@@ -311,6 +323,150 @@ static size_t draw_room(comparison *at, const uint8_t *bytes)
     }
 }
 
+/* ---- One pair ---------------------------------------------------------- */
+
+/* Two tables as bytes, of any lengths. */
+typedef struct {
+    uint8_t first[LONGEST], second[LONGEST];
+    size_t first_length, second_length;
+} pair;
+
+/* Words before the buffer have numbers below 0. */
+static void differ_in_places(const comparison *at, size_t place, size_t room,
+                             const uint32_t *expected)
+{
+    char what[128];
+    size_t i = 0;
+
+    while (at->places_room[i] == expected[i])
+        i++;
+    snprintf(what, sizeof what,
+             "word %td of a buffer of %zu words is %" PRIu32 ", the second program's %" PRIu32,
+             (ptrdiff_t)i - (ptrdiff_t)place, room, at->places_room[i], expected[i]);
+    differ(at, NULL, what);
+}
+
+/* At another address, odd ones among them; what is around it is watched. */
+static uint8_t *lay_in(comparison *at, uint8_t room[ROOM], const uint8_t *bytes, size_t length)
+{
+    uint8_t *place = room + AROUND + gen_below(&at->third, PLACES);
+
+    memset(room, WATCHED, ROOM);
+    memcpy(place, bytes, length);
+    return place;
+}
+
+/* The bytes lent and those around them are as they were laid. */
+static void check_lent(const comparison *at, const uint8_t room[ROOM], const uint8_t *place,
+                       const uint8_t *bytes, size_t length)
+{
+    uint8_t laid[ROOM];
+
+    memset(laid, WATCHED, sizeof laid);
+    memcpy(laid + (place - room), bytes, length);
+    if (memcmp(room, laid, sizeof laid) != 0)
+        differ(at, NULL, "a byte in or around a table that was compared was written");
+}
+
+static void tally_pair(comparison *at, hub_kernel_compare_reply reply)
+{
+    at->pairs++;
+    now(at)->pairs[reply.refusal]++;
+    now(at)->same += reply.refusal == ACCEPTED && reply.count == 0;
+    now(at)->one += reply.count == 1;
+    if (reply.count > now(at)->most)
+        now(at)->most = reply.count;
+}
+
+/* Both tables through the kernel and the second program, into a buffer of so many words: the
+ * reply, every word in and around the buffer, which holds drawn words, and every byte in and
+ * around the tables. */
+static hub_kernel_compare_reply compare_pair(comparison *at, const pair *of, size_t room)
+{
+    static uint32_t expected[sizeof at->places_room / sizeof *at->places_room];
+    size_t place = AROUND + gen_below(&at->third, PLACES);
+    const uint8_t *first = lay_in(at, at->first_room, of->first, of->first_length);
+    const uint8_t *second = lay_in(at, at->second_room, of->second, of->second_length);
+
+    for (size_t i = 0; i < sizeof expected / sizeof *expected; i++)
+        expected[i] = at->places_room[i] = gen_word(&at->third);
+    hub_kernel_compare_reply kernel = hub_kernel_compare(first, of->first_length, second,
+                                                         of->second_length,
+                                                         at->places_room + place, room);
+    second_compare_reply reply = second_compare_bytes(of->first, of->first_length, of->second,
+                                                      of->second_length, expected + place, room);
+    if (kernel.refusal != reply.refusal || kernel.count != reply.count)
+        differ_by(at, NULL, "the comparison's reply", (uint32_t[4]){kernel.refusal, kernel.count},
+                  (uint32_t[4]){reply.refusal, reply.count});
+    if (memcmp(at->places_room, expected, sizeof expected) != 0)
+        differ_in_places(at, place, room, expected);
+    check_lent(at, at->first_room, first, of->first, of->first_length);
+    check_lent(at, at->second_room, second, of->second, of->second_length);
+    tally_pair(at, kernel);
+    return kernel;
+}
+
+/* The words that a pair needs, if it isn't refused for its tables; else of any. */
+static size_t needed_words(comparison *at, const pair *of)
+{
+    uint32_t places[ENTRY_WORDS * WORDS_MOST];
+    second_compare_reply reply = second_compare_bytes(of->first, of->first_length, of->second,
+                                                      of->second_length, places,
+                                                      sizeof places / sizeof *places);
+
+    return ENTRY_WORDS * (reply.refusal == ACCEPTED ? reply.count
+                                                    : gen_below(&at->third, WORDS_MOST));
+}
+
+/* None, less than an entry, up to one entry too few, just enough, up to one entry more, much
+ * more, or any. */
+static size_t draw_words(comparison *at, const pair *of)
+{
+    size_t needed = needed_words(at, of), some = 1 + gen_below(&at->third, ENTRY_WORDS);
+
+    switch (gen_below(&at->third, 8)) {
+    case 0:
+        return 0;
+    case 1:
+        return some - 1;
+    case 2:
+    case 3:
+        return needed >= some ? needed - some : 0;
+    case 4:
+        return needed;
+    case 5:
+        return needed + some;
+    case 6:
+        return needed + PAST;
+    default:
+        return gen_below(&at->third, WORDS_ROOM + 1);
+    }
+}
+
+static void words_to_bytes(uint8_t *bytes, const uint32_t *words, size_t count)
+{
+    for (size_t i = 0; i < 4 * count; i++)
+        bytes[i] = (uint8_t)(words[i / 4] >> i % 4 * 8);
+}
+
+static pair pair_of(const uint32_t *first, size_t first_words, const uint32_t *second,
+                    size_t second_words)
+{
+    pair of = {.first_length = 4 * first_words, .second_length = 4 * second_words};
+
+    words_to_bytes(of.first, first, first_words);
+    words_to_bytes(of.second, second, second_words);
+    return of;
+}
+
+/* Two tables of the edition at hand, into a drawn room. */
+static void compare_words(comparison *at, const uint32_t *first, const uint32_t *second)
+{
+    pair of = pair_of(first, words_of(at), second, words_of(at));
+
+    compare_pair(at, &of, draw_words(at, &of));
+}
+
 /* Mostly a hub in use, else any number. */
 static uint32_t draw_hub(comparison *at)
 {
@@ -322,8 +478,9 @@ static uint32_t draw_hub(comparison *at)
 static second_reply compare(comparison *at, uint32_t *words, const uint32_t *call)
 {
     uint8_t expected[BYTES_MOST];
-    uint32_t hub = draw_hub(at);
+    uint32_t hub = draw_hub(at), before[WORDS_MOST];
 
+    memcpy(before, words, bytes_of(at));
     lay_anew(at);
     hub_kernel_reply kernel = kernel_call(at, call);
     second_reply second = second_call(words, words_of(at), call);
@@ -335,6 +492,8 @@ static second_reply compare(comparison *at, uint32_t *words, const uint32_t *cal
     check_around(at, call);
     if (at->calls % 16 == 0)
         check_listing(at, expected, draw_room(at, expected));
+    if (at->calls % 32 == 0)
+        compare_words(at, before, words);
     return second;
 }
 
@@ -757,6 +916,126 @@ static void part_length_pairs(comparison *at, const scale *to)
     }
 }
 
+/* Neighbours of one run are compared after every 32nd call of all parts; here a table of any
+ * family and the same a few calls later, among them none; tables that have nothing to do with
+ * each other; such as differ in one word, in the last alone, and wherever two can. */
+static void draw_two(comparison *at, uint32_t *first, uint32_t *second)
+{
+    uint32_t edition = at->form->edition, call[CALL_NUMBERS], draw = gen_below(&at->random, 10);
+    gen_mood mood;
+
+    gen_table(&at->random, edition, first);
+    memcpy(second, first, bytes_of(at));
+    if (draw < 4) {
+        draw_mood(at, &mood);
+        mood.tasks = mood.hubs = gen_chance(&at->random, 20) ? TASKS : 0;
+        for (uint32_t calls = gen_below(&at->random, 4); calls > 0; calls--) {
+            gen_call(&at->random, &mood, second, call);
+            second_call(second, words_of(at), call);
+        }
+    } else if (draw < 6) {
+        gen_set_up(&at->random, edition, second);
+    } else if (draw == 6) {
+        gen_apart(&at->random, edition, first, second);
+    } else if (draw == 7) {
+        gen_last_word(&at->random, edition, first, second);
+    } else if (draw == 8) {
+        gen_one_word(&at->random, second);
+    } else {
+        gen_table(&at->random, edition, second);
+    }
+}
+
+/* Well formed both, there and back, and each with itself; some into every room. */
+static void compare_right(comparison *at, const pair *of, int every_room)
+{
+    pair back = *of, itself = *of;
+
+    memcpy(back.first, of->second, sizeof back.first);
+    memcpy(back.second, of->first, sizeof back.second);
+    memcpy(itself.second, of->first, sizeof itself.second);
+    compare_pair(at, of, draw_words(at, of));
+    compare_pair(at, &back, draw_words(at, &back));
+    if (compare_pair(at, &itself, 0).refusal != ACCEPTED)
+        differ(at, NULL, "a table isn't compared with itself");
+    size_t needed = needed_words(at, of);
+    for (size_t room = 0; every_room && room <= needed + PAST; room++)
+        compare_pair(at, of, room);
+}
+
+/* One of them, or both, damaged, of the other edition, or of another length. */
+static void compare_spoiled(comparison *at, uint32_t *first, uint32_t *second)
+{
+    const layout *form = gen_chance(&at->random, 40) ? other_form(at) : at->form;
+    uint32_t family = gen_below(&at->random, (uint32_t)gen_damages(EDITION_1));
+
+    if (form != at->form)
+        gen_table(&at->random, form->edition, second);
+    if (gen_chance(&at->random, 30))
+        gen_damaged(&at->random, at->form->edition, family, first);
+    if (gen_chance(&at->random, 30))
+        gen_damaged(&at->random, form->edition, family, second);
+    pair of = pair_of(first, words_of(at), second, form->words);
+    if (gen_chance(&at->random, 15))
+        of.first_length = lengths[gen_below(&at->random, LENGTHS)];
+    if (gen_chance(&at->random, 15))
+        of.second_length = lengths[gen_below(&at->random, LENGTHS)];
+    compare_pair(at, &of, draw_words(at, &of));
+}
+
+static void part_pairs(comparison *at, const scale *to)
+{
+    uint32_t first[WORDS_MOST], second[WORDS_MOST];
+
+    for (uint32_t i = 0; i < to->pairs; i++) {
+        begin(at, "pairs", i);
+        draw_two(at, first, second);
+        pair of = pair_of(first, words_of(at), second, words_of(at));
+        compare_right(at, &of, i < to->pair_rooms);
+        compare_spoiled(at, first, second);
+    }
+}
+
+/* The same table through one pointer: both are only read. */
+static void part_one_table(comparison *at, const scale *to)
+{
+    uint32_t words[WORDS_MOST], place = WATCHED;
+
+    for (uint32_t i = 0; i < to->pairs / 10; i++) {
+        begin(at, "one table", i);
+        gen_table(&at->random, at->form->edition, words);
+        lay_words(at, words);
+        lay_anew(at);
+        hub_kernel_compare_reply reply = hub_kernel_compare(at->table, at->length, at->table,
+                                                            at->length, &place, 0);
+        if (reply.refusal != ACCEPTED || reply.count != 0 || place != WATCHED)
+            differ(at, NULL, "a table differs from itself");
+        check_around(at, NULL);
+        tally_pair(at, reply);
+    }
+}
+
+/* Every pair of lengths, of tables of one edition or of two, cut or with zeros behind. */
+static void part_pair_lengths(comparison *at, const scale *to)
+{
+    uint32_t words[WORDS_MOST];
+    pair of;
+
+    for (size_t i = 0; i < LENGTHS * LENGTHS; i++) {
+        begin(at, "pair lengths", i);
+        for (uint32_t j = 0; j < EDITIONS * EDITIONS * to->length_pairs; j++) {
+            at->form = &layouts[j % EDITIONS];
+            draw_bytes(at, of.first, words);
+            at->form = &layouts[j / EDITIONS % EDITIONS];
+            draw_bytes(at, of.second, words);
+            at->form = &layouts[j % EDITIONS];
+            of.first_length = lengths[i / LENGTHS];
+            of.second_length = lengths[i % LENGTHS];
+            compare_pair(at, &of, draw_words(at, &of));
+        }
+    }
+}
+
 /* ---- The whole --------------------------------------------------------- */
 
 static double seconds(void)
@@ -769,13 +1048,14 @@ static double seconds(void)
 static void part(comparison *at, const scale *to, const char *name,
                  void (*run)(comparison *, const scale *))
 {
-    uint64_t calls = at->calls, listings = at->listings, moves = at->moves;
+    uint64_t calls = at->calls, listings = at->listings, moves = at->moves, pairs = at->pairs;
     double since = seconds();
 
     run(at, to);
-    printf("%-12s %9" PRIu64 " calls %8" PRIu64 " listings %8" PRIu64 " moves  %6.1f s  same\n",
+    printf("%-12s %9" PRIu64 " calls %8" PRIu64 " listings %8" PRIu64 " moves %8" PRIu64
+           " pairs  %6.1f s  same\n",
            name, at->calls - calls, at->listings - listings, at->moves - moves,
-           seconds() - since);
+           at->pairs - pairs, seconds() - since);
     fflush(stdout);
 }
 
@@ -793,6 +1073,8 @@ static void parts_of(comparison *at, const scale *to, uint32_t edition)
     part(at, to, "lengths", part_lengths);
     part(at, to, "listings", part_listings);
     part(at, to, "moves", part_moves);
+    part(at, to, "pairs", part_pairs);
+    part(at, to, "one table", part_one_table);
 }
 
 /* How many calls had none, one, and so on up to the most there can be; whether none,
@@ -824,7 +1106,7 @@ static int check_all(const char *what, const uint64_t *seen, const uint32_t *whi
 static int check_seen(const tally *seen, const scale *to, uint32_t edition)
 {
     static const uint32_t all[] = {0, 1, 2, 3, 4, 5, 6, 7}, listing[] = {0, 1, 2, 8};
-    static const uint32_t moves[] = {0, 1, 2, 9};
+    static const uint32_t moves[] = {0, 1, 2, 9}, pairs[] = {0, 1, 2, 13, 8};
     int up = edition == EDITION_1;
     int fine = seen->waiters > 0 && seen->high > 0 && seen->calls >= to->least &&
                seen->moves[ACCEPTED] >= to->least_moved;
@@ -842,8 +1124,13 @@ static int check_seen(const tally *seen, const scale *to, uint32_t edition)
     fine = check_all(up ? "moves up: done, refused with 1, 2"
                         : "moves down: done, refused with 1, 2, 9",
                      seen->moves, moves, up ? 3 : 4) && fine;
+    fine = check_all("pairs: accepted, refused with 1, 2, 13, 8", seen->pairs, pairs, 5) && fine;
     printf("the longest listing %" PRIu64 " bytes\n", seen->longest);
-    return fine && seen->longest == LISTING_MOST;
+    printf("pairs without a difference %" PRIu64 ", with one %" PRIu64
+           "; the most entries %" PRIu64 "\n",
+           seen->same, seen->one, seen->most);
+    return fine && seen->longest == LISTING_MOST && seen->same > 0 && seen->one > 0 &&
+           seen->most == (up ? MOST_ENTRIES : MOST_ENTRIES_2);
 }
 
 static int run_all(comparison *at, const scale *to)
@@ -852,18 +1139,20 @@ static int run_all(comparison *at, const scale *to)
 
     alarm(to->seconds);
     gen_seed(&at->other, 1);
+    gen_seed(&at->third, 2);
     parts_of(at, to, EDITION_1);
     parts_of(at, to, EDITION_2);
     printf("both editions\n");
     part(at, to, "moved runs", part_moved_runs);
     part(at, to, "length pairs", part_length_pairs);
+    part(at, to, "pair lengths", part_pair_lengths);
     for (uint32_t edition = EDITION_1; edition <= EDITION_2; edition++)
         fine = check_seen(&at->seen[edition - EDITION_1], to, edition) && fine;
     printf("moves done in runs: %" PRIu64 " up, %" PRIu64 " down, %" PRIu64
            " requests waiting in them\n",
            at->moved_in_runs[0], at->moved_in_runs[1], at->waited_in_moves);
     return fine && at->moved_in_runs[0] > 0 && at->moved_in_runs[1] > 0 &&
-           at->waited_in_moves > 0;
+           at->waited_in_moves > 0 && at->pairs >= to->least_pairs;
 }
 
 int main(int count, char **words)
@@ -878,6 +1167,9 @@ int main(int count, char **words)
         printf("compare: %" PRIu64 " listings, every byte of every buffer the same\n", at.listings);
         printf("compare: %" PRIu64 " moves, every byte of every source and destination the same\n",
                at.moves);
+        printf("compare: %" PRIu64
+               " pairs, every word of every buffer and every byte of both tables the same\n",
+               at.pairs);
         if (!fine) {
             printf("compare: FAILED, too little was seen\n");
             return 1;

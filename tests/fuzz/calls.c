@@ -1,5 +1,5 @@
-/* libFuzzer's target for the calls and moves: the second program against the tests' slow
- * reading (second/expect.c), reply and every word. What it keeps as new ground
+/* libFuzzer's target for the calls, moves and comparisons: the second program against the
+ * tests' slow reading (second/expect.c), reply and every word. What it keeps as new ground
  * is replayed through the proved kernel (replay.c). */
 #include <stdlib.h>
 #include <string.h>
@@ -36,11 +36,23 @@ static void move(table *it)
         *it = moved;
 }
 
+/* The table kept with this one, which is then kept. */
+static void compare(table *kept, const table *it, size_t room)
+{
+    uint32_t places[PLACES_WORDS + BEHIND] = {0}, wanted[PLACES_WORDS + BEHIND] = {0};
+    second_compare_reply want = expect_compare(kept->words, kept->count, it->words, it->count, wanted, room);
+    second_compare_reply reply = second_compare(kept->words, kept->count, it->words, it->count, places, room);
+
+    if (memcmp(&reply, &want, sizeof reply) != 0 || memcmp(places, wanted, sizeof places) != 0)
+        abort();
+    *kept = *it;
+}
+
 int LLVMFuzzerTestOneInput(const uint8_t *data, size_t size);
 
 int LLVMFuzzerTestOneInput(const uint8_t *data, size_t size)
 {
-    table it = {{0}, WORDS};
+    table it = {{0}, WORDS}, kept = it;
 
     second_call(it.words, it.count, fuzz_blank);
     for (; size >= STEP; data += STEP, size -= STEP) {
@@ -49,6 +61,8 @@ int LLVMFuzzerTestOneInput(const uint8_t *data, size_t size)
             call(&it, step.call);
         else if (step.kind == FUZZ_MOVE)
             move(&it);
+        else if (step.kind == FUZZ_COMPARE)
+            compare(&kept, &it, step.room);
         else
             it.words[step.place % it.count] = step.value;
     }

@@ -1,7 +1,8 @@
-/* The calls and moves of the files named, through the C edge and through the second
+/* The calls, moves and comparisons of the files named, through the C edge and through the second
  * program: after every call the reply, every byte of the table, and the summary
  * of a hub, each number in turn up to one above the last; of every move the refusal and
- * every byte of source and destination. The first difference ends it. */
+ * every byte of source and destination; of every comparison the reply, every word of the
+ * buffer and every byte of both tables. The first difference ends it. */
 #include <inttypes.h>
 #include <stdio.h>
 #include <stdlib.h>
@@ -15,7 +16,9 @@ typedef struct {
     const char *file;
     uint8_t kernel[BYTES_MOST], second[BYTES_MOST];
     size_t length; /* of both tables: their edition */
-    uint64_t calls, accepted, refused, moves, moved;
+    uint8_t kept[BYTES_MOST]; /* the table that the next comparison begins with */
+    size_t kept_length;
+    uint64_t calls, accepted, refused, moves, moved, compares, compared;
 } replay;
 
 static void differ(const replay *at, const char *what)
@@ -71,6 +74,29 @@ static void move(replay *at)
     at->moved++;
 }
 
+/* The table kept with this one, which is then kept. Both buffers hold the same before. */
+static void compare_kept(replay *at, size_t room)
+{
+    uint32_t kernel[PLACES_WORDS + BEHIND], second[PLACES_WORDS + BEHIND];
+    uint8_t kept[BYTES_MOST];
+
+    memset(kernel, 0xA5, sizeof kernel);
+    memset(second, 0xA5, sizeof second);
+    memcpy(kept, at->kept, sizeof kept);
+    hub_kernel_compare_reply got = hub_kernel_compare(kept, at->kept_length, at->kernel, at->length, kernel, room);
+    second_compare_reply want = second_compare_bytes(at->kept, at->kept_length, at->second, at->length, second, room);
+    at->compares++;
+    if (got.refusal != want.refusal || got.count != want.count)
+        differ(at, "a comparison's reply");
+    if (memcmp(kernel, second, sizeof kernel) != 0)
+        differ(at, "a comparison's buffer");
+    if (memcmp(kept, at->kept, sizeof kept) != 0 || memcmp(at->kernel, at->second, at->length) != 0)
+        differ(at, "a table compared");
+    memcpy(at->kept, at->second, at->length);
+    at->kept_length = at->length;
+    at->compared += want.refusal == ACCEPTED;
+}
+
 static void poke(replay *at, const fuzz_step *step)
 {
     size_t place = 4 * (step->place % (at->length / 4));
@@ -90,7 +116,8 @@ static void run(replay *at)
         exit(2);
     }
     fclose(in);
-    at->length = BYTES;
+    at->length = at->kept_length = BYTES;
+    memset(at->kept, 0, sizeof at->kept);
     memset(at->kernel, 0, sizeof at->kernel);
     memset(at->second, 0, sizeof at->second);
     compare(at, fuzz_blank);
@@ -100,6 +127,8 @@ static void run(replay *at)
             compare(at, step.call);
         else if (step.kind == FUZZ_MOVE)
             move(at);
+        else if (step.kind == FUZZ_COMPARE)
+            compare_kept(at, step.room);
         else
             poke(at, &step);
     }
@@ -113,7 +142,8 @@ int main(int count, char **files)
         at.file = files[i];
         run(&at);
     }
-    printf("%d inputs, %" PRIu64 " calls, %" PRIu64 " accepted and %" PRIu64 " refused, %" PRIu64 " moves, %" PRIu64 " done: every reply, byte and summary the same\n",
-           count - 1, at.calls, at.accepted, at.refused, at.moves, at.moved);
+    printf("%d inputs, %" PRIu64 " calls, %" PRIu64 " accepted and %" PRIu64 " refused, %" PRIu64 " moves, %" PRIu64 " done, %" PRIu64
+           " comparisons, %" PRIu64 " accepted: every reply, byte and summary the same\n",
+           count - 1, at.calls, at.accepted, at.refused, at.moves, at.moved, at.compares, at.compared);
     return 0;
 }

@@ -39,3 +39,13 @@ uint32_t hub_kernel_move_down(const uint8_t *from, size_t from_bytes, uint8_t *t
 {
     return second_move_down_bytes(from, from_bytes, to, to_bytes);
 }
+
+hub_kernel_compare_reply hub_kernel_compare(const uint8_t *first, size_t first_bytes,
+                                            const uint8_t *second, size_t second_bytes,
+                                            uint32_t *places, size_t words)
+{
+    second_compare_reply reply = second_compare_bytes(first, first_bytes, second, second_bytes,
+                                                      places, words);
+
+    return (hub_kernel_compare_reply){reply.refusal, reply.count};
+}

@@ -1,4 +1,4 @@
--- Laws of the definitions of specs/Bytes.antt. In order: there and back (`bytes-words`, `words-bytes`); a turn of the
+-- Laws of the definitions of specs/Bytes.antt. In order: there and back (`bytes-words`, `words-bytes`), and how many bytes; a turn of the
 -- loop that unpacks and its end; a turn of the loop that packs and its end.
 -- Not here: laws of `take`, `drop`, `set`, `getD` and `length` alone (`lib.Seq`, `lib.ListN`). Assumes nothing.
 use Prim.Native.Nat.{_%_, _*_, _+_, _/_, _<_, _≤_, suc, zero, ℕ}
@@ -53,6 +53,11 @@ words-bytes (w ∷ t) small =
     let e = word-bytes w (small 0 (omega arith)) in
     let r = words-bytes t (λ i l. small (suc i) (omega arith)) in
     cc
+
+pub length-bytes : (t : List ℕ) → length (bytesOf t) ≡ 4 * length t
+unfolding bytesOf
+length-bytes [] = refl
+length-bytes (w ∷ t) = let r = length-bytes t in omega arith
 
 -- ---- a turn of the loop that unpacks: four bytes more have become a word; and its end
 

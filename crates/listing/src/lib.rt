@@ -10,9 +10,6 @@ ghost use lib.ListN.{length};
 ghost use mathlib.Core.Path.{_≡_};
 use records::HubNo;
 
-// "New refusal 8, after 1 and 2: the buffer is shorter than the listing."
-const SHORT_BUFFER: u32 = 8;
-
 // The refusal, and the length of what was written.
 pub struct Listed {
     pub refusal: u32,
@@ -101,7 +98,7 @@ fn list_in(t: &[u32], ts: usize, text: &mut [u8]) -> Listed
     let m = t[records::HUBS] as usize;
     let bytes = measure(t, ts, n, m);
     if text.len() < bytes {
-        return refused(SHORT_BUFFER);
+        return refused(rules::SHORT_BUFFER);
     }
     write_lines(t, ts, n, m, text);
     Listed {

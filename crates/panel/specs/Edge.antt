@@ -1,10 +1,13 @@
 -- "Panel edges": the calls over bytes, for every byte length and every content, by the calls over words.
--- `edgeReply`, `edgeAfter`, `edgeSummary`, `edgeListing`, `edgeText`, `edgeUp` and `edgeDown` are what the exported functions promise.
+-- `edgeReply`, `edgeAfter`, `edgeSummary`, `edgeListing`, `edgeText`, `edgeUp`, `edgeDown` and `ComparedBytes` are what the exported functions promise.
 -- Not here: words from bytes and back (crate bytes4), the rules (crate rules).
-use Prim.Native.Nat.{_*_, ℕ}
+use Prim.Native.Nat.{_*_, _≤_, ℕ}
 use Rattle.bytes4.specs.Bytes.{bytesOf, wordsFrom}
+use Rattle.differences.specs.Differences.{bufferAfter, compareReply}
+use Rattle.differences.specs.declared.Compared.{Compared}
 use Rattle.listing.specs.Listing.{listingReply, textAfter}
 use Rattle.listing.specs.declared.Listed.{Listed}
+use Rattle.panel.specs.declared.HubKernelCompareReply.{HubKernelCompareReply}
 use Rattle.panel.specs.declared.HubKernelListingReply.{HubKernelListingReply}
 use Rattle.panel.specs.declared.HubKernelReply.{HubKernelReply}
 use Rattle.panel.specs.declared.HubKernelSummaryReply.{HubKernelSummaryReply}
@@ -15,9 +18,9 @@ use Rattle.rules.specs.declared.Call.{Call}
 use Rattle.rules.specs.declared.Reply.{Reply}
 use Rattle.rules.specs.declared.Summary.{Summary}
 use lib.Dec.{eqb}
-use lib.ListN.{length}
+use lib.ListN.{length, take}
 use mathlib.Core.Bool.{Bool, _&&_, _||_, cond, true}
-use mathlib.Core.List.{List}
+use mathlib.Core.List.{List, []}
 use mathlib.Core.Path.{_≡_}
 
 -- "and the call's numbers", in the order of the arguments; the eighth is the high word (M-105)
@@ -84,3 +87,22 @@ edgeUp from room = edgeMove one two (length from) room (upRefusal (wordsFrom fro
 
 abbrev pub edgeDown : List ℕ → ℕ → ℕ
 edgeDown from room = edgeMove two one (length from) room (downRefusal (wordsFrom from) (size one))
+
+-- ---- M-106: two tables compared, over bytes; the places are words
+
+-- the words of a table of either edition. Other bytes are no table's, and count as none: no edition has a table without words, so
+-- they are refusal 1
+unfoldable pub tableWords : List ℕ → List ℕ
+tableWords b = cond (fits b) (wordsFrom b) []
+
+abbrev pub compareNumbersOf : Compared → HubKernelCompareReply
+compareNumbersOf r = record { refusal = r .refusal; count = r .count }
+
+pub record ComparedBytes (first second places : List ℕ) (r : HubKernelCompareReply) (places′ : List ℕ) : Type 0 where
+  pub reply : r ≡ compareNumbersOf (compareReply (tableWords first) (tableWords second) (length places))
+  pub words : places′ ≡ bufferAfter (tableWords first) (tableWords second) places
+
+-- what `table_words` leaves in an array: as many words as the table has, in front
+pub record InFront (b words : List ℕ) (n : ℕ) : Type 0 where
+  pub front : take n words ≡ tableWords b
+  pub room : n ≤ length words

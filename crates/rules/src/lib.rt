@@ -94,8 +94,14 @@ pub const BAD_ARGUMENT: u32 = 6;
 
 pub const FULL: u32 = 7;
 
+// M-100, M-106: the lent buffer is shorter than what is to be written
+pub const SHORT_BUFFER: u32 = 8;
+
 // M-105, of a move back to edition 1: some high word isn't 0
 pub const HIGH_WORD: u32 = 9;
+
+// M-106, of two tables that are compared: differing editions
+pub const OTHER_EDITION: u32 = 13;
 
 // "A call is seven numbers, each any 32-bit value", with M-105 eight: the message's high word.
 pub struct Call {
