@@ -81,6 +81,13 @@ removeAt-out [] i h = refl
 removeAt-out (x ∷ xs) zero h = absurd (not-suc-le-zero h)
 removeAt-out (x ∷ xs) (suc i) h = cons x (removeAt-out xs i (le-of-suc-le-suc h))
 
+pub removeAt-last : (l : List ℕ) (i : ℕ) → suc i ≡ length l → removeAt i l ≡ set l i 0
+unfolding removeAt
+removeAt-last [] i h = absurd (omega (arith, h))
+removeAt-last (x ∷ []) zero h = refl
+removeAt-last (x ∷ y ∷ ys) zero h = absurd (omega (arith, h))
+removeAt-last (x ∷ xs) (suc i) h = cons x (removeAt-last xs i (omega (arith, h)))
+
 -- the words of a first part go, and as many zeros come behind the rest
 pub removeFirst-row : (n : ℕ) (xs ys : List ℕ) → length xs ≡ n → removeFirst n (xs ++ ys) ≡ ys ++ replicate n 0
 unfolding removeAt removeFirst

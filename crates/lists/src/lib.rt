@@ -55,16 +55,21 @@ fn insert_at(list: &mut [u32], at: usize, v: u32)
     }
 }
 
-// The entry at `at` goes, those behind it move up, and a 0 comes last. The 0 is the word that is read past the end.
+// The entry at `at` goes, those behind it move up, and a 0 comes last. Each word is read at a place inside the list, so that
+// the compiler makes the move wide.
 fn remove_at(list: &mut [u32], at: usize)
     ensures { λ _. ⌜ now (list .exit) ≡ removeAt at (now (list .entry)) ⌝ }
 {
+    if list.len() <= at {
+        return;
+    }
+    let last = list.len() - 1;
     let mut i = at;
-    while i < list.len() {
-        let next = word(&*list, i + 1);
-        list[i] = next;
+    while i < last {
+        list[i] = list[i + 1];
         i += 1;
     }
+    list[last] = 0;
 }
 
 // The first n words go, those behind them move up, and zeros come last.
