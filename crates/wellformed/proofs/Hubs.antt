@@ -1,4 +1,5 @@
--- A hub by its words: its record, its store, its owner and its list, one after the other; and the hubs below h, with the marks so far.
+-- A hub by its words: its record, its store, its owner and its list, one after the other; the lists of the hubs below
+-- h, with the marks so far; and all hubs.
 -- Not here: the walk of a list (Turns.antt). Assumes nothing.
 use Prim.Native.Nat.{_*_, _+_, _-_, _<_, _≤_, pred, suc, zero, zero-le, ℕ}
 use Rattle.lists.proofs.Laws.{boolCase, length-numbers}
@@ -11,12 +12,12 @@ use Rattle.rules.proofs.Valid.{Range}
 use Rattle.rules.specs.Table.{Board, Fifo, Hub, Layout, hub, hubAt, hubsAt, inactive, kindOf, read, storeSize, storesAt, task, waitPart, waitsAt}
 use Rattle.rules.specs.WellFormed.{forAll, kindRight, ownerRight, storeRight}
 use Rattle.wellformed.proofs.Parts.{so-many}
-use Rattle.wellformed.proofs.Turns.{entry-side, entry-state, forAll-fail, forAll-none, forAll-step, numbers-end, occ-le}
-use Rattle.wellformed.specs.Walks.{Marked, Marks, Used, hubRight, kindTest, may, metAt, ownerOf, ownerTest, queueRight, queueTest, storeTest, waitsOf, walks}
+use Rattle.wellformed.proofs.Turns.{entry-side, entry-state, forAll-both, forAll-fail, forAll-none, forAll-step, numbers-end, occ-le}
+use Rattle.wellformed.specs.Walks.{Marked, Marks, Used, bodyTest, hubRight, kindTest, may, metAt, ownerOf, ownerTest, queueRight, queueTest, storeTest, waitsOf, walks}
 use borrow.Author.Tests.{eq-eqb, eqb-true, le-leb, lt-leb, ne-eqb}
 use lib.Dec.{eqb}
 use lib.ListN.{List·getD-eq-default, drop, getD, length, length-take, take}
-use mathlib.Core.Bool.{Bool, _&&_, _||_, cond, false, false≢true, not, true}
+use mathlib.Core.Bool.{Bool, _&&_, _||_, and-assoc, cond, false, false≢true, not, true}
 use mathlib.Core.List.{List}
 use mathlib.Core.Path.{_∙_, _≡_, ap, refl, sym}
 use native.Mathlib.Nat.{add-zero}
@@ -177,36 +178,17 @@ module _ (L : Layout) (t : List ℕ) (h : ℕ) (u : h < getD t 2 0) where
   unfolding queueTest
   queue-as a at w = marked-as (rw (so-many a 16 t, at)) (λ j. rw (so-many a 16 t, at, wait-words)) w
 
--- ---- the four together
-
-module _ (L : Layout) (t : List ℕ) (h : ℕ) (m : List ℕ) where
-  pub hub-kind-no : kindTest L t h ≡ false → Marked false (hubRight L t h) (waitsOf L t h) m m
-  unfolding hubRight
-  hub-kind-no e = marked-no (rw e)
-
-  pub hub-store-no : kindTest L t h ≡ true → storeTest L t h ≡ false → Marked false (hubRight L t h) (waitsOf L t h) m m
-  unfolding hubRight
-  hub-store-no a e = marked-no (rw (a, e))
-
-  pub hub-owner-no : kindTest L t h ≡ true → storeTest L t h ≡ true → ownerTest L t h ≡ false → Marked false (hubRight L t h) (waitsOf L t h) m m
-  unfolding hubRight
-  hub-owner-no a b e = marked-no (rw (a, b, e))
-
-  pub hub-queue : kindTest L t h ≡ true → storeTest L t h ≡ true → ownerTest L t h ≡ true → {r : Bool} {n : List ℕ} → Marked r (queueTest L t h) (waitsOf L t h) m n → Marked r (hubRight L t h) (waitsOf L t h) m n
-  unfolding hubRight
-  hub-queue a b o w = marked-as (rw (a, b, o)) (λ j. refl) w
-
--- ---- the hubs below h, with the marks so far
+-- ---- the lists of the hubs below h, with the marks so far
 
 pub record Passing (L : Layout) (t m₀ m : List ℕ) (h : ℕ) : Type 0 where
   pub inside : h ≤ getD t 2 0
   pub long : length m ≡ length m₀
-  pub right : forAll h (hubRight L t) ≡ true
+  pub right : forAll h (queueTest L t) ≡ true
   pub marks : (j : ℕ) → getD m j 0 ≡ getD m₀ j 0 + metAt (read L t) h j
 
 module _ (L : Layout) (t m₀ : List ℕ) where
-  abbrev hubs : Bool
-  hubs = forAll (getD t 2 0) (hubRight L t)
+  abbrev queues : Bool
+  queues = forAll (getD t 2 0) (queueTest L t)
 
   abbrev met : ℕ → ℕ
   met = metAt (read L t) (getD t 2 0)
@@ -220,7 +202,7 @@ module _ (L : Layout) (t m₀ : List ℕ) where
 
   pub passing-begin : Passing L t m₀ m₀ 0
   unfolding metAt
-  passing-begin = record { inside = zero-le; long = refl; right = forAll-none (hubRight L t); marks = λ j. sym (add-zero (getD m₀ j 0)) }
+  passing-begin = record { inside = zero-le; long = refl; right = forAll-none (queueTest L t); marks = λ j. sym (add-zero (getD m₀ j 0)) }
 
   module _ (m : List ℕ) (h : ℕ) (w : Passing L t m₀ m h) where
     pub passing-low : {ts : ℕ} → Used ts t → Marks 16 m₀ → h < getD t 2 0 → Marks 256 m
@@ -229,7 +211,7 @@ module _ (L : Layout) (t m₀ : List ℕ) where
       low = λ j. omega (arith, w .marks j, ok .low j, met-le h (w .inside) j, o .hubs);
     }
 
-    pub passing-end : getD t 2 0 ≤ h → Marked true hubs met m₀ m
+    pub passing-end : getD t 2 0 ≤ h → Marked true queues met m₀ m
     passing-end u =
         let q : h ≡ getD t 2 0 = omega (arith, w .inside) in
         record {
@@ -238,10 +220,10 @@ module _ (L : Layout) (t m₀ : List ℕ) where
           marks = λ f j. rw q at (w .marks j);
         }
 
-    module _ (u : h < getD t 2 0) (r : Bool) (n : List ℕ) (g : Marked r (hubRight L t h) (λ j. occ j (hub (read L t) h .waiters)) m n) where
-      pub passing-no : r ≡ false → Marked false hubs met m₀ n
+    module _ (u : h < getD t 2 0) (r : Bool) (n : List ℕ) (g : Marked r (queueTest L t h) (λ j. occ j (hub (read L t) h .waiters)) m n) where
+      pub passing-no : r ≡ false → Marked false queues met m₀ n
       passing-no e = record {
-        right = sym (forAll-fail (hubRight L t) (getD t 2 0) h u (sym (g .right) ∙ e));
+        right = sym (forAll-fail (queueTest L t) (getD t 2 0) h u (sym (g .right) ∙ e));
         long = g .long ∙ w .long;
         marks = λ f. absurd (false≢true f);
       }
@@ -251,6 +233,25 @@ module _ (L : Layout) (t m₀ : List ℕ) where
       passing-step e = record {
         inside = omega arith;
         long = g .long ∙ w .long;
-        right = forAll-step (hubRight L t) h (w .right) (sym (g .right) ∙ e);
+        right = forAll-step (queueTest L t) h (w .right) (sym (g .right) ∙ e);
         marks = λ j. rw add-one (omega (arith, g .marks e j, w .marks j));
       }
+
+-- ---- all hubs: what stands in their records and stores, and their lists
+
+hub-parts : (L : Layout) (t : List ℕ) (h : ℕ) → hubRight L t h ≡ (bodyTest L t h && queueTest L t h)
+unfolding bodyTest hubRight
+hub-parts L t h =
+    boolCase (kindTest L t h)
+    (λ b. rw b (sym (and-assoc (storeTest L t h) (ownerTest L t h) (queueTest L t h))))
+    (λ b. rw b)
+
+hubs-parts : (L : Layout) (t : List ℕ) → forAll (getD t 2 0) (hubRight L t) ≡ (forAll (getD t 2 0) (bodyTest L t) && forAll (getD t 2 0) (queueTest L t))
+hubs-parts L t = forAll-both (bodyTest L t) (queueTest L t) (hubRight L t) (hub-parts L t) (getD t 2 0)
+
+module _ (L : Layout) (t : List ℕ) {met : ℕ → ℕ} {m : List ℕ} where
+  pub hubs-no : forAll (getD t 2 0) (bodyTest L t) ≡ false → Marked false (forAll (getD t 2 0) (hubRight L t)) met m m
+  hubs-no e = marked-no (hubs-parts L t ∙ rw e)
+
+  pub hubs-yes : forAll (getD t 2 0) (bodyTest L t) ≡ true → {r : Bool} {n : List ℕ} → Marked r (forAll (getD t 2 0) (queueTest L t)) met m n → Marked r (forAll (getD t 2 0) (hubRight L t)) met m n
+  hubs-yes e w = marked-as (sym (hubs-parts L t ∙ rw e)) (λ j. refl) w

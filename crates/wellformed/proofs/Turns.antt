@@ -1,23 +1,24 @@
 -- A turn of each loop of this crate, and its end. In order: a list's walk by the word at its place; an entry by its task's
--- words; a task's record by its words; the marks; a walk of 16 words (`Walking`); a test of every number.
+-- words; a task's record by its words and by its state; the marks; a walk of 16 words (`Walking`); a test of every number.
 -- Not here: laws of `packed`, `allZero` and `numbers` alone (crate lists); the hubs (Hubs.antt). Assumes nothing.
 use Prim.Native.Nat.{_*_, _+_, _-_, _<_, _≤_, pred, suc, zero, zero-le, ℕ}
 use Rattle.lists.proofs.Laws.{boolCase, length-numbers}
 use Rattle.lists.specs.Lists.{allZero, bit, numbers, occ}
 use Rattle.messages.proofs.Laws.{at-one, at-two}
 use Rattle.messages.specs.Messages.{messageAt}
-use Rattle.rules.proofs.Cases.{and-l}
+use Rattle.rules.proofs.Cases.{and-l, and-r}
 use Rattle.rules.proofs.Layouts.{Laid}
+use Rattle.rules.proofs.Numbers.{no-stage}
 use Rattle.rules.proofs.Reading.{read-hub, read-task, read-tasks}
-use Rattle.rules.specs.Table.{Hub, Layout, State, Task, hub, hubAt, hubsAt, read, stageOf, task, taskAt, taskSize, tasksAt}
+use Rattle.rules.specs.Table.{Hub, Layout, Ready, State, Task, Waiting, hub, hubAt, hubsAt, read, stageOf, task, taskAt, taskSize, tasksAt}
 use Rattle.rules.specs.WellFormed.{fieldsRight, forAll, stageRight}
 use Rattle.wellformed.proofs.Parts.{so-many, to-end}
-use Rattle.wellformed.specs.Walks.{Marked, Marks, listed, meets, recordOf, recordRight, taskRight, walks}
+use Rattle.wellformed.specs.Walks.{Marked, Marks, listed, meets, recordOf, recordRight, restRight, taskRight, walks}
 use borrow.Author.Tests.{eq-eqb, eqb-false, eqb-true, le-leb, leb-true, lt-leb, ltb-false, ltb-true, ne-eqb}
 use lib.Dec.{eqb, leb, ltb}
 use lib.ListN.{drop, drop-of-length-le, getD, length, length-set, set, take}
 use lib.Seq.{drop-cons, getD-drop, getD-set-other, getD-set-same, getD-take}
-use mathlib.Core.Bool.{Bool, _&&_, and-false, false, false≢true, not, true}
+use mathlib.Core.Bool.{Bool, _&&_, _||_, and-assoc, and-false, and-self, and-true, false, false≢true, not, or-true, true}
 use mathlib.Core.List.{List, [], _∷_}
 use mathlib.Core.Path.{_∙_, _≡_, ap, refl, sym}
 use native.Mathlib.Nat.{add-assoc, add-zero, not-suc-le-zero}
@@ -84,6 +85,14 @@ meets-far L t a d owner p e h = rw (read-tasks L t, lt-leb e (getD t 1 0) h)
 
 -- ---- a task's record by its words, and the kind of the hub that it names
 
+or-l : (a b : Bool) → (a || b) ≡ false → a ≡ false
+or-l true b e = e
+or-l false b e = refl
+
+or-r : (a b : Bool) → (a || b) ≡ false → b ≡ false
+or-r true b e = absurd (false≢true (sym e))
+or-r false b e = e
+
 pub hub-kind : (L : Layout) (t : List ℕ) (n b : ℕ) → (n ≡ 0 → ⊥) → n ≤ getD t 2 0 → b + 4 ≡ hubsAt L + n * 4 → hub (read L t) (pred n) .kind ≡ getD t b 0
 unfolding hubAt
 hub-kind L t n b z u at =
@@ -132,6 +141,9 @@ module _ {ts : ℕ} (L : Layout) (y : Laid ts L) (t : List ℕ) (i b : ℕ) (u :
   unfolding taskRight
   record-task mark = rw (read-task L t i u, so-many b ts t) (ap (λ (x : Task). recordRight (read L t) x mark) same)
 
+beyond : (n : ℕ) → (n ≡ 1 → ⊥) → (n ≡ 2 → ⊥) → (n ≡ 3 → ⊥) → (n ≡ 4 → ⊥) → 1 ≤ n → 4 < n
+beyond n a b c d h = omega arith
+
 module _ (s : State) (x : Task) (mark : ℕ) where
   pub record-range : fieldsRight x ≡ false → recordRight s x mark ≡ false
   unfolding recordRight
@@ -140,6 +152,126 @@ module _ (s : State) (x : Task) (mark : ℕ) where
   pub record-stage : fieldsRight x ≡ true → (n : ℕ) → x .state ≡ n → recordRight s x mark ≡ (stageRight (stageOf n) s x && eqb mark (listed n))
   unfolding recordRight
   record-stage e n q = rw (e, q)
+
+  -- one that isn't marked once, and is neither inactive nor asleep
+  pub record-neither : fieldsRight x ≡ true → (mark ≡ 1 → ⊥) → (x .state ≡ 1 → ⊥) → (x .state ≡ 4 → ⊥) → recordRight s x mark ≡ false
+  unfolding recordRight stageRight
+  record-neither e m i k =
+      boolCase (eqb (x .state) 2 || eqb (x .state) 3)
+      (λ b. rw (b, ne-eqb mark 1 m, and-false, and-false))
+      (λ b.
+      let u = eqb-false (x .state) 2 (or-l _ _ b) in
+      let v = eqb-false (x .state) 3 (or-r (eqb (x .state) 2) _ b) in
+      rw (no-stage (x .state) (beyond (x .state) i u v k), and-false))
+
+-- ---- a task that is marked once: flag and priority, then what is left, by its state
+
+two-no : (a b r : Bool) → (a && b) ≡ false → (a && (b && r)) ≡ false
+two-no true b r e = rw e
+two-no false b r e = refl
+
+three-no : (a b c r : Bool) → (a && (b && c)) ≡ false → (a && (b && (c && r))) ≡ false
+three-no true b c r e = two-no b c r e
+three-no false b c r e = refl
+
+module _ (s : State) (x : Task) where
+  abbrev flags : Bool
+  flags = leb (x .suspended) 1 && leb (x .priority) 255
+
+  pub listed-no : flags ≡ false → recordRight s x 1 ≡ false
+  unfolding fieldsRight recordRight
+  listed-no e = rw (two-no (leb (x .suspended) 1) (leb (x .priority) 255) (leb (x .ticks) 1000000 && leb (x .answer) 3) e)
+
+  pub listed-as : flags ≡ true → (n : ℕ) → x .state ≡ n → listed n ≡ 1 → recordRight s x 1 ≡ restRight (stageOf n) s x
+  unfolding fieldsRight recordRight restRight
+  listed-as e n q w =
+      ap (λ (k : ℕ). fieldsRight x && (stageRight (stageOf k) s x && eqb 1 (listed k))) q
+      ∙ rw
+      (and-l (leb (x .suspended) 1) (leb (x .priority) 255) e, and-r (leb (x .suspended) 1) (leb (x .priority) 255) e, w, and-true)
+      (and-assoc (leb (x .ticks) 1000000) (leb (x .answer) 3) (stageRight (stageOf n) s x))
+
+  pub listed-neither : (x .state ≡ 2 → ⊥) → (x .state ≡ 3 → ⊥) → recordRight s x 1 ≡ false
+  unfolding recordRight
+  listed-neither a b = rw (ne-eqb (x .state) 2 a, ne-eqb (x .state) 3 b, and-false, and-false)
+
+  -- a ready one
+  abbrev still : Bool
+  still = eqb (x .hub) 0 && (eqb (x .ticks) 0 && eqb (x .side) 0)
+
+  pub ready-no : still ≡ false → restRight Ready s x ≡ false
+  unfolding restRight stageRight
+  ready-no e =
+      rw
+      (three-no (eqb (x .hub) 0) (eqb (x .ticks) 0) (eqb (x .side) 0) (eqb (x .answer) 1 || eqb (x .word) 0) e, and-false, and-false)
+
+  module _ (e : still ≡ true) where
+    ready-as : restRight Ready s x ≡ (leb (x .answer) 3 && (eqb (x .answer) 1 || eqb (x .word) 0))
+    unfolding restRight stageRight
+    ready-as =
+        let h = and-l (eqb (x .hub) 0) _ e in
+        let r = and-r (eqb (x .hub) 0) _ e in
+        let k = and-l (eqb (x .ticks) 0) _ r in
+        let z = eqb-true (x .ticks) 0 k in
+        rw
+        (le-leb (x .ticks) 1000000 (omega (arith, z)), h, k, and-r (eqb (x .ticks) 0) _ r)
+
+    pub ready-met : x .answer ≡ 1 → restRight Ready s x ≡ true
+    ready-met a = ready-as ∙ rw a
+
+    pub ready-far : 3 < x .answer → restRight Ready s x ≡ false
+    ready-far a = ready-as ∙ rw (lt-leb (x .answer) 3 a)
+
+    pub ready-bare : x .answer ≤ 3 → (x .answer ≡ 1 → ⊥) → restRight Ready s x ≡ eqb (x .word) 0
+    ready-bare a n = ready-as ∙ rw (le-leb (x .answer) 3 a, ne-eqb (x .answer) 1 n)
+
+  -- one that waits
+  pub waiting-long : 1000000 < x .ticks → restRight Waiting s x ≡ false
+  unfolding restRight
+  waiting-long a = rw (lt-leb (x .ticks) 1000000 a)
+
+  module _ (a : x .ticks ≤ 1000000) where
+    waiting-none : eqb (x .answer) 0 ≡ false → stageRight Waiting s x ≡ false
+    unfolding stageRight
+    waiting-none b = rw (b, and-false, and-false)
+
+    pub waiting-as : restRight Waiting s x ≡ stageRight Waiting s x
+    unfolding restRight
+    waiting-as =
+        rw (le-leb (x .ticks) 1000000 a)
+        (boolCase (eqb (x .answer) 0)
+        (λ b. let z = eqb-true (x .answer) 0 b in rw (le-leb (x .answer) 3 (omega (arith, z))))
+        (λ b. rw (waiting-none b, and-false)))
+
+    pub waiting-bare : eqb (x .word) 0 ≡ true → restRight Waiting s x ≡ ((leb 1 (x .hub) && leb (x .hub) (length (s .hubs))) && ((leb 1 (x .side) && leb (x .side) 2) && eqb (x .answer) 0))
+    unfolding stageRight
+    waiting-bare e = waiting-as ∙ rw (e, or-true, and-true)
+
+-- ---- the message of a record is 0
+
+sum-none : (a b : ℕ) → (eqb a 0 && eqb b 0) ≡ eqb (a + 4294967296 * b) 0
+sum-none a b =
+    boolCase (eqb b 0)
+    (λ e.
+    let z = eqb-true b 0 e in
+    let q : a + 4294967296 * b ≡ a = omega (arith, z) in
+    rw (e, and-true, q))
+    (λ e. let n = eqb-false b 0 e in rw (e, and-false, ne-eqb (a + 4294967296 * b) 0 (λ z. n (omega (arith, z)))))
+
+pub word-none : {ts : ℕ} (L : Layout) → Laid ts L → (l : List ℕ) → 8 ≤ ts → ts ≤ 9 → (eqb (getD l 6 0) 0 && eqb (getD l (ts - 2) 0) 0) ≡ eqb (recordOf L l .word) 0
+word-none {ts} L y l low high =
+    boolCase (ltb 1 (L .width))
+    (λ b.
+    let h = ltb-true 1 (L .width) b in
+    let q : ts - 2 ≡ 7 = omega (arith, y .size) in
+    rw q (sum-none (getD l 6 0) (getD l 7 0)) ∙ ap (λ (n : ℕ). eqb n 0) (sym (y .reads l 6 ∙ at-two (L .width) h l 6)))
+    (λ b.
+    let h = ltb-false 1 (L .width) b in
+    let q : ts - 2 ≡ 6 = omega (arith, y .size) in
+    rw q (and-self (eqb (getD l 6 0) 0)) ∙ ap (λ (n : ℕ). eqb n 0) (sym (y .reads l 6 ∙ at-one (L .width) h l 6)))
+
+-- its answer stands last
+pub answer-last : {ts : ℕ} (L : Layout) → Laid ts L → (l : List ℕ) → getD l (ts - 1) 0 ≡ recordOf L l .answer
+answer-last {ts} L y l = ap (λ (k : ℕ). getD l k 0) (omega (arith, y .size))
 
 -- ---- the marks
 
@@ -240,3 +372,14 @@ forAll-step p k a e = rw (add-one, e, a)
 
 pub forAll-end : (p : ℕ → Bool) (n k : ℕ) → k ≤ n → n ≤ k → forAll k p ≡ true → forAll n p ≡ true
 forAll-end p n k a b e = let q : n ≡ k = omega arith in rw (q, e)
+
+pub forAll-both : (p q r : ℕ → Bool) → ((k : ℕ) → r k ≡ (p k && q k)) → (n : ℕ) → forAll n r ≡ (forAll n p && forAll n q)
+unfolding forAll
+forAll-both p q r e zero = refl
+forAll-both p q r e (suc n) = rw (e n, forAll-both p q r e n) (four (p n) (q n) (forAll n p) (forAll n q))
+  where
+    four : (a b c d : Bool) → ((a && b) && (c && d)) ≡ ((a && c) && (b && d))
+    four false b c d = refl
+    four true b true d = refl
+    four true true false d = refl
+    four true false false d = refl

@@ -3,7 +3,7 @@
 use Prim.Native.Nat.{_+_, _≤_, pred, suc, zero, ℕ}
 use Rattle.lists.specs.Lists.{allZero, bit, occ}
 use Rattle.records.specs.Records.{tableSize}
-use Rattle.rules.specs.Table.{Hub, Layout, State, Task, hub, kindOf, read, stageOf, storePart, task, taskFrom, waitPart}
+use Rattle.rules.specs.Table.{Hub, Layout, Stage, State, Task, hub, kindOf, read, stageOf, storePart, task, taskFrom, waitPart}
 use Rattle.rules.specs.WellFormed.{fieldsRight, kindRight, ownerRight, stageRight, storeRight}
 use lib.Dec.{eqb, leb}
 use lib.ListN.{getD, length}
@@ -66,7 +66,7 @@ queueRight s h x l =
     && (may (task s (pred (getD l 0 0)) .side) (x .kind) (x .count) (x .limit)
     && walks s (suc h) (task s (pred (getD l 0 0)) .side) (ownerOf (x .kind) (x .count)) 0 l))
 
--- a hub of the table: its record, its store, its owner, its list, and all four
+-- a hub of the table: its record, its store, its owner, its list; all but its list, and all four
 unfoldable pub kindTest : Layout → List ℕ → ℕ → Bool
 kindTest L t h = kindRight (kindOf (hub (read L t) h .kind)) (getD t 1 0) (hub (read L t) h)
 
@@ -78,6 +78,9 @@ ownerTest L t h = ownerRight (read L t) (hub (read L t) h)
 
 unfoldable pub queueTest : Layout → List ℕ → ℕ → Bool
 queueTest L t h = queueRight (read L t) h (hub (read L t) h) (waitPart L t h)
+
+unfoldable pub bodyTest : Layout → List ℕ → ℕ → Bool
+bodyTest L t h = kindTest L t h && (storeTest L t h && ownerTest L t h)
 
 unfoldable pub hubRight : Layout → List ℕ → ℕ → Bool
 hubRight L t h = kindTest L t h && (storeTest L t h && (ownerTest L t h && queueTest L t h))
@@ -92,6 +95,16 @@ metAt s zero j = 0
 metAt s (suc n) j = metAt s n j + occ j (hub s n .waiters)
 
 -- ---- a task
+
+-- the words of a task's record
+pub record Row (ts : ℕ) (l : List ℕ) : Type 0 where
+  pub low : 8 ≤ ts
+  pub high : ts ≤ 9
+  pub long : length l ≡ ts
+
+-- what is left to test of a record, once its flag and its priority are right, by the state that it names
+unfoldable pub restRight : Stage → State → Task → Bool
+restRight g s x = leb (x .ticks) 1000000 && (leb (x .answer) 3 && stageRight g s x)
 
 -- a task stands in a list where it is ready or waits
 abbrev pub listed : ℕ → ℕ

@@ -24,9 +24,9 @@ ghost use Prim.Native.Nat.{_<_, _≤_};
 ghost use Rattle.lists.specs.Lists.{numbers, occ};
 ghost use Rattle.records.specs.Records.{Table};
 ghost use Rattle.rules.proofs.Layouts.{Laid};
-ghost use Rattle.rules.specs.Table.{Layout, Task, Waiting, read};
+ghost use Rattle.rules.specs.Table.{Layout, Ready, State, Task, Waiting, read};
 ghost use Rattle.rules.specs.WellFormed.{contentsRight, forAll, stageRight, unusedZero, wellFormedIn, zeroFrom};
-ghost use Rattle.wellformed.specs.Walks.{Marked, Marks, Used, hubRight, kindTest, may, meets, metAt, ownerOf, ownerTest, queueTest, recordOf, recordRight, storeTest, taskRight, waitsOf, walks};
+ghost use Rattle.wellformed.specs.Walks.{Marked, Marks, Row, Used, bodyTest, hubRight, kindTest, may, meets, metAt, ownerOf, ownerTest, queueTest, recordOf, recordRight, restRight, storeTest, taskRight, waitsOf, walks};
 ghost use lib.Dec.{eqb, leb};
 ghost use lib.ListN.{getD, length};
 ghost use mathlib.Core.Bool.{_&&_, _||_, true};
@@ -203,7 +203,8 @@ fn owner_right(t: &[u32], ts: usize, h: usize) -> bool
     t[records::task_at(ts, TaskNo((owner - 1) as usize)) + STATE] != rules::INACTIVE
 }
 
-// Hub h's list: the first entry's side may wait, and no entry is on the other.
+// Hub h's list: empty, or the first entry's side may wait, and no entry is on the other. Most lists are empty, so that comes
+// first, as a test of the whole list.
 fn queue_right(t: &[u32], ts: usize, h: usize, marks: &mut [u32; 16]) -> bool
     requires { ⌜ Used ts (now t) ⌝ }
     requires { ⌜ h < getD (now t) 2 0 ⌝ }
@@ -214,9 +215,12 @@ fn queue_right(t: &[u32], ts: usize, h: usize, marks: &mut [u32; 16]) -> bool
 {
     let at = records::waits_at(ts, HubNo(h));
     let list = &t[at..at + LIST_SIZE];
+    if lists::zeros(list) {
+        return true;
+    }
     let e = list[0];
     if e == 0 {
-        return lists::zeros(list);
+        return false;
     }
     if e > t[TASKS] {
         return false;
@@ -239,14 +243,11 @@ fn queue_right(t: &[u32], ts: usize, h: usize, marks: &mut [u32; 16]) -> bool
     )
 }
 
-// Hub h: its record, its store, its owner and its list.
-fn hub_right(t: &[u32], ts: usize, h: usize, marks: &mut [u32; 16]) -> bool
+// Hub h but for its list: its record, its store and its owner.
+fn body_right(t: &[u32], ts: usize, h: usize) -> bool
     requires { ⌜ Used ts (now t) ⌝ }
     requires { ⌜ h < getD (now t) 2 0 ⌝ }
-    requires { ⌜ Marks 256 (now marks) ⌝ }
-    ensures { λ r. ⌜ ((L : Layout) → Laid ts L
-        → Marked r (hubRight L (now (t .entry)) h) (waitsOf L (now (t .entry)) h)
-        (now (marks .entry)) (now (marks .exit))) ⌝ }
+    ensures { λ r. ⌜ ((L : Layout) → Laid ts L → r ≡ bodyTest L (now (t .entry)) h) ⌝ }
 {
     if !kind_right(t, ts, h) {
         return false;
@@ -254,13 +255,47 @@ fn hub_right(t: &[u32], ts: usize, h: usize, marks: &mut [u32; 16]) -> bool
     if !store_right(t, ts, h) {
         return false;
     }
-    if !owner_right(t, ts, h) {
-        return false;
-    }
-    queue_right(t, ts, h, marks)
+    owner_right(t, ts, h)
 }
 
-// All hubs in use.
+// All hubs in use, but for their lists.
+fn bodies_right(t: &[u32], ts: usize) -> bool
+    requires { ⌜ Used ts (now t) ⌝ }
+    ensures { λ r. ⌜ ((L : Layout) → Laid ts L
+        → r ≡ forAll (getD (now (t .entry)) 2 0) (bodyTest L (now (t .entry)))) ⌝ }
+{
+    let m = t[HUBS] as usize;
+    let mut h = 0;
+    while h < m {
+        if !body_right(t, ts, h) {
+            return false;
+        }
+        h += 1;
+    }
+    true
+}
+
+// The lists of all hubs in use.
+fn queues_right(t: &[u32], ts: usize, marks: &mut [u32; 16]) -> bool
+    requires { ⌜ Used ts (now t) ⌝ }
+    requires { ⌜ Marks 16 (now marks) ⌝ }
+    ensures { λ r. ⌜ ((L : Layout) → Laid ts L
+        → Marked r (forAll (getD (now (t .entry)) 2 0) (queueTest L (now (t .entry))))
+        (metAt (read L (now (t .entry))) (getD (now (t .entry)) 2 0)) (now (marks .entry)) (now (marks .exit))) ⌝ }
+{
+    let m = t[HUBS] as usize;
+    let mut h = 0;
+    while h < m {
+        if !queue_right(t, ts, h, marks) {
+            return false;
+        }
+        h += 1;
+    }
+    true
+}
+
+// All hubs in use: first what stands in their records and stores, then their lists, in a loop each: in one loop the compiler
+// keeps more places at hand than it has registers for.
 fn hubs_right(t: &[u32], ts: usize, marks: &mut [u32; 16]) -> bool
     requires { ⌜ Used ts (now t) ⌝ }
     requires { ⌜ Marks 16 (now marks) ⌝ }
@@ -268,15 +303,10 @@ fn hubs_right(t: &[u32], ts: usize, marks: &mut [u32; 16]) -> bool
         → Marked r (forAll (getD (now (t .entry)) 2 0) (hubRight L (now (t .entry))))
         (metAt (read L (now (t .entry))) (getD (now (t .entry)) 2 0)) (now (marks .entry)) (now (marks .exit))) ⌝ }
 {
-    let m = t[HUBS] as usize;
-    let mut h = 0;
-    while h < m {
-        if !hub_right(t, ts, h, marks) {
-            return false;
-        }
-        h += 1;
+    if !bodies_right(t, ts) {
+        return false;
     }
-    true
+    queues_right(t, ts, marks)
 }
 
 // "Inactive: all but state and priority 0."
@@ -285,13 +315,6 @@ fn inactive_right(suspended: u32, hub: u32, ticks: u32, side: u32, word: u64, an
         && (eqb hub 0 && (eqb ticks 0 && (eqb side 0 && (eqb word 0 && eqb answer 0))))) ⌝ }
 {
     (suspended == 0) & ((hub == 0) & ((ticks == 0) & ((side == 0) & ((word == 0) & (answer == 0)))))
-}
-
-// "Ready: hub, ticks and side 0; word 0 unless the answer is 1."
-fn ready_right(hub: u32, ticks: u32, side: u32, word: u64, answer: u32) -> bool
-    ensures { λ r. ⌜ r ≡ (eqb hub 0 && (eqb ticks 0 && (eqb side 0 && (eqb answer 1 || eqb word 0)))) ⌝ }
-{
-    (hub == 0) & ((ticks == 0) & ((side == 0) & ((answer == rules::OK) | (word == 0))))
 }
 
 // "Sleeping: hub, side, word and answer 0, ticks at least 1."
@@ -324,20 +347,82 @@ fn waiting_right(t: &[u32], ts: usize, hub: u32, side: u32, word: u64, answer: u
                 | (word == 0)))
 }
 
-// A task's record, by its state, and its mark: once if it is ready or waits, else not at all.
-fn task_right(t: &[u32], ts: usize, x: &[u32], mark: u32) -> bool
-    requires { ⌜ Used ts (now t) ⌝ }
-    requires { ⌜ length (now x) ≡ ts ⌝ }
-    ensures { λ r. ⌜ ((L : Layout) → Laid ts L
-        → r ≡ recordRight (read L (now (t .entry))) (recordOf L (now (x .entry))) mark) ⌝ }
+// The message of a task's record is 0. The word before the answer is its last, so no edition is asked for.
+fn wordless(x: &[u32], ts: usize) -> bool
+    requires { ⌜ Row ts (now x) ⌝ }
+    ensures { λ r. ⌜ ((L : Layout) → Laid ts L → r ≡ eqb (recordOf L (now (x .entry)) .word) 0) ⌝ }
 {
-    let w = records::width_of(ts);
+    (x[WORD] == 0) & (x[ts - 2] == 0)
+}
+
+// "Ready: hub, ticks and side 0; word 0 unless the answer is 1."
+fn ready_right(x: &[u32], ts: usize) -> bool
+    requires { ⌜ Row ts (now x) ⌝ }
+    ensures { λ r. ⌜ ((L : Layout) (s : State) → Laid ts L → r ≡ restRight Ready s (recordOf L (now (x .entry)))) ⌝ }
+{
+    if !((x[HUB] == 0) & ((x[TICKS] == 0) & (x[SIDE] == 0))) {
+        return false;
+    }
+    let answer = x[ts - 1];
+    if answer == rules::OK {
+        return true;
+    }
+    if answer > rules::TIMED_OUT {
+        return false;
+    }
+    wordless(x, ts)
+}
+
+// A waiting task. Most bear no word, so their hub's kind isn't asked for.
+fn waiting_task(t: &[u32], ts: usize, x: &[u32]) -> bool
+    requires { ⌜ Used ts (now t) ⌝ }
+    requires { ⌜ Row ts (now x) ⌝ }
+    ensures { λ r. ⌜ ((L : Layout) → Laid ts L
+        → r ≡ restRight Waiting (read L (now (t .entry))) (recordOf L (now (x .entry)))) ⌝ }
+{
+    if x[TICKS] > rules::MOST_TICKS {
+        return false;
+    }
+    let hub = x[HUB];
+    let side = x[SIDE];
+    let answer = x[ts - 1];
+    if !wordless(x, ts) {
+        let word = messages::message(x, WORD, records::width_of(ts));
+        return waiting_right(t, ts, hub, side, word, answer);
+    }
+    ((1 <= hub) & (hub <= t[HUBS]))
+        & (((rules::PUT <= side) & (side <= rules::GET)) & (answer == 0))
+}
+
+// The record of a task that stands in one list once: it is ready or waits.
+fn listed_right(t: &[u32], ts: usize, x: &[u32]) -> bool
+    requires { ⌜ Used ts (now t) ⌝ }
+    requires { ⌜ Row ts (now x) ⌝ }
+    ensures { λ r. ⌜ ((L : Layout) → Laid ts L
+        → r ≡ recordRight (read L (now (t .entry))) (recordOf L (now (x .entry))) 1) ⌝ }
+{
+    if !((x[SUSPENDED] <= 1) & (x[PRIORITY] <= rules::LAST_PRIORITY)) {
+        return false;
+    }
+    match x[STATE] {
+        rules::READY => ready_right(x, ts),
+        rules::WAITING => waiting_task(t, ts, x),
+        _ => false,
+    }
+}
+
+// The record of any other: it is inactive or sleeps, and stands in none.
+fn idle_right(x: &[u32], ts: usize, mark: u32) -> bool
+    requires { ⌜ Row ts (now x) ⌝ }
+    requires { ⌜ (mark ≡ 1 → ⊥) ⌝ }
+    ensures { λ r. ⌜ ((L : Layout) (s : State) → Laid ts L → r ≡ recordRight s (recordOf L (now (x .entry))) mark) ⌝ }
+{
     let suspended = x[SUSPENDED];
     let hub = x[HUB];
     let ticks = x[TICKS];
     let side = x[SIDE];
-    let word = messages::message(x, WORD, w);
-    let answer = x[WORD + w];
+    let answer = x[ts - 1];
+    let word = messages::message(x, WORD, records::width_of(ts));
     if !((suspended <= 1)
         & ((x[PRIORITY] <= rules::LAST_PRIORITY)
             & ((ticks <= rules::MOST_TICKS) & (answer <= rules::TIMED_OUT)))) {
@@ -345,11 +430,22 @@ fn task_right(t: &[u32], ts: usize, x: &[u32], mark: u32) -> bool
     }
     match x[STATE] {
         rules::INACTIVE => inactive_right(suspended, hub, ticks, side, word, answer) & (mark == 0),
-        rules::READY => ready_right(hub, ticks, side, word, answer) & (mark == 1),
-        rules::WAITING => waiting_right(t, ts, hub, side, word, answer) & (mark == 1),
         rules::SLEEPING => sleeping_right(hub, ticks, side, word, answer) & (mark == 0),
         _ => false,
     }
+}
+
+// A task's record, by its mark: once if it is ready or waits, else not at all.
+fn task_right(t: &[u32], ts: usize, x: &[u32], mark: u32) -> bool
+    requires { ⌜ Used ts (now t) ⌝ }
+    requires { ⌜ length (now x) ≡ ts ⌝ }
+    ensures { λ r. ⌜ ((L : Layout) → Laid ts L
+        → r ≡ recordRight (read L (now (t .entry))) (recordOf L (now (x .entry))) mark) ⌝ }
+{
+    if mark == 1 {
+        return listed_right(t, ts, x);
+    }
+    idle_right(x, ts, mark)
 }
 
 // All tasks in use, each with its mark.

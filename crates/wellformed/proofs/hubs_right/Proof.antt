@@ -1,70 +1,29 @@
--- `wellformed::hubs_right` meets its contract. The loop's invariant is `Passing`, in every layout: the hubs so far are right,
--- and their lists are marked. Assumes nothing.
-use Prim.Native.Nat.{_-_}
-use Rattle.rules.proofs.Layouts.{Laid, in-some}
-use Rattle.rules.specs.Table.{Layout}
-use Rattle.wellformed.proofs.Hubs.{Passing, passing-begin, passing-end, passing-low, passing-no, passing-step}
+-- `wellformed::hubs_right` meets its contract: a hub is right if it is but for its list, and its list is. Assumes nothing.
+use Rattle.wellformed.proofs.Hubs.{hubs-no, hubs-yes}
 use Rattle.wellformed.proofs.hubs_right.Statement.{statement}
 use Rattle.wellformed.proofs.hubs_right.Tie as tie
 use borrow.Author.Needs.{needs}
 use borrow.Author.Tests.{not-false, not-true}
+use mathlib.Core.Path.{_∙_, sym}
 
-abbrev Inv-loop : tie.InvT-loop
-Inv-loop t ts marks₀ m h₀ marks h = (L : Layout) → Laid ts L → Passing L t marks₀ marks h
+bodies-right-requires : tie.Need-bodies-right-requires
+bodies-right-requires c κs = search needs
 
-abbrev μ-loop : tie.MeasureT-loop
-μ-loop t ts marks₀ m h₀ marks h = m - h
+returns : tie.Need-returns
+returns c L y = hubs-no L (c .before .before .before .args .t .now) (sym (c .before .bodies-right .ensures L y) ∙ not-true _ (c .if1 .taken))
 
-shared-slice-read-m : tie.Need-shared-slice-read-m Inv-loop μ-loop
-shared-slice-read-m c = search needs
+queues-right-requires : tie.Need-queues-right-requires
+queues-right-requires c κs = search needs
 
-cast-m : tie.Need-cast-m Inv-loop μ-loop
-cast-m c = search needs
-
-loop-holds : tie.Need-loop-holds Inv-loop μ-loop
-loop-holds c L y = passing-begin _ _ _
-
-hub-right-requires : tie.Need-hub-right-requires Inv-loop μ-loop
-hub-right-requires c κs =
-    let l = c .before .before .loop in
-    let b = c .before .before .before .before .before in
-    let u = c .before .loop-test .taken in
-    let low = in-some (b .args .ts) (b .pre .0 .low) (b .pre .0 .high) (λ L y. passing-low L _ _ (l .marks) (l .h) (l .inv L y) (b .pre .0) (b .pre .1) u) in
-    (b .pre .0, (u, low))
-
-returns : tie.Need-returns Inv-loop μ-loop
-returns c L y =
-    let l = c .before .before .before .before .loop in
-    passing-no L _ _ (l .marks) (l .h) (l .inv L y) (c .before .before .before .loop-test .taken) (c .before .hub-right .result) _ (c .before .hub-right .ensures L y) (not-true _ (c .if1 .taken))
-
-add-h : tie.Need-add-h Inv-loop μ-loop
-add-h c = search needs
-
-loop-less : tie.Need-loop-less Inv-loop μ-loop
-loop-less c = search needs
-
-loop-again : tie.Need-loop-again Inv-loop μ-loop
-loop-again c L y =
-    let l = c .before .before .before .before .loop in
-    passing-step L _ _ (l .marks) (l .h) (l .inv L y) (c .before .before .before .loop-test .taken) (c .before .hub-right .result) _ (c .before .hub-right .ensures L y) (not-false _ (c .if1 .left))
-
-returns-2 : tie.Need-returns-2 Inv-loop μ-loop
+returns-2 : tie.Need-returns-2
 returns-2 c L y =
-    let l = c .before .loop in
-    passing-end L _ _ (l .marks) (l .h) (l .inv L y) (c .loop-test .left)
+    hubs-yes L (c .before .before .before .before .before .args .t .now) (sym (c .before .before .before .bodies-right .ensures L y) ∙ not-false _ (c .before .before .if1 .left)) (c .queues-right .ensures L y)
 
 pub hubs-right-spec : {M : Type 1} → statement M
 hubs-right-spec =
     tie.close
     (tie.spec
-    Inv-loop
-    μ-loop
-    shared-slice-read-m
-    cast-m
-    loop-holds
-    hub-right-requires
+    bodies-right-requires
     returns
-    add-h
-    loop-less
-    loop-again
+    queues-right-requires
     returns-2)

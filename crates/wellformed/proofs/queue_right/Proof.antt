@@ -1,11 +1,13 @@
--- `wellformed::queue_right` meets its contract: the answer by the list's first word. Assumes nothing.
+-- `wellformed::queue_right` meets its contract: an empty list, else the answer by the list's first word. Assumes nothing.
 use Prim.Native.Nat.{_*_, _+_}
+use Rattle.lists.proofs.Padding.{allZero-at}
 use Rattle.wellformed.proofs.Hubs.{queue-as, queue-barred, queue-far, queue-none, queue-walked}
 use Rattle.wellformed.proofs.Parts.{lent-long}
 use Rattle.wellformed.proofs.queue_right.Statement.{statement}
 use Rattle.wellformed.proofs.queue_right.Tie as tie
 use borrow.Author.Needs.{needs}
 use borrow.Author.Tests.{not-false, not-true}
+use mathlib.Core.Bool.{false, true}
 use mathlib.Core.Path.{_∙_, sym}
 use native.Mathlib.Omega.{arith}
 
@@ -27,29 +29,38 @@ part-list-start c = search needs
 part-list-end : tie.Need-part-list-end
 part-list-end c = search needs
 
-shared-slice-read-e : tie.Need-shared-slice-read-e
-shared-slice-read-e c = search needs
-
 zeros-requires : tie.Need-zeros-requires
 zeros-requires c κs = search needs
 
 returns : tie.Need-returns
 returns c L y =
-    let b = c .before .before .before .before .before .before in
-    let a = c .before .before .before .before .waits-at in
+    let b = c .before .before .before .before .before in
+    let a = c .before .before .before .waits-at in
     let long = lent-long (b .args .t .now) (a .result) 16 (omega arith) in
+    let e = sym (c .before .zeros .ensures) ∙ c .if1 .taken in
     queue-as L (b .args .t .now) (b .args .h) (b .pre .1 .0) (a .result) (omega arith)
-    (queue-none L (b .args .t .now) (b .args .h) (b .pre .1 .0) _ (b .args .marks .now) (omega (arith, long)) (c .before .if1 .taken) (c .zeros .result) (c .zeros .ensures))
+    (queue-none L (b .args .t .now) (b .args .h) (b .pre .1 .0) _ (b .args .marks .now) (omega (arith, long)) (allZero-at _ 0 e) true (sym e))
 
-shared-slice-read-if2 : tie.Need-shared-slice-read-if2
-shared-slice-read-if2 c = search needs
+shared-slice-read-e : tie.Need-shared-slice-read-e
+shared-slice-read-e c = search needs
 
 returns-2 : tie.Need-returns-2
 returns-2 c L y =
     let b = c .before .before .before .before .before .before .before in
     let a = c .before .before .before .before .before .waits-at in
+    let long = lent-long (b .args .t .now) (a .result) 16 (omega arith) in
     queue-as L (b .args .t .now) (b .args .h) (b .pre .1 .0) (a .result) (omega arith)
-    (queue-far L (b .args .t .now) (b .args .h) (b .pre .1 .0) _ (b .args .marks .now) (c .before .before .if1 .left) (c .if2 .taken))
+    (queue-none L (b .args .t .now) (b .args .h) (b .pre .1 .0) _ (b .args .marks .now) (omega (arith, long)) (c .if2 .taken) false (sym (c .before .before .if1 .left) ∙ c .before .before .before .zeros .ensures))
+
+shared-slice-read-if3 : tie.Need-shared-slice-read-if3
+shared-slice-read-if3 c = search needs
+
+returns-3 : tie.Need-returns-3
+returns-3 c L y =
+    let b = c .before .before .before .before .before .before .before .before .before in
+    let a = c .before .before .before .before .before .before .before .waits-at in
+    queue-as L (b .args .t .now) (b .args .h) (b .pre .1 .0) (a .result) (omega arith)
+    (queue-far L (b .args .t .now) (b .args .h) (b .pre .1 .0) _ (b .args .marks .now) (c .before .before .if2 .left) (c .if3 .taken))
 
 sub-b : tie.Need-sub-b
 sub-b c = search needs
@@ -105,14 +116,14 @@ shared-slice-read-may-wait c = search needs
 may-wait-requires : tie.Need-may-wait-requires
 may-wait-requires c κs = search needs
 
-returns-3 : tie.Need-returns-3
-returns-3 c L y =
-    let b = c .before .before .before .before .before .before .before .before .before .before .before .before .before .before .before in
-    let a = c .before .before .before .before .before .before .before .before .before .before .before .before .before .waits-at in
+returns-4 : tie.Need-returns-4
+returns-4 c L y =
+    let b = c .before .before .before .before .before .before .before .before .before .before .before .before .before .before .before .before .before in
+    let a = c .before .before .before .before .before .before .before .before .before .before .before .before .before .before .before .waits-at in
     let p = c .before .before .before .before .before .before .before .task-at in
     let r = c .before .before .before .before .before .hubs-at in
     queue-as L (b .args .t .now) (b .args .h) (b .pre .1 .0) (a .result) (omega arith)
-    (queue-barred L (b .args .t .now) (b .args .h) (b .pre .1 .0) _ (b .args .marks .now) (c .before .before .before .before .before .before .before .before .before .before .if1 .left) y (p .result) (p .ensures .place) (r .result + b .args .h * 4) (omega arith) (c .before .before .before .before .before .before .before .before .if2 .left) (sym (c .before .may-wait .ensures) ∙ not-true _ (c .if3 .taken)))
+    (queue-barred L (b .args .t .now) (b .args .h) (b .pre .1 .0) _ (b .args .marks .now) (c .before .before .before .before .before .before .before .before .before .before .if2 .left) y (p .result) (p .ensures .place) (r .result + b .args .h * 4) (omega arith) (c .before .before .before .before .before .before .before .before .if3 .left) (sym (c .before .may-wait .ensures) ∙ not-true _ (c .if4 .taken)))
 
 add-walk : tie.Need-add-walk
 add-walk c = search needs
@@ -125,18 +136,18 @@ owner-of-requires c κs = search needs
 
 walk-requires : tie.Need-walk-requires
 walk-requires c κs =
-    let b = c .before .before .before .before .before .before .before .before .before .before .before .before .before .before .before .before .before in
-    let a = c .before .before .before .before .before .before .before .before .before .before .before .before .before .before .before .waits-at in
+    let b = c .before .before .before .before .before .before .before .before .before .before .before .before .before .before .before .before .before .before .before in
+    let a = c .before .before .before .before .before .before .before .before .before .before .before .before .before .before .before .before .before .waits-at in
     (b .pre .0, (lent-long (b .args .t .now) (a .result) 16 (omega arith), b .pre .1 .1))
 
-returns-4 : tie.Need-returns-4
-returns-4 c L y =
-    let b = c .before .before .before .before .before .before .before .before .before .before .before .before .before .before .before .before .before .before in
-    let a = c .before .before .before .before .before .before .before .before .before .before .before .before .before .before .before .before .waits-at in
+returns-5 : tie.Need-returns-5
+returns-5 c L y =
+    let b = c .before .before .before .before .before .before .before .before .before .before .before .before .before .before .before .before .before .before .before .before in
+    let a = c .before .before .before .before .before .before .before .before .before .before .before .before .before .before .before .before .before .before .waits-at in
     let p = c .before .before .before .before .before .before .before .before .before .before .task-at in
     let r = c .before .before .before .before .before .before .before .before .hubs-at in
     queue-as L (b .args .t .now) (b .args .h) (b .pre .1 .0) (a .result) (omega arith)
-    (queue-walked L (b .args .t .now) (b .args .h) (b .pre .1 .0) _ (b .args .marks .now) (c .before .before .before .before .before .before .before .before .before .before .before .before .before .if1 .left) y (p .result) (p .ensures .place) (r .result + b .args .h * 4) (omega arith) (c .before .before .before .before .before .before .before .before .before .before .before .if2 .left) (sym (c .before .before .before .before .may-wait .ensures) ∙ not-false _ (c .before .before .before .if3 .left)) (c .before .before .owner-of .result) (c .before .before .owner-of .ensures) (c .walk .ensures L y))
+    (queue-walked L (b .args .t .now) (b .args .h) (b .pre .1 .0) _ (b .args .marks .now) (c .before .before .before .before .before .before .before .before .before .before .before .before .before .if2 .left) y (p .result) (p .ensures .place) (r .result + b .args .h * 4) (omega arith) (c .before .before .before .before .before .before .before .before .before .before .before .if3 .left) (sym (c .before .before .before .before .may-wait .ensures) ∙ not-false _ (c .before .before .before .if4 .left)) (c .before .before .owner-of .result) (c .before .before .owner-of .ensures) (c .walk .ensures L y))
 
 pub queue-right-spec : {M : Type 1} → statement M
 queue-right-spec =
@@ -148,11 +159,12 @@ queue-right-spec =
     sub-list
     part-list-start
     part-list-end
-    shared-slice-read-e
     zeros-requires
     returns
-    shared-slice-read-if2
+    shared-slice-read-e
     returns-2
+    shared-slice-read-if3
+    returns-3
     sub-b
     cast-b
     task-at-requires
@@ -171,9 +183,9 @@ queue-right-spec =
     mul-may-wait
     shared-slice-read-may-wait
     may-wait-requires
-    returns-3
+    returns-4
     add-walk
     cast-walk
     owner-of-requires
     walk-requires
-    returns-4)
+    returns-5)
