@@ -4,7 +4,7 @@
 // Not here: what the words of a record mean (crate rules), and which records are in use.
 ghost use Prim.Native.Nat.{_*_, _+_, _-_, _<_, _≤_};
 ghost use Rattle.records.specs.Records.{RecordAt, RowAt, TaskRead, hubAt, hubWords, hubsAt, readyAt, storeSize, storesAt, tableSize, taskSizeOf, taskWords, waitsAt, width};
-ghost use lib.ListN.{getD, set};
+ghost use lib.ListN.{getD, length, set};
 ghost use lib.Seq.{sets};
 ghost use mathlib.Core.Path.{_≡_};
 
@@ -85,8 +85,20 @@ pub struct HubRecord {
     pub start: u32,
 }
 
-// The words from word p on.
-pub fn set_words(t: &mut [u32], p: usize, words: &[u32])
+// The words from word p on, where they end inside t.
+fn set_inside(t: &mut [u32], p: usize, words: &[u32])
+    requires { ⌜ p + length (now words) ≤ length (now t) ⌝ }
+    ensures { λ _. ⌜ now (t .exit) ≡ sets (now (t .entry)) p (now (words .entry)) ⌝ }
+{
+    let mut k = 0;
+    while k < words.len() {
+        t[p + k] = words[k];
+        k += 1;
+    }
+}
+
+// The words from word p on, as many as t has room for.
+fn set_across(t: &mut [u32], p: usize, words: &[u32])
     requires { ⌜ p ≤ 281474976710655 ⌝ }
     ensures { λ _. ⌜ now (t .exit) ≡ sets (now (t .entry)) p (now (words .entry)) ⌝ }
 {
@@ -94,6 +106,18 @@ pub fn set_words(t: &mut [u32], p: usize, words: &[u32])
     while k < words.len() {
         lists::set_word(t, p + k, words[k]);
         k += 1;
+    }
+}
+
+// The words from word p on. In a table they end inside it: one test then, none for each word.
+pub fn set_words(t: &mut [u32], p: usize, words: &[u32])
+    requires { ⌜ p ≤ 281474976710655 ⌝ }
+    ensures { λ _. ⌜ now (t .exit) ≡ sets (now (t .entry)) p (now (words .entry)) ⌝ }
+{
+    if p + words.len() <= t.len() {
+        set_inside(t, p, words);
+    } else {
+        set_across(t, p, words);
     }
 }
 

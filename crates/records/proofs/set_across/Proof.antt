@@ -1,8 +1,8 @@
--- `records::set_words` meets its contract. The loop's invariant: storing what is left from where it stands gives what was to be
+-- `records::set_across` meets its contract. The loop's invariant: storing what is left from where it stands gives what was to be
 -- given. Assumes nothing.
 use Prim.Native.Nat.{_+_, _-_, _≤_}
-use Rattle.records.proofs.set_words.Statement.{statement}
-use Rattle.records.proofs.set_words.Tie as tie
+use Rattle.records.proofs.set_across.Statement.{statement}
+use Rattle.records.proofs.set_across.Tie as tie
 use borrow.Author.Needs.{needs}
 use lib.ListN.{drop, drop-of-length-le, length, length-set}
 use lib.Seq.{drop-cons, sets}
@@ -52,8 +52,8 @@ same-length c = search needs
 returns : tie.Need-returns Inv-loop μ-loop
 returns c = rw (drop-of-length-le (c .before .before .before .before .args .words .now) (c .loop-test .left)) at (c .before .loop .inv .2)
 
-pub set-words-spec : {M : Type 1} → statement M
-set-words-spec =
+pub set-across-spec : {M : Type 1} → statement M
+set-across-spec =
     tie.close
     (tie.spec
     Inv-loop
