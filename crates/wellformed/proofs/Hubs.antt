@@ -9,16 +9,16 @@ use Rattle.rules.proofs.Numbers.{resource-number}
 use Rattle.rules.proofs.Reading.{read-hub, read-tasks}
 use Rattle.rules.proofs.Tests.{t-kind}
 use Rattle.rules.proofs.Valid.{Range}
-use Rattle.rules.specs.Table.{Board, Fifo, Hub, Layout, hub, hubAt, hubsAt, inactive, kindOf, read, storeSize, storesAt, task, waitPart, waitsAt}
+use Rattle.rules.specs.Table.{Board, Fifo, Hub, Layout, hub, hubAt, hubsAt, inactive, kindOf, read, storePart, storeSize, storesAt, task, waitPart, waitsAt}
 use Rattle.rules.specs.WellFormed.{forAll, kindRight, ownerRight, storeRight}
 use Rattle.wellformed.proofs.Parts.{so-many}
 use Rattle.wellformed.proofs.Turns.{entry-side, entry-state, forAll-both, forAll-fail, forAll-none, forAll-step, numbers-end, occ-le}
 use Rattle.wellformed.specs.Walks.{Marked, Marks, Used, bodyTest, hubRight, kindTest, may, metAt, ownerOf, ownerTest, queueRight, queueTest, storeTest, waitsOf, walks}
 use borrow.Author.Tests.{eq-eqb, eqb-true, le-leb, lt-leb, ne-eqb}
-use lib.Dec.{eqb}
+use lib.Dec.{eqb, eqb·suc-zero}
 use lib.ListN.{List·getD-eq-default, drop, getD, length, length-take, take}
 use mathlib.Core.Bool.{Bool, _&&_, _||_, and-assoc, cond, false, false≢true, not, true}
-use mathlib.Core.List.{List}
+use mathlib.Core.List.{List, [], _∷_}
 use mathlib.Core.Path.{_∙_, _≡_, ap, refl, sym}
 use native.Mathlib.Nat.{add-zero}
 use native.Mathlib.Numerals.{add-one}
@@ -62,6 +62,24 @@ module _ (L : Layout) where
 
   pub store-other : (n count : ℕ) (store : List ℕ) → stores n ≡ false → storeRight L (kindOf n) count store ≡ allZero store
   store-other n count store e = store-by n count store ∙ rw e
+
+-- a blank one is right at every kind
+zero-drop : (k : ℕ) (l : List ℕ) → allZero l ≡ true → allZero (drop k l) ≡ true
+unfolding allZero
+zero-drop zero l e = e
+zero-drop (suc k) [] e = refl
+zero-drop (suc k) (zero ∷ xs) e = zero-drop k xs e
+zero-drop (suc k) (suc x ∷ xs) e = absurd (false≢true (rw (eqb·suc-zero x) at e))
+
+pub store-part : (L : Layout) (t : List ℕ) (h a n : ℕ) → a ≡ storesAt L + h * storeSize L → n ≡ storeSize L → allZero (take (a + n - a) (drop a t)) ≡ allZero (storePart L t h)
+store-part L t h a n place long = rw (so-many a n t, place, long)
+
+pub store-none : (L : Layout) (t : List ℕ) (h : ℕ) → allZero (storePart L t h) ≡ true → storeTest L t h ≡ true
+unfolding storeTest
+store-none L t h e =
+    let x = hub (read L t) h in
+    store-by L (x .kind) (x .count) (storePart L t h)
+    ∙ boolCase (stores (x .kind)) (λ b. rw (b, zero-drop (x .count * L .width) (storePart L t h) e)) (λ b. rw (b, e))
 
 module _ (L : Layout) (t : List ℕ) (h : ℕ) (u : h < getD t 2 0) where
   pub wait-words : hub (read L t) h .waiters ≡ numbers (waitPart L t h)

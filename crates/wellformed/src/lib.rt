@@ -21,10 +21,10 @@ use records::TICKS;
 use records::TaskNo;
 use records::WORD;
 ghost use Prim.Native.Nat.{_<_, _≤_};
-ghost use Rattle.lists.specs.Lists.{numbers, occ};
+ghost use Rattle.lists.specs.Lists.{allZero, numbers, occ};
 ghost use Rattle.records.specs.Records.{Table};
 ghost use Rattle.rules.proofs.Layouts.{Laid};
-ghost use Rattle.rules.specs.Table.{Layout, Ready, State, Task, Waiting, read};
+ghost use Rattle.rules.specs.Table.{Layout, Ready, State, Task, Waiting, read, storePart};
 ghost use Rattle.rules.specs.WellFormed.{contentsRight, forAll, stageRight, unusedZero, wellFormedIn, zeroFrom};
 ghost use Rattle.wellformed.specs.Walks.{Marked, Marks, Row, Used, bodyTest, hubRight, kindTest, may, meets, metAt, ownerOf, ownerTest, queueTest, recordOf, recordRight, restRight, storeTest, taskRight, waitsOf, walks};
 ghost use lib.Dec.{eqb, leb};
@@ -167,6 +167,29 @@ fn store_right(t: &[u32], ts: usize, h: usize) -> bool
     }
 }
 
+// Hub h's store is nothing but zeros.
+fn store_blank(t: &[u32], ts: usize, h: usize) -> bool
+    requires { ⌜ Used ts (now t) ⌝ }
+    requires { ⌜ h < getD (now t) 2 0 ⌝ }
+    ensures { λ r. ⌜ ((L : Layout) → Laid ts L → r ≡ allZero (storePart L (now (t .entry)) h)) ⌝ }
+{
+    let at = records::store_at(ts, HubNo(h));
+    lists::zeros(&t[at..at + records::store_size(ts)])
+}
+
+// Most stores are blank, which is right at every kind: only of the others the kind and the count are asked for.
+fn store_sound(t: &[u32], ts: usize, h: usize) -> bool
+    requires { ⌜ Used ts (now t) ⌝ }
+    requires { ⌜ h < getD (now t) 2 0 ⌝ }
+    requires { ⌜ ((L : Layout) → Laid ts L → kindTest L (now t) h ≡ true) ⌝ }
+    ensures { λ r. ⌜ ((L : Layout) → Laid ts L → r ≡ storeTest L (now (t .entry)) h) ⌝ }
+{
+    if store_blank(t, ts, h) {
+        return true;
+    }
+    store_right(t, ts, h)
+}
+
 // Who may wait on a side of a hub, but for a Resource's owner. A Port's count and limit are 0, so either side may. Only
 // readers wait at a Board, and only while it is unwritten.
 fn may_wait(side: u32, kind: u32, count: u32, limit: u32) -> bool
@@ -252,7 +275,7 @@ fn body_right(t: &[u32], ts: usize, h: usize) -> bool
     if !kind_right(t, ts, h) {
         return false;
     }
-    if !store_right(t, ts, h) {
+    if !store_sound(t, ts, h) {
         return false;
     }
     owner_right(t, ts, h)
