@@ -3,7 +3,7 @@
 # takes minutes from a fresh clone and is told on standard error alone. "Older" goes by the files' times; `rt` then goes by their
 # contents, and proves what changed. A program's descriptors above 2 are the command's to open; they are closed where it proves.
 
-say() { echo "$me: $*" >&2; }
+say() { printf '%s\n' "$me: $*" >&2; }
 
 # the kit's folder, as rt itself finds it
 kit() {
