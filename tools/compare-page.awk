@@ -10,6 +10,14 @@ function escaped(text) {
     return text
 }
 
+# a cell: the number stays with its word where a line ends
+function cell(text) {
+    text = escaped(text)
+    gsub(/task /, "task\\&nbsp;", text)
+    gsub(/hub /, "hub\\&nbsp;", text)
+    return text
+}
+
 # a subject as the page's own address
 function anchor(subject) { gsub(/ /, "-", subject); return subject }
 
@@ -25,29 +33,30 @@ function print_style() {
     print "  font: 1rem/1.45 system-ui, -apple-system, \"Segoe UI\", Roboto, \"DejaVu Sans\", sans-serif; -webkit-text-size-adjust: 100%; }"
     print "h1 { margin: 0 0 .25rem; font-size: 1.4rem; line-height: 1.25; }"
     print "h2 { margin: 2.5rem 0 .5rem; font-size: 1.1rem; }"
-    print "p { margin: .25rem 0; } .quiet { color: var(--quiet); font-size: .9rem; } .summary { font-size: 1.1rem; }"
+    print "p { margin: .25rem 0; } .together { white-space: nowrap; } .quiet { color: var(--quiet); font-size: .9rem; } .summary { font-size: 1.1rem; }"
     print "a { color: var(--link); } .sign { color: var(--sign); font-weight: 700; }"
-    print "nav ul { display: inline; margin: 0; padding: 0; } nav li { display: inline-block; list-style: none; margin-right: .75rem; }"
+    print "nav, nav ul { margin: 0; padding: 0; } nav li { display: inline-block; list-style: none; margin-right: .9rem; line-height: 1.7; }"
     print "table { width: 100%; margin-top: 1rem; border-collapse: collapse; table-layout: fixed; }"
     print "th, td { padding: .3rem .6rem; text-align: left; vertical-align: top; overflow-wrap: anywhere;"
     print "  border-bottom: 1px solid var(--line); font-variant-numeric: tabular-nums; }"
     print "thead th { position: sticky; top: 0; background: var(--paper); border-bottom: 2px solid var(--ink); }"
-    print "tbody th { font-weight: 400; color: var(--quiet); } .about { width: 9.5rem; }"
+    print "tbody th, thead .about { font-weight: 400; color: var(--quiet); } .rows th:first-child { padding-left: 0; } .about { width: 9rem; }"
     print "tbody .subject { padding-top: 1.4rem; border-bottom: 1px solid var(--quiet); color: var(--ink); font-weight: 700; scroll-margin-top: 2.5rem; }"
-    print "tbody .sign { display: inline-block; width: 1.1rem; margin-left: -.1rem; }"
-    print "td.differs { background: var(--differs); color: var(--differs-ink); font-weight: 600; border-left: 4px solid var(--sign); }"
-    print ".places { width: auto; table-layout: auto; } .places .number { text-align: right; }"
+    print "tbody .sign { display: inline-block; width: 1.2rem; }"
+    print ".rows td, .rows thead th + th { padding-left: calc(.6rem + 4px); }"
+    print ".rows td.differs { background: var(--differs); color: var(--differs-ink); font-weight: 600; box-shadow: inset 4px 0 var(--sign); }"
+    print ".places { width: auto; table-layout: auto; } .places th, .places td { overflow-wrap: normal; } .places .number { text-align: right; white-space: nowrap; }"
     print "@media (max-width: 40rem) {"
     print "  body { padding: 1rem .75rem 2rem; } .rows, .rows thead, .rows tbody { display: block; }"
     print "  .rows tr { display: grid; grid-template-columns: 1fr 1fr; } .rows thead { position: sticky; top: 0; }"
     print "  .rows th[scope=row], .rows .about, .rows .subject { grid-column: 1 / -1; width: auto; }"
-    print "  .rows th[scope=row] { padding: .35rem 0 0; border: 0; font-size: .85rem; } .rows .about { display: none; }"
-    print "  .rows td { padding: .1rem .4rem .3rem; } .rows .subject { padding: 1.2rem 0 .2rem; } .rows thead th { padding: .3rem .4rem; }"
+    print "  .rows th[scope=row] { padding: .35rem 0 .1rem; border: 0; font-size: .85rem; } .rows .about, .rows .sign:empty { display: none; }"
+    print "  .rows td { padding: .1rem .4rem .3rem calc(.4rem + 4px); } .rows .subject { padding: 1.2rem 0 .2rem; } .rows thead th + th { padding: .3rem calc(.4rem + 4px); }"
     print "  .places th, .places td { padding: .25rem .35rem; font-size: .9rem; } }"
     print "@media print {"
     print "  :root { color-scheme: light; --paper: #fff; --ink: #000; --quiet: #333; --line: #999; --sign: #000; --differs: #fff; --differs-ink: #000; --link: #000; }"
     print "  body { max-width: none; padding: 0; font-size: 10pt; } nav { display: none; } thead th { position: static; }"
-    print "  td.differs { border: 2px solid #000; font-weight: 700; } tr { break-inside: avoid; } .subject { break-after: avoid; } }"
+    print "  .rows td.differs { border: 2px solid #000; border-left-width: 6px; box-shadow: none; font-weight: 700; } tr { break-inside: avoid; } .subject { break-after: avoid; } }"
     print "</style>"
 }
 
@@ -64,7 +73,7 @@ function print_head(   first, second) {
     print "<body>"
     print "<main>"
     print "<h1>Two panel tables side by side</h1>"
-    print "<p class=\"summary\">" escaped(summary) (count ? ", marked with <span class=\"sign\">\342\211\240</span>." : "") "</p>"
+    print "<p class=\"summary\">" escaped(summary) (count ? ", <span class=\"together\">marked with <span class=\"sign\">\342\211\240</span>.</span>" : "") "</p>"
     if (brief && count) print "<p class=\"quiet\">Only the rows that differ are shown.</p>"
 }
 
@@ -73,6 +82,7 @@ function print_ways(   i, last) {
     if (brief || !count) return
     print "<nav aria-label=\"What differs\">"
     print "<ul>"
+    print "<li class=\"quiet\">Differs:</li>"
     for (i = 1; i <= rows; i++)
         if (mark[i] == "!" && subject[i] != last) {
             print "<li><a href=\"#" anchor(subject[i]) "\">" escaped(titled(subject[i])) "</a></li>"
@@ -84,8 +94,8 @@ function print_ways(   i, last) {
 
 function print_row(i,   kind, sign) {
     kind = mark[i] == "!" ? " class=\"differs\"" : ""
-    sign = mark[i] == "!" ? "<span class=\"sign\" title=\"differs\">\342\211\240</span>" : "<span class=\"sign\"></span>"
-    print "<tr><th scope=\"row\">" sign escaped(what[i]) "</th><td" kind ">" escaped(left[i]) "</td><td" kind ">" escaped(right[i]) "</td></tr>"
+    sign = mark[i] == "!" ? "<span class=\"sign\" role=\"img\" aria-label=\"differs\">\342\211\240</span>" : "<span class=\"sign\"></span>"
+    print "<tr><th scope=\"row\">" sign escaped(what[i]) "</th><td" kind ">" cell(left[i]) "</td><td" kind ">" cell(right[i]) "</td></tr>"
 }
 
 function print_rows(   i) {

@@ -12,15 +12,20 @@ function cut(text, most,   at, seen) {
     return substr(text, 1, at - 1)
 }
 
-# wraps a text at its spaces into piece[1] to piece[n], and gives n; what is longer than a line is cut
-function wrap(text, most, piece,   n, line, last) {
+# where a line had best end: behind its last comma, if that leaves a third of it, else before its last space; 0 nowhere
+function break_at(line,   last, comma) {
+    for (last = length(line); last > 1 && substr(line, last, 1) != " "; last--);
+    for (comma = last; comma > 2 && substr(line, comma - 1, 2) != ", "; comma--);
+    return comma > 2 && 3 * comma > length(line) ? comma : last > 1 ? last : 0
+}
+
+# wraps a text at its spaces into piece[1] to piece[n], and gives n; a word that is longer than a line is cut
+function wrap(text, most, piece,   n, line, at) {
     for (n = 1; chars(text) > most; n++) {
         line = cut(text, most)
-        if (rest !~ /^ /) {
-            last = length(line)
-            while (last > 0 && substr(line, last, 1) != " ") last--
-            if (last > 1) { rest = substr(line, last + 1) rest; line = substr(line, 1, last - 1) }
-        }
+        # a line that ends where a word does may end with the space behind it
+        at = break_at(rest ~ /^ / ? line " " : line)
+        if (at > 0) { rest = substr(line, at + 1) rest; line = substr(line, 1, at - 1) }
         piece[n] = line
         sub(/^ +/, "", rest)
         text = rest
