@@ -39,7 +39,7 @@ function print_style() {
     print "table { width: 100%; margin-top: 1rem; border-collapse: collapse; table-layout: fixed; }"
     print "th, td { padding: .3rem .6rem; text-align: left; vertical-align: top; overflow-wrap: anywhere;"
     print "  border-bottom: 1px solid var(--line); font-variant-numeric: tabular-nums; }"
-    print "thead th { position: sticky; top: 0; background: var(--paper); border-bottom: 2px solid var(--ink); }"
+    print "thead th { position: sticky; top: 0; background: var(--paper); border: 0; box-shadow: inset 0 -2px var(--ink); }"
     print "tbody th, thead .about { font-weight: 400; color: var(--quiet); } .rows th:first-child { padding-left: 0; } .about { width: 9rem; }"
     print "tbody .subject { padding-top: 1.4rem; border-bottom: 1px solid var(--quiet); color: var(--ink); font-weight: 700; scroll-margin-top: 2.5rem; }"
     print "tbody .sign { display: inline-block; width: 1.2rem; }"
@@ -55,7 +55,7 @@ function print_style() {
     print "  .places th, .places td { padding: .25rem .35rem; font-size: .9rem; } }"
     print "@media print {"
     print "  :root { color-scheme: light; --paper: #fff; --ink: #000; --quiet: #333; --line: #999; --sign: #000; --differs: #fff; --differs-ink: #000; --link: #000; }"
-    print "  body { max-width: none; padding: 0; font-size: 10pt; } nav { display: none; } thead th { position: static; }"
+    print "  body { max-width: none; padding: 0; font-size: 10pt; } nav { display: none; } thead th { position: static; border-bottom: 2px solid #000; box-shadow: none; }"
     print "  .rows td.differs { border: 2px solid #000; border-left-width: 6px; box-shadow: none; font-weight: 700; } tr { break-inside: avoid; } .subject { break-after: avoid; } }"
     print "</style>"
 }
