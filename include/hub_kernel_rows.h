@@ -16,8 +16,8 @@
  *                                                                  left; waits at hub 3 to get, no
  *                                                                  limit; and then , suspended
  *   task 4   priority    priority                                  5
- *   task 4   answer      message and answer                        none; OK; failed; timed out; met,
- *                                                                  word 77 high 3
+ *   task 4   answer      message and answer                        none; OK; failed; timed out;
+ *                                                                  met, word 77 high 3
  *   hub 1    kind        kind, limit and start                     Semaphore, limit 5, start 2
  *   hub 1    holds       count and store                           count 3; set; 77, 78 high 3;
  *                                                                  owner: task 2; written: 77

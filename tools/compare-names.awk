@@ -40,7 +40,8 @@ NR == 1 { sub(/^\357\273\277/, "") }
     rest = substr($0, length(word) + 2)
     number = rest
     sub(/ .*/, "", number)
-    if (number == "" || number ~ /[^0-9]/) bad("behind `" word "` stands " (number == "" ? "no number" : shown(number) ", which is no number"))
+    if (number == "") bad("behind `" word "` stands no number")
+    if (number ~ /[^0-9]/) bad("behind `" word "` stands " shown(number) ", which is no number")
     if (number ~ /^0./) bad("the number " shown(number) " has a leading zero")
     if (length(number) > 2 || number + 0 > 15) bad("the number " shown(number) " is above 15")
     name = substr(rest, length(number) + 2)

@@ -86,7 +86,8 @@ NF == 1 {
 END {
     if (failed) exit 1
     if (entries + 0 != count + 0) ended_badly("there are " entries + 0 " entries, and " count " words differ")
-    if (!marked != !count) ended_badly(plural(marked + 0, "row is", "rows are") " marked, and " plural(count, "word differs", "words differ"))
+    if (!marked != !count)
+        ended_badly(plural(marked + 0, "row is", "rows are") " marked, and " plural(count, "word differs", "words differ"))
     summary = count == 0 ? "The tables are equal: no word differs." \
         : plural(count, "word differs", "words differ") ", in " plural(marked, "row", "rows")
 }

@@ -71,7 +71,8 @@ int main(int count, char **words)
         perror(words[1]);
         return 1;
     }
-    call(&it, HUB_KERNEL_HUB_REQUEST, CHECKLIST, ORDERS, HUB_KERNEL_PUT, HUB_KERNEL_NW, 0, SPEED, RUN);
+    call(&it, HUB_KERNEL_HUB_REQUEST, CHECKLIST, ORDERS, HUB_KERNEL_PUT, HUB_KERNEL_NW, 0, SPEED,
+         RUN);
     if (!leave(&it, words[2])) {
         perror(words[2]);
         return 1;

@@ -25,7 +25,9 @@
 
 enum { AROUND = 64, WATCHED = 0xA5 };
 
-typedef enum { NEIGHBOURS, STEPS, MET, UNRELATED, SET_UPS, APART, LAST_WORD, ONE_WORD, SAME, FAMILIES } family;
+typedef enum {
+    NEIGHBOURS, STEPS, MET, UNRELATED, SET_UPS, APART, LAST_WORD, ONE_WORD, SAME, FAMILIES
+} family;
 
 static const char *const family_names[FAMILIES] = {
     "neighbours of a run", "a few calls apart", "many met in one call", "unrelated", "set-ups",
@@ -389,8 +391,10 @@ static void draw_two(state *at, uint32_t *first, uint32_t *second)
 /* One of them, or both, damaged, of the other edition, or of another length. */
 static void check_spoiled(state *at, uint32_t *first, uint32_t *second)
 {
-    static const size_t lengths[] = {0, 1, 4, 600, 744, 2396, 2399, 2400, 2401, 2404, 2972, 2975, 2976, 2977, 2980};
-    const layout *form = gen_chance(&at->random, 40) ? &layouts[at->form->edition % EDITIONS] : at->form;
+    static const size_t lengths[] = {0,    1,    4,    600,  744,  2396, 2399, 2400,
+                                     2401, 2404, 2972, 2975, 2976, 2977, 2980};
+    const layout *other = &layouts[at->form->edition % EDITIONS];
+    const layout *form = gen_chance(&at->random, 40) ? other : at->form;
     uint32_t damage = gen_below(&at->random, (uint32_t)gen_damages(EDITION_1));
 
     if (form != at->form)
@@ -425,7 +429,8 @@ static void report(const state *at, uint64_t accepted)
            " marked rows, %" PRIu64 " of them by their texts alone; %" PRIu64
            " words differ, each in a marked row\n",
            accepted, at->equal, at->marked, at->by_text, at->entries);
-    printf("           refused with 1, 2, 8, 13: %" PRIu64 ", %" PRIu64 ", %" PRIu64 ", %" PRIu64 "\n",
+    printf("           refused with 1, 2, 8, 13: %" PRIu64 ", %" PRIu64 ", %" PRIu64 ", %" PRIu64
+           "\n",
            at->refusals[BAD_LENGTH], at->refusals[NOT_WELL_FORMED], at->refusals[SHORT_BUFFER],
            at->refusals[DIFFERING_EDITIONS]);
     for (int i = 0; i < FAMILIES; i++)

@@ -317,8 +317,9 @@ static void write_all(writing *to)
 
 static void words_of(uint32_t *words, const uint8_t *bytes, size_t length)
 {
+    memset(words, 0, length);
     for (size_t i = 0; i < length; i++)
-        words[i / 4] = (i % 4 == 0 ? 0 : words[i / 4]) | (uint32_t)bytes[i] << 8 * (i % 4);
+        words[i / 4] |= (uint32_t)bytes[i] << 8 * (i % 4);
 }
 
 rows_reply rows_write(const uint8_t *first, size_t first_bytes, const uint8_t *second,
