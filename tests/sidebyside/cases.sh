@@ -9,6 +9,7 @@
 #   columns    the width, where it isn't left to ./compare
 #   status, out   what is expected
 # Builds down, comparer (the second reading) and gen into $out.
+# shellcheck shell=sh
 
 # shellcheck source=tests/machine.sh
 . "$root/tests/machine.sh"

@@ -170,15 +170,20 @@ static void read_rows(const state *at, const uint8_t *text, size_t length, row r
     }
 }
 
-/* A row that is marked though none of its words differs: its texts do. The ready list, where a
- * task that was suspended or resumed changes who runs; what a hub holds, where it is of another
- * kind in each table; any row of a task or hub that one table doesn't use. */
+/* A row that is marked though none of its words differs: its texts do, because a word differs
+ * elsewhere. The ready list, where a task is suspended in one table alone, which changes who runs;
+ * what a hub holds, where it is of another kind in each table; any row of a task or hub that one
+ * table doesn't use, whose state or kind is 0 there. */
 static int text_alone(const row rows[ROWS], int number)
 {
-    int in_hub = number >= HUB_ROWS ? (number - HUB_ROWS) % 3 : -1;
+    int suspended = 0, subject = number - (number - TASK_ROWS) % 3;
 
-    return number == READY_LIST || rows[number].in_one_only ||
-           (in_hub == 1 && rows[number - 1].entry);
+    for (int i = TASK_ROWS; i < HUB_ROWS; i += 3)
+        suspended |= rows[i].entry;
+    if (number < TASK_ROWS)
+        return number == READY_LIST && suspended;
+    return rows[subject].entry &&
+           (rows[number].in_one_only || (number >= HUB_ROWS && number == subject + 1));
 }
 
 static void check_rows(state *at, row rows[ROWS], const uint32_t *places, uint32_t count)
