@@ -19,7 +19,7 @@ function cell(text) {
 }
 
 # a subject as the page's own address
-function anchor(subject) { gsub(/ /, "-", subject); return subject }
+function anchor(title) { gsub(/ /, "-", title); return title }
 
 function print_style(   lines) {
     print "<style>"

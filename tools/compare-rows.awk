@@ -8,7 +8,7 @@ function chars(text) { gsub(/[\200-\277]/, "", text); return length(text) }
 function plural(number, one, more) { return number " " (number == 1 ? one : more) }
 
 # "task 2" with its name, as a heading has it
-function titled(subject) { return subject in name ? subject " " name[subject] : subject }
+function titled(one) { return one in name ? one " " name[one] : one }
 
 # a cell's text with the names of the tasks and hubs that it speaks of
 function named(text,   done, what) {

@@ -70,7 +70,7 @@ function paint(code, text) { return colour && text != "" ? "\033[" code "m" text
 # a line of the text has no spaces at its end
 function put(line) { sub(/ +$/, "", line); print line }
 
-function print_row(i,   n, m, lines, k, differs, label, one, other) {
+function print_row(i,   n, m, k, differs, one, other) {
     differs = mark[i] == "!"
     n = wrap(left[i], one_wide, one_piece)
     m = wrap(right[i], other_wide, other_piece)
