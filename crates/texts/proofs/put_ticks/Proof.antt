@@ -1,0 +1,66 @@
+-- `texts::put_ticks` meets its contract: by the ticks. Assumes nothing.
+use Rattle.texts.proofs.put_ticks.Statement.{statement}
+use Rattle.texts.proofs.put_ticks.Tie as tie
+use Rattle.texts.specs.Cells.{ticksText}
+use borrow.Author.Needs.{needs}
+use borrow.Author.Tests.{eq-eqb, ne-eqb}
+
+slice-aggregate-put-bytes : tie.Need-slice-aggregate-put-bytes
+slice-aggregate-put-bytes c = search needs
+
+put-bytes-requires : tie.Need-put-bytes-requires
+put-bytes-requires c κs = search needs
+
+same-length : tie.Need-same-length
+same-length c = search needs
+
+returns : tie.Need-returns
+unfolding ticksText
+returns c = rw (eq-eqb _ _ (c .before .before .before .before .before .if1 .taken)) (c .before .before .put-bytes .ensures)
+
+slice-aggregate-put-bytes-2 : tie.Need-slice-aggregate-put-bytes-2
+slice-aggregate-put-bytes-2 c = search needs
+
+put-bytes-requires-2 : tie.Need-put-bytes-requires-2
+put-bytes-requires-2 c κs = search needs
+
+same-length-2 : tie.Need-same-length-2
+same-length-2 c = search needs
+
+returns-2 : tie.Need-returns-2
+unfolding ticksText
+returns-2 c = rw (ne-eqb _ _ (c .before .before .before .before .before .before .if1 .left), eq-eqb _ _ (c .before .before .before .before .before .if2 .taken)) (c .before .before .put-bytes2 .ensures)
+
+slice-aggregate-put-between : tie.Need-slice-aggregate-put-between
+slice-aggregate-put-between c = search needs
+
+slice-aggregate-put-between-2 : tie.Need-slice-aggregate-put-between-2
+slice-aggregate-put-between-2 c = search needs
+
+put-between-requires : tie.Need-put-between-requires
+put-between-requires c κs = search needs
+
+same-length-3 : tie.Need-same-length-3
+same-length-3 c = search needs
+
+returns-3 : tie.Need-returns-3
+unfolding ticksText
+returns-3 c = rw (ne-eqb _ _ (c .before .before .before .before .before .before .before .if1 .left), ne-eqb _ _ (c .before .before .before .before .before .before .if2 .left)) (c .before .before .put-between .ensures)
+
+pub put-ticks-spec : {M : Type 1} → statement M
+put-ticks-spec =
+    tie.close
+    (tie.spec
+    slice-aggregate-put-bytes
+    put-bytes-requires
+    same-length
+    returns
+    slice-aggregate-put-bytes-2
+    put-bytes-requires-2
+    same-length-2
+    returns-2
+    slice-aggregate-put-between
+    slice-aggregate-put-between-2
+    put-between-requires
+    same-length-3
+    returns-3)

@@ -1,0 +1,132 @@
+-- The words that people read about a table, cell by cell. In order: a task (its state, its answer); a hub (its kind, what it holds);
+-- a list of tasks; the contents. The records are the table's (records/specs, `taskAt` and `hubAt`); the texts are for every number
+-- that may stand there, also those of no well-formed table.
+-- Not here: which cells there are, and where their words stand (crate sidebyside).
+use Prim.Native.Nat.{_%_, _+_, _/_, pred, suc, zero, ℕ}
+use Rattle.lines.specs.Lines.{decimal}
+use Rattle.messages.specs.Messages.{messageAt}
+use Rattle.records.specs.declared.HubRecord.{HubRecord}
+use Rattle.records.specs.declared.TaskRecord.{TaskRecord}
+use Rattle.texts.specs.Texts.{bytes}
+use lib.Dec.{eqb}
+use lib.ListN.{getD}
+use mathlib.Core.Bool.{cond}
+use mathlib.Core.List.{List, [], _++_, _∷_}
+
+-- ---- the state of a task
+
+unfoldable pub ticksText : ℕ → List ℕ
+ticksText n =
+    cond (eqb n 0) (bytes ", no limit")
+    (cond (eqb n 1) (bytes ", 1 tick left")
+    (bytes ", " ++ decimal n ++ bytes " ticks left"))
+
+-- a task's hub word is the hub's number plus 1; side 1 is put
+unfoldable pub waitsText : ℕ → ℕ → List ℕ
+waitsText hub side =
+    cond (eqb side 1) (bytes "waits at hub " ++ decimal (pred hub) ++ bytes " to put")
+    (bytes "waits at hub " ++ decimal (pred hub) ++ bytes " to get")
+
+-- 1 inactive, 2 ready, 3 waiting at a hub, else sleeping
+unfoldable pub stageText : TaskRecord → List ℕ
+stageText x =
+    cond (eqb (x .state) 1) (bytes "inactive")
+    (cond (eqb (x .state) 2) (bytes "ready")
+    (cond (eqb (x .state) 3) (waitsText (x .hub) (x .side) ++ ticksText (x .ticks))
+    (bytes "sleeps" ++ ticksText (x .ticks))))
+
+unfoldable pub stateText : TaskRecord → List ℕ
+stateText x = stageText x ++ cond (eqb (x .suspended) 0) [] (bytes ", suspended")
+
+-- ---- the answer of a task
+
+-- a message by its low word, and its high word where that isn't 0
+unfoldable pub messageText : ℕ → List ℕ
+messageText m =
+    cond (eqb (m / 4294967296) 0) (decimal (m % 4294967296))
+    (decimal (m % 4294967296) ++ bytes " high " ++ decimal (m / 4294967296))
+
+-- 0 none, 2 failed, 3 timed out, 1 met: with no word that is an OK
+unfoldable pub outcomeText : ℕ → ℕ → List ℕ
+outcomeText answer m =
+    cond (eqb answer 0) (bytes "none")
+    (cond (eqb answer 2) (bytes "failed")
+    (cond (eqb answer 3) (bytes "timed out")
+    (cond (eqb m 0) (bytes "OK") (bytes "met"))))
+
+unfoldable pub answerText : TaskRecord → List ℕ
+answerText x = outcomeText (x .answer) (x .word) ++ cond (eqb (x .word) 0) [] (bytes ", word " ++ messageText (x .word))
+
+-- ---- the kind of a hub
+
+-- 1 Event, 2 Semaphore, 3 Port, 4 FIFO, 5 Resource, else Board
+unfoldable pub kindText : HubRecord → List ℕ
+kindText x =
+    cond (eqb (x .kind) 1) (bytes "Event")
+    (cond (eqb (x .kind) 2) (bytes "Semaphore, limit " ++ decimal (x .limit) ++ bytes ", start " ++ decimal (x .start))
+    (cond (eqb (x .kind) 3) (bytes "Port")
+    (cond (eqb (x .kind) 4) (bytes "FIFO, limit " ++ decimal (x .limit))
+    (cond (eqb (x .kind) 5) (bytes "Resource")
+    (bytes "Board")))))
+
+-- ---- what a hub holds
+
+-- n messages of w words each, the first at word p
+unfoldable pub heldFrom : ℕ → List ℕ → ℕ → ℕ → List ℕ
+heldFrom w t p zero = []
+heldFrom w t p (suc n) = messageAt w t p ∷ heldFrom w t (p + w) n
+
+-- word k of a FIFO, from 0, and those from k on
+unfoldable pub wordText : ℕ → ℕ → List ℕ
+wordText k m = cond (eqb k 0) (messageText m) (bytes ", " ++ messageText m)
+
+unfoldable pub wordsFrom : ℕ → List ℕ → List ℕ
+wordsFrom k [] = []
+wordsFrom k (m ∷ ms) = wordText k m ++ wordsFrom (suc k) ms
+
+unfoldable pub wordsText : List ℕ → List ℕ
+wordsText [] = bytes "empty"
+wordsText (m ∷ ms) = wordsFrom 0 (m ∷ ms)
+
+-- a Board's word stands in its store's first place when it is written
+unfoldable pub boardText : ℕ → List ℕ → ℕ → ℕ → List ℕ
+boardText w t from count =
+    cond (eqb count 0) (bytes "not written") (bytes "written: " ++ messageText (messageAt w t from))
+
+-- of the other kinds the count says all: an Event's, a Semaphore's, a Resource's (its owner plus 1); a Port holds nothing
+unfoldable pub countText : HubRecord → List ℕ
+countText x =
+    cond (eqb (x .kind) 1) (cond (eqb (x .count) 0) (bytes "not set") (bytes "set"))
+    (cond (eqb (x .kind) 2) (bytes "count " ++ decimal (x .count))
+    (cond (eqb (x .kind) 5) (cond (eqb (x .count) 0) (bytes "free") (bytes "owner: task " ++ decimal (pred (x .count))))
+    (bytes "nothing")))
+
+-- in a table whose messages have w words; the store starts at word `from`
+unfoldable pub holdsText : ℕ → List ℕ → ℕ → HubRecord → List ℕ
+holdsText w t from x =
+    cond (eqb (x .kind) 4) (wordsText (heldFrom w t from (x .count)))
+    (cond (eqb (x .kind) 6) (boardText w t from (x .count))
+    (countText x))
+
+-- ---- a list of tasks; `runs` is the running task plus 1, or 0
+
+unfoldable pub taskText : ℕ → ℕ → List ℕ
+taskText k i = cond (eqb k 0) (bytes "task " ++ decimal i) (bytes ", task " ++ decimal i)
+
+-- entry k, from 0, and those from k on
+unfoldable pub entryText : ℕ → ℕ → ℕ → List ℕ
+entryText k runs i = taskText k i ++ cond (eqb (suc i) runs) (bytes " (runs)") []
+
+unfoldable pub entriesFrom : ℕ → ℕ → List ℕ → List ℕ
+entriesFrom k runs [] = []
+entriesFrom k runs (i ∷ is) = entryText k runs i ++ entriesFrom (suc k) runs is
+
+unfoldable pub tasksText : ℕ → List ℕ → List ℕ
+tasksText runs [] = bytes "nobody"
+tasksText runs (i ∷ is) = entriesFrom 0 runs (i ∷ is)
+
+-- ---- the contents: the edition, T and H
+
+unfoldable pub contentsText : List ℕ → List ℕ
+contentsText t =
+    bytes "edition " ++ decimal (getD t 0 0) ++ bytes ", tasks: " ++ (decimal (getD t 1 0) ++ bytes ", hubs: ") ++ decimal (getD t 2 0)
