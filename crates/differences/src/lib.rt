@@ -17,7 +17,7 @@ pub struct Compared {
 }
 
 // Refusals 1 and 2 of one table, in the edition that fits its length; else 0.
-fn refusal_of(t: &[u32]) -> u32
+pub fn refusal_of(t: &[u32]) -> u32
     ensures { λ r. ⌜ r ≡ tableRefusal (now (t .entry)) 0 ⌝ }
 {
     let ts = records::task_size(t.len());

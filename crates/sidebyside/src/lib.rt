@@ -5,6 +5,7 @@ ghost use Prim.Native.Nat.{_*_, _+_, _<_, _≤_};
 ghost use Rattle.lists.specs.Lists.{bit};
 ghost use Rattle.sidebyside.specs.Rows.{cell, hubRow, lineText, markText, markedIn, rowAt, rowNumber, rowText, rows, rowsText, taskRow, title, usedText};
 ghost use Rattle.sidebyside.specs.Rows.{differ as Rows·differ, marked as Rows·marked, shown as Rows·shown, used as Rows·used};
+ghost use Rattle.sidebyside.specs.Shows.{ShownAs, Shows, pairRefusal};
 ghost use Rattle.texts.specs.Texts.{Put};
 ghost use mathlib.Core.Path.{_≡_};
 use records::HubNo;
@@ -21,6 +22,16 @@ pub enum Row {
     Holds(u32),
     Waiting(u32),
 }
+
+// The refusal, how many bytes were written, and how many rows are marked.
+pub struct Shown {
+    pub refusal: u32,
+    pub length: u32,
+    pub marked: u32,
+}
+
+// More room than the rows of two tables take.
+const ROOM: usize = 65536;
 
 // How many rows there are: two of the table, three for each of 16 tasks, three for each of 16 hubs.
 const ROWS: u32 = 98;
@@ -133,22 +144,71 @@ fn marked(a: &[u32], b: &[u32], ts: usize, ra: u32, rb: u32, row: Row) -> bool
 {
     match row {
         Row::Contents => differ(a, b, 0, 0, 0, 0, records::TASKS_AT),
-        Row::ReadyList => differ(a, b, records::ready_at(ts), 0, 0, 0, records::LIST_SIZE) || ra != rb,
+        Row::ReadyList => differ(a, b, records::ready_at(ts), 0, 0, 0, records::LIST_SIZE)
+            || ra != rb,
         Row::State(i) => {
             differ(a, b, records::TASKS_AT, ts, i, records::STATE, 2)
                 || differ(a, b, records::TASKS_AT, ts, i, records::HUB, 3)
         }
         Row::Priority(i) => differ(a, b, records::TASKS_AT, ts, i, records::PRIORITY, 1),
-        Row::Answer(i) => differ(a, b, records::TASKS_AT, ts, i, records::WORD, records::width_of(ts) + 1),
+        Row::Answer(i) => differ(
+            a,
+            b,
+            records::TASKS_AT,
+            ts,
+            i,
+            records::WORD,
+            records::width_of(ts) + 1,
+        ),
         Row::Kind(h) => {
-            differ(a, b, records::hubs_at(ts), records::HUB_SIZE, h, records::KIND, 1)
-                || differ(a, b, records::hubs_at(ts), records::HUB_SIZE, h, records::LIMIT, 2)
+            differ(
+                a,
+                b,
+                records::hubs_at(ts),
+                records::HUB_SIZE,
+                h,
+                records::KIND,
+                1,
+            )
+                || differ(
+                    a,
+                    b,
+                    records::hubs_at(ts),
+                    records::HUB_SIZE,
+                    h,
+                    records::LIMIT,
+                    2,
+                )
         }
         Row::Holds(h) => {
-            differ(a, b, records::hubs_at(ts), records::HUB_SIZE, h, records::COUNT, 1)
-                || differ(a, b, records::stores_at(ts), records::store_size(ts), h, 0, records::store_size(ts))
+            differ(
+                a,
+                b,
+                records::hubs_at(ts),
+                records::HUB_SIZE,
+                h,
+                records::COUNT,
+                1,
+            )
+                || differ(
+                    a,
+                    b,
+                    records::stores_at(ts),
+                    records::store_size(ts),
+                    h,
+                    0,
+                    records::store_size(ts),
+                )
         }
-        Row::Waiting(h) => differ(a, b, records::waits_at(ts, HubNo(0)), records::LIST_SIZE, h, 0, records::LIST_SIZE),
+        Row::Waiting(h) => differ(
+            a,
+            b,
+            records::waits_at(ts, HubNo(0)),
+            records::LIST_SIZE,
+            h,
+            0,
+            records::LIST_SIZE,
+        ),
     }
 }
 
@@ -175,11 +235,25 @@ fn put_used(out: &mut [u8], at: usize, t: &[u32], ts: usize, runs: u32, row: Row
         Row::Contents => texts::put_contents(out, at, t),
         Row::ReadyList => texts::put_tasks(out, at, t, records::ready_at(ts), runs),
         Row::State(i) => texts::put_state(out, at, records::task(t, ts, TaskNo(i as usize))),
-        Row::Priority(i) => texts::put_number(out, at, records::field(t, records::TASKS_AT, ts, i as usize, records::PRIORITY)),
+        Row::Priority(i) => texts::put_number(
+            out,
+            at,
+            records::field(t, records::TASKS_AT, ts, i as usize, records::PRIORITY),
+        ),
         Row::Answer(i) => texts::put_answer(out, at, records::task(t, ts, TaskNo(i as usize))),
-        Row::Kind(h) => texts::put_kind(out, at, records::hub(t, records::hubs_at(ts), HubNo(h as usize))),
+        Row::Kind(h) => texts::put_kind(
+            out,
+            at,
+            records::hub(t, records::hubs_at(ts), HubNo(h as usize)),
+        ),
         Row::Holds(h) => put_store(out, at, t, ts, h),
-        Row::Waiting(h) => texts::put_tasks(out, at, t, records::waits_at(ts, HubNo(h as usize)), 0),
+        Row::Waiting(h) => texts::put_tasks(
+            out,
+            at,
+            t,
+            records::waits_at(ts, HubNo(h as usize)),
+            0,
+        ),
     }
 }
 
@@ -207,7 +281,16 @@ fn put_mark(out: &mut [u8], at: usize, m: bool) -> usize
 }
 
 // The line of a row.
-fn put_line(out: &mut [u8], at: usize, a: &[u32], b: &[u32], ts: usize, ra: u32, rb: u32, row: Row) -> usize
+fn put_line(
+    out: &mut [u8],
+    at: usize,
+    a: &[u32],
+    b: &[u32],
+    ts: usize,
+    ra: u32,
+    rb: u32,
+    row: Row,
+) -> usize
     requires { ⌜ 8 ≤ ts ⌝ }
     requires { ⌜ ts ≤ 9 ⌝ }
     requires { ⌜ rowNumber row < 16 ⌝ }
@@ -222,7 +305,7 @@ fn put_line(out: &mut [u8], at: usize, a: &[u32], b: &[u32], ts: usize, ra: u32,
 }
 
 // Whether the row is shown: either table uses what it is about, or it is marked.
-fn shown(a: &[u32], b: &[u32], ts: usize, ra: u32, rb: u32, row: Row) -> bool
+fn is_shown(a: &[u32], b: &[u32], ts: usize, ra: u32, rb: u32, row: Row) -> bool
     requires { ⌜ 8 ≤ ts ⌝ }
     requires { ⌜ ts ≤ 9 ⌝ }
     ensures { λ r. ⌜ r ≡ Rows·shown ts (now (a .entry)) (now (b .entry)) ra rb row ⌝ }
@@ -237,13 +320,22 @@ fn shown(a: &[u32], b: &[u32], ts: usize, ra: u32, rb: u32, row: Row) -> bool
 }
 
 // A row, where it is shown.
-fn put_row(out: &mut [u8], at: usize, a: &[u32], b: &[u32], ts: usize, ra: u32, rb: u32, row: Row) -> usize
+fn put_row(
+    out: &mut [u8],
+    at: usize,
+    a: &[u32],
+    b: &[u32],
+    ts: usize,
+    ra: u32,
+    rb: u32,
+    row: Row,
+) -> usize
     requires { ⌜ 8 ≤ ts ⌝ }
     requires { ⌜ ts ≤ 9 ⌝ }
     requires { ⌜ rowNumber row < 16 ⌝ }
     ensures { λ r. ⌜ Put (now (out .entry)) at (rowText ts (now (a .entry)) (now (b .entry)) ra rb row) r (now (out .exit)) ⌝ }
 {
-    if shown(a, b, ts, ra, rb, row) {
+    if is_shown(a, b, ts, ra, rb, row) {
         return put_line(out, at, a, b, ts, ra, rb, row);
     }
     at
@@ -285,4 +377,71 @@ fn count_marked(a: &[u32], b: &[u32], ts: usize, ra: u32, rb: u32) -> u32
         k += 1;
     }
     count
+}
+
+// The tables' own refusals: 1 and 2 of the first, then of the second, then 13; else 0.
+pub fn pair_refusal(a: &[u32], b: &[u32]) -> u32
+    ensures { λ r. ⌜ r ≡ pairRefusal (now (a .entry)) (now (b .entry)) ⌝ }
+{
+    let first = differences::refusal_of(a);
+    if first != 0 {
+        return first;
+    }
+    let second = differences::refusal_of(b);
+    if second != 0 {
+        return second;
+    }
+    if a.len() != b.len() {
+        return rules::OTHER_EDITION;
+    }
+    0
+}
+
+// "A refusal writes nothing" and gives 0 and 0.
+fn refused(number: u32) -> Shown
+    ensures { λ r. ⌜ (r .refusal ≡ number) × (r .length ≡ 0) × (r .marked ≡ 0) ⌝ }
+{
+    Shown {
+        refusal: number,
+        length: 0,
+        marked: 0,
+    }
+}
+
+// The rows of two tables whose task records have ts words, ra and rb being who runs in each. They are written into a buffer of our
+// own first, so that a text without room leaves the caller's alone.
+fn show_in(a: &[u32], b: &[u32], ts: usize, ra: u32, rb: u32, text: &mut [u8]) -> Shown
+    requires { ⌜ 8 ≤ ts ⌝ }
+    requires { ⌜ ts ≤ 9 ⌝ }
+    ensures { λ r. ⌜ ShownAs 0 (rowsText ts (now (a .entry)) (now (b .entry)) ra rb rows) (markedIn ts (now (a .entry)) (now (b .entry)) ra rb rows)
+        (now (text .entry)) r (now (text .exit)) ⌝ }
+{
+    let mut scratch = [0u8; ROOM];
+    let end = put_rows(&mut scratch, a, b, ts, ra, rb);
+    if ROOM <= end {
+        return refused(rules::SHORT_BUFFER);
+    }
+    if text.len() < end {
+        return refused(rules::SHORT_BUFFER);
+    }
+    texts::put_bytes(text, 0, &scratch[..end]);
+    Shown {
+        refusal: 0,
+        length: end as u32,
+        marked: count_marked(a, b, ts, ra, rb),
+    }
+}
+
+// Two tables side by side: the rows' text, into `text`.
+pub fn show(a: &[u32], b: &[u32], text: &mut [u8]) -> Shown
+    ensures { λ r. ⌜ Shows (now (a .entry)) (now (b .entry)) (now (text .entry)) r (now (text .exit)) ⌝ }
+{
+    let number = pair_refusal(a, b);
+    if number != 0 {
+        return refused(number);
+    }
+    let ts = records::task_size(a.len());
+    let ra = refusals::running(a, ts);
+    let rb = refusals::running(b, ts);
+    show_in(a, b, ts, ra, rb, text)
 }

@@ -6,8 +6,8 @@ use Rattle.texts.proofs.Putting.{put-nothing}
 use borrow.Author.Needs.{needs}
 use mathlib.Core.Path.{_∙_, sym}
 
-shown-requires : tie.Need-shown-requires
-shown-requires c κs = search needs
+is-shown-requires : tie.Need-is-shown-requires
+is-shown-requires c κs = search needs
 
 put-line-requires : tie.Need-put-line-requires
 put-line-requires c κs = search needs
@@ -17,11 +17,11 @@ same-length c = search needs
 
 returns : tie.Need-returns
 unfolding rowText
-returns c = rw (sym (c .before .before .before .before .before .shown .ensures) ∙ c .before .before .before .before .if1 .taken) (c .before .before .put-line .ensures)
+returns c = rw (sym (c .before .before .before .before .before .is-shown .ensures) ∙ c .before .before .before .before .if1 .taken) (c .before .before .put-line .ensures)
 
 returns-2 : tie.Need-returns-2
 unfolding rowText
-returns-2 c = rw (sym (c .before .shown .ensures) ∙ c .if1 .left) (put-nothing _ _)
+returns-2 c = rw (sym (c .before .is-shown .ensures) ∙ c .if1 .left) (put-nothing _ _)
 
 pub put-row-spec : {M : Type 1} → statement M
-put-row-spec = tie.close (tie.spec shown-requires put-line-requires same-length returns returns-2)
+put-row-spec = tie.close (tie.spec is-shown-requires put-line-requires same-length returns returns-2)

@@ -1,6 +1,6 @@
--- `sidebyside::shown` meets its contract: test by test. Assumes nothing.
-use Rattle.sidebyside.proofs.shown.Statement.{statement}
-use Rattle.sidebyside.proofs.shown.Tie as tie
+-- `sidebyside::is_shown` meets its contract: test by test. Assumes nothing.
+use Rattle.sidebyside.proofs.is_shown.Statement.{statement}
+use Rattle.sidebyside.proofs.is_shown.Tie as tie
 use Rattle.sidebyside.specs.Rows.{marked, shown, used}
 use borrow.Author.Needs.{needs}
 use mathlib.Core.Path.{_∙_, refl, sym}
@@ -26,6 +26,6 @@ returns-3 : tie.Need-returns-3
 unfolding shown
 returns-3 c = rw (sym (c .before .before .before .before .used .ensures) ∙ c .before .before .before .if1 .left, sym (c .before .before .used2 .ensures) ∙ c .before .if2 .left) (c .marked .ensures)
 
-pub shown-spec : {M : Type 1} → statement M
-shown-spec =
+pub is-shown-spec : {M : Type 1} → statement M
+is-shown-spec =
     tie.close (tie.spec used-requires returns used-requires-2 returns-2 marked-requires returns-3)

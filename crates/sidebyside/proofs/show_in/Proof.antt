@@ -1,0 +1,66 @@
+-- `sidebyside::show_in` meets its contract: the text has no room, or is copied. Assumes nothing.
+use Rattle.sidebyside.proofs.Ways.{held, held-not, refused-8, shown-all}
+use Rattle.sidebyside.proofs.show_in.Statement.{statement}
+use Rattle.sidebyside.proofs.show_in.Tie as tie
+use Rattle.texts.proofs.Putting.{length-put}
+use borrow.Author.Needs.{needs}
+use lib.Seq.{length-take-le}
+use mathlib.Core.Path.{refl, sym}
+use native.Mathlib.Omega.{arith}
+
+slice-aggregate-put-rows : tie.Need-slice-aggregate-put-rows
+slice-aggregate-put-rows c = search needs
+
+put-rows-requires : tie.Need-put-rows-requires
+put-rows-requires c κs = search needs
+
+refused-requires : tie.Need-refused-requires
+refused-requires c κs = search needs
+
+returns : tie.Need-returns
+returns c = refused-8 _ _ _ _ (c .refused .ensures) (omega (arith, held-not (c .before .before .before .put-rows .ensures) refl (c .before .if1 .taken)))
+
+refused-requires-2 : tie.Need-refused-requires-2
+refused-requires-2 c κs = search needs
+
+returns-2 : tie.Need-returns-2
+returns-2 c = refused-8 _ _ _ _ (c .refused2 .ensures) (omega (arith, held (c .before .before .before .before .put-rows .ensures) refl (c .before .before .if1 .left) .all, c .before .if2 .taken))
+
+array-share-prefix-scratch : tie.Need-array-share-prefix-scratch
+array-share-prefix-scratch c = search needs
+
+slice-aggregate-put-bytes : tie.Need-slice-aggregate-put-bytes
+slice-aggregate-put-bytes c = sym (length-take-le _ _ (omega (arith, length-put (c .before .before .before .before .before .put-rows .ensures), c .before .before .before .if1 .left)))
+
+put-bytes-requires : tie.Need-put-bytes-requires
+put-bytes-requires c κs = search needs
+
+cast-t17 : tie.Need-cast-t17
+cast-t17 c = search needs
+
+count-marked-requires : tie.Need-count-marked-requires
+count-marked-requires c κs = search needs
+
+same-length : tie.Need-same-length
+same-length c = search needs
+
+returns-3 : tie.Need-returns-3
+returns-3 c = let h = held (c .before .before .before .before .before .before .before .before .before .put-rows .ensures) refl (c .before .before .before .before .before .before .before .if1 .left) in rw (← c .count-marked .ensures) (shown-all _ _ (c .before .before .before .before .before .before .before .before .before .before .before .before .before .before .args .text .now) _ _ (h .all) (omega (arith, h .all, c .before .before .before .before .before .before .if2 .left)) (omega (arith, h .all, c .before .before .before .before .before .before .before .if1 .left)) (rw (h .text) at (c .before .before .before .put-bytes .ensures .bytes)))
+
+pub show-in-spec : {M : Type 1} → statement M
+show-in-spec =
+    tie.close
+    (tie.spec
+    slice-aggregate-put-rows
+    put-rows-requires
+    refused-requires
+    returns
+    refused-requires-2
+    returns-2
+    array-share-prefix-scratch
+    slice-aggregate-put-bytes
+    put-bytes-requires
+    cast-t17
+    count-marked-requires
+    same-length
+    returns-3)
