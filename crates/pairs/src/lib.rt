@@ -35,7 +35,11 @@ pub fn table_words(table: &[u8], words: &mut [u32]) -> usize
 
 // The rows of two tables, into a lent buffer of bytes.
 #[no_mangle]
-pub extern "C" fn hub_kernel_rows(first: &[u8], second: &[u8], text: &mut [u8]) -> HubKernelRowsReply
+pub extern "C" fn hub_kernel_rows(
+    first: &[u8],
+    second: &[u8],
+    text: &mut [u8],
+) -> HubKernelRowsReply
     ensures { λ r. ⌜ RowsOfBytes (now (first .entry)) (now (second .entry)) (now (text .entry)) r (now (text .exit)) ⌝ }
 {
     let mut old = [0u32; records::TABLE_SIZE_TWO];
