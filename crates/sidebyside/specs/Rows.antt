@@ -10,9 +10,9 @@ use Rattle.sidebyside.specs.declared.Row.the-variants.{Answer, Contents,
 use Rattle.sidebyside.specs.declared.Row.{Row}
 use Rattle.texts.specs.Cells.{answerText, contentsText, holdsText, kindText, stateText, tasksText}
 use Rattle.texts.specs.Texts.{bytes}
-use lib.Dec.{eqb, ltb}
+use lib.Dec.{eqb, leb, ltb}
 use lib.ListN.{getD}
-use mathlib.Core.Bool.{Bool, _||_, cond, false, not, true}
+use mathlib.Core.Bool.{Bool, _&&_, cond, false, not, true}
 use mathlib.Core.List.{List, [], _++_, _∷_}
 
 -- ---- the rows, in their order
@@ -97,19 +97,36 @@ unfoldable pub differs : List ℕ → List ℕ → List Range → Bool
 differs a b [] = false
 differs a b (r ∷ rs) = cond (differ a b (r .from) (r .count)) true (differs a b rs)
 
--- equal words have one text, but for the ready list: its text says also which task runs (proofs/Promise, `marked-exactly`)
-unfoldable pub runsDiffer : ℕ → ℕ → Row → Bool
-runsDiffer runs runs′ Contents = false
-runsDiffer runs runs′ ReadyList = not (eqb runs runs′)
-runsDiffer runs runs′ (State i) = false
-runsDiffer runs runs′ (Priority i) = false
-runsDiffer runs runs′ (Answer i) = false
-runsDiffer runs runs′ (Kind h) = false
-runsDiffer runs runs′ (Holds h) = false
-runsDiffer runs runs′ (Waiting h) = false
+-- two texts say more than the words that their rows cover: the ready list's which task runs, and what a hub holds is said by its kind
+unfoldable pub moreDiffers : ℕ → List ℕ → List ℕ → ℕ → ℕ → Row → Bool
+moreDiffers ts a b runs runs′ Contents = false
+moreDiffers ts a b runs runs′ ReadyList = not (eqb runs runs′)
+moreDiffers ts a b runs runs′ (State i) = false
+moreDiffers ts a b runs runs′ (Priority i) = false
+moreDiffers ts a b runs runs′ (Answer i) = false
+moreDiffers ts a b runs runs′ (Kind h) = false
+moreDiffers ts a b runs runs′ (Holds h) = differ a b (hubsAt ts + h * 4) 1
+moreDiffers ts a b runs runs′ (Waiting h) = false
 
+unfoldable pub apart : ℕ → List ℕ → List ℕ → ℕ → ℕ → Row → Bool
+apart ts a b runs runs′ r = cond (differs a b (covers ts r)) true (moreDiffers ts a b runs runs′ r)
+
+-- marked: one table alone uses what the row is about, or they are apart. That is, a word that the row covers differs, or its two
+-- texts differ (proofs/Promise, `marked-exactly`)
 unfoldable pub marked : ℕ → List ℕ → List ℕ → ℕ → ℕ → Row → Bool
-marked ts a b runs runs′ r = cond (differs a b (covers ts r)) true (runsDiffer runs runs′ r)
+marked ts a b runs runs′ r =
+    cond (used a r)
+    (cond (used b r) (apart ts a b runs runs′ r) true)
+    (cond (used b r) true (apart ts a b runs runs′ r))
+
+-- ---- whether a place of the table lies in the words that a row covers
+
+unfoldable pub inRanges : List Range → ℕ → Bool
+inRanges [] p = false
+inRanges (r ∷ rs) p = cond (leb (r .from) p && ltb p (r .from + r .count)) true (inRanges rs p)
+
+abbrev pub lies : ℕ → Row → ℕ → Bool
+lies ts r p = inRanges (covers ts r) p
 
 -- ---- a cell
 

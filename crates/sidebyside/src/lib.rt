@@ -4,7 +4,7 @@
 ghost use Prim.Native.Nat.{_*_, _+_, _<_, _≤_};
 ghost use Rattle.lists.specs.Lists.{bit};
 ghost use Rattle.sidebyside.specs.Rows.{cell, hubRow, lineText, markText, markedIn, rowAt, rowNumber, rowText, rows, rowsText, taskRow, title, usedText};
-ghost use Rattle.sidebyside.specs.Rows.{differ as Rows·differ, marked as Rows·marked, shown as Rows·shown, used as Rows·used};
+ghost use Rattle.sidebyside.specs.Rows.{apart as Rows·apart, differ as Rows·differ, marked as Rows·marked, shown as Rows·shown, used as Rows·used};
 ghost use Rattle.sidebyside.specs.Shows.{ShownAs, Shows, pairRefusal};
 ghost use Rattle.texts.specs.Texts.{Put};
 ghost use mathlib.Core.Path.{_≡_};
@@ -136,11 +136,51 @@ fn differ(a: &[u32], b: &[u32], at: usize, size: usize, i: u32, f: usize, n: usi
     false
 }
 
-// Whether the row is marked. Of all texts that of the ready list alone can differ where the words that it covers don't.
-fn marked(a: &[u32], b: &[u32], ts: usize, ra: u32, rb: u32, row: Row) -> bool
+// What a hub holds: its count and its store, and, since a text says it by the kind, its kind.
+fn holds_apart(a: &[u32], b: &[u32], ts: usize, h: u32) -> bool
     requires { ⌜ 8 ≤ ts ⌝ }
     requires { ⌜ ts ≤ 9 ⌝ }
-    ensures { λ r. ⌜ r ≡ Rows·marked ts (now (a .entry)) (now (b .entry)) ra rb row ⌝ }
+    ensures { λ r. ⌜ r ≡ Rows·apart ts (now (a .entry)) (now (b .entry)) 0 0 (Row.Holds h) ⌝ }
+{
+    if differ(
+        a,
+        b,
+        records::hubs_at(ts),
+        records::HUB_SIZE,
+        h,
+        records::COUNT,
+        1,
+    ) {
+        return true;
+    }
+    if differ(
+        a,
+        b,
+        records::stores_at(ts),
+        records::store_size(ts),
+        h,
+        0,
+        records::store_size(ts),
+    ) {
+        return true;
+    }
+    differ(
+        a,
+        b,
+        records::hubs_at(ts),
+        records::HUB_SIZE,
+        h,
+        records::KIND,
+        1,
+    )
+}
+
+// Whether the words that a row covers differ, or what its text says beside them: of the ready list the task that runs, of what a
+// hub holds its kind.
+fn apart(a: &[u32], b: &[u32], ts: usize, ra: u32, rb: u32, row: Row) -> bool
+    requires { ⌜ 8 ≤ ts ⌝ }
+    requires { ⌜ ts ≤ 9 ⌝ }
+    ensures { λ r. ⌜ r ≡ Rows·apart ts (now (a .entry)) (now (b .entry)) ra rb row ⌝ }
 {
     match row {
         Row::Contents => differ(a, b, 0, 0, 0, 0, records::TASKS_AT),
@@ -180,26 +220,7 @@ fn marked(a: &[u32], b: &[u32], ts: usize, ra: u32, rb: u32, row: Row) -> bool
                     2,
                 )
         }
-        Row::Holds(h) => {
-            differ(
-                a,
-                b,
-                records::hubs_at(ts),
-                records::HUB_SIZE,
-                h,
-                records::COUNT,
-                1,
-            )
-                || differ(
-                    a,
-                    b,
-                    records::stores_at(ts),
-                    records::store_size(ts),
-                    h,
-                    0,
-                    records::store_size(ts),
-                )
-        }
+        Row::Holds(h) => holds_apart(a, b, ts, h),
         Row::Waiting(h) => differ(
             a,
             b,
@@ -210,6 +231,24 @@ fn marked(a: &[u32], b: &[u32], ts: usize, ra: u32, rb: u32, row: Row) -> bool
             records::LIST_SIZE,
         ),
     }
+}
+
+// Whether the row is marked: one table alone uses what it is about, or what they say of it is apart.
+fn marked(a: &[u32], b: &[u32], ts: usize, ra: u32, rb: u32, row: Row) -> bool
+    requires { ⌜ 8 ≤ ts ⌝ }
+    requires { ⌜ ts ≤ 9 ⌝ }
+    ensures { λ r. ⌜ r ≡ Rows·marked ts (now (a .entry)) (now (b .entry)) ra rb row ⌝ }
+{
+    if used(a, row) {
+        if !used(b, row) {
+            return true;
+        }
+        return apart(a, b, ts, ra, rb, row);
+    }
+    if used(b, row) {
+        return true;
+    }
+    apart(a, b, ts, ra, rb, row)
 }
 
 // What a hub holds, from its record and its store.
