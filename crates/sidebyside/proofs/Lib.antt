@@ -1,5 +1,6 @@
 pub mod Cells
 pub mod Marks
+pub mod Promise
 pub mod Turns
 pub mod Ways
 pub mod Words
