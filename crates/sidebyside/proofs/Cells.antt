@@ -32,7 +32,7 @@ module _ (a b : List ℕ) where
   run-same p n e k lo hi = none-differ a b p n k e lo hi
 
   -- one run, and two
-  one-run : (p n : ℕ) → differs a b (record { from = p; count = n } ∷ []) ≡ false → Same p n
+  pub one-run : (p n : ℕ) → differs a b (record { from = p; count = n } ∷ []) ≡ false → Same p n
   unfolding differs
   one-run p n e = run-same p n (boolCase (differ a b p n) (λ d. absurd (false≢true (sym (rw d at e)))) (λ d. d))
 
@@ -59,7 +59,7 @@ module _ (a b : List ℕ) where
       (λ q. rw (q, low) refl)
 
   module _ (long : length a ≡ length b) where
-    part-same : (p n : ℕ) → Same p n → part p n a ≡ part p n b
+    pub part-same : (p n : ℕ) → Same p n → part p n a ≡ part p n b
     part-same p n s =
         let m = length-take n (drop p a) in
         let m′ = length-take n (drop p b) in

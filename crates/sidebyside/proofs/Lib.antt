@@ -1,4 +1,5 @@
 pub mod Cells
+pub mod Distinct
 pub mod Marks
 pub mod Promise
 pub mod Turns

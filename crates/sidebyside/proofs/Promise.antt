@@ -2,33 +2,39 @@
 -- lies in a marked row that is shown; what an unmarked row says, and a marked one; no row is marked exactly if the tables are equal; the
 -- marked rows and M-106's entries; the refusals.
 -- Not here: that the code does what the definitions say (the functions' proofs). Assumes nothing.
-use Prim.Native.Nat.{_*_, _+_, _<_, _≤_, suc, zero, ℕ}
+use Prim.Native.Nat.{_*_, _+_, _-_, _<_, _≤_, suc, zero, ℕ}
 use Rattle.differences.proofs.Promise.{OneEdition, differs-listed, listed-differs}
 use Rattle.differences.proofs.Ways.{Formed}
 use Rattle.differences.specs.Differences.{Entry, entries}
 use Rattle.lists.proofs.Laws.{boolCase}
-use Rattle.lists.specs.Lists.{bit}
-use Rattle.records.specs.Records.{hubsAt, tableSize, taskSizeOf}
+use Rattle.lists.proofs.Padding.{zero-at}
+use Rattle.lists.specs.Lists.{bit, numbers}
+use Rattle.records.specs.Records.{hubAt as hubRecordAt, hubsAt, readyAt, tableSize, taskSizeOf}
 use Rattle.rules.proofs.After.{valid-in}
 use Rattle.rules.proofs.Layouts.{Laid, store-place}
 use Rattle.rules.proofs.Reading.{read-hub, read-hubs}
 use Rattle.rules.proofs.Valid.{Range}
 use Rattle.rules.specs.Table as RulesTable
-use Rattle.rules.specs.Table.{Hub, editionOf, hub, hubAt, kindOf, stateOf}
-use Rattle.sidebyside.proofs.Cells.{Few, cell-same}
-use Rattle.sidebyside.proofs.Words.{Differing, RowOf, Unmarked, marked-by, marked-shown, none-differs, once, row-of-place, some-differ, times, unmarked}
-use Rattle.sidebyside.specs.Rows.{Range as Run, apart, cell, covers, differ, differs, lies, marked, markedIn, moreDiffers, rows, shown, used}
+use Rattle.rules.proofs.Written.{written-says}
+use Rattle.rules.specs.Lists.{firstFree, next}
+use Rattle.rules.specs.Table.{Hub, NoKind, editionOf, hub, hubAt, kindOf, part, read, stateOf, taskSize, tasksAt}
+use Rattle.rules.specs.WellFormed.{unusedZero, valid, wellFormedIn, written, zeroFrom}
+use Rattle.sidebyside.proofs.Cells.{Few, cell-same, one-run, part-same}
+use Rattle.sidebyside.proofs.Distinct.{kind-said, kindSaid, never-unused, runs-said}
+use Rattle.sidebyside.proofs.Words.{Differing, RowOf, Unmarked, marked-by, marked-shown, none-differs, once, row-of-place, some-differ, some-differs, times, unmarked}
+use Rattle.sidebyside.specs.Rows.{Range as Run, apart, cell, covers, differ, differs, hubRows, lies, marked, markedIn, moreDiffers, rowNumber, rows, shown, taskRows, used, usedText}
 use Rattle.sidebyside.specs.Shows.{isMarked, isShown, marksOf, runsIn, sizeOf}
 use Rattle.sidebyside.specs.declared.Row.the-variants.{Answer, Contents, Holds, Kind, Priority, ReadyList, State, Waiting}
 use Rattle.sidebyside.specs.declared.Row.{Row}
+use Rattle.texts.specs.Cells.{tasksText}
 use Rattle.wellformed.proofs.Editions.{edition-laid-of}
 use borrow.Author.Tests.{eq-eqb, eqb-false, eqb-true, ltb-false, ltb-true}
 use lib.Dec.{eqb, ltb}
 use lib.ListN.{List·getD-eq-default, getD, length}
 use lib.Seq.{ext-getD}
-use mathlib.Core.Bool.{Bool, cond, false, false≢true, true}
+use mathlib.Core.Bool.{Bool, and-eq-true-iff, cond, false, false≢true, true}
 use mathlib.Core.List.{List, List·Memᴰ, List·Memᴰ·cases-cons, List·Memᴰ·head, List·Memᴰ·not-nil, List·Memᴰ·tail, [], _∷_}
-use mathlib.Core.Logic.{_⊎_, inl, inr, ⊎-elim}
+use mathlib.Core.Logic.{_↔_, _⊎_, inl, inr, ⊎-elim}
 use mathlib.Core.Path.{_∙_, _≡_, ap, refl, sym}
 use native.Mathlib.Omega.{arith}
 
@@ -45,6 +51,49 @@ laid t = edition-laid-of t (sizeOf t) refl
 
 table-long : (t : List ℕ) → Formed t → length t ≡ tableSize (sizeOf t)
 table-long t f = f .long ∙ sym (store-place (laid t) 16)
+
+-- ---- a table's ready list and the kinds of its hubs
+
+ready-is : (t : List ℕ) → stateOf t .ready ≡ numbers (part (readyAt (sizeOf t)) 16 t)
+unfolding read
+ready-is t =
+    let e : RulesTable.readyAt (editionOf t) ≡ readyAt (sizeOf t) = omega (arith, laid t .size) in
+    ap (λ (p : ℕ). numbers (part p 16 t)) e
+
+kind-at : (t : List ℕ) (h : ℕ) → RulesTable.hubsAt (editionOf t) + h * 4 + 0 ≡ hubsAt (sizeOf t) + h * 4
+kind-at t h = omega (arith, laid t .size)
+
+-- a hub in use has one of the six kinds
+kind-known : (t : List ℕ) → Formed t → (h : ℕ) → h < getD t 2 0 → (1 ≤ getD t (hubsAt (sizeOf t) + h * 4) 0) × (getD t (hubsAt (sizeOf t) + h * 4) 0 ≤ 6)
+unfolding Range hubAt kindOf
+kind-known t f h here =
+    let L = editionOf t in
+    let k = getD t (hubsAt (sizeOf t) + h * 4) 0 in
+    let kind : hub (stateOf t) h .kind ≡ k = ap (λ (x : Hub). x .kind) (read-hub L t h here) ∙ ap (λ (p : ℕ). getD t p 0) (kind-at t h) in
+    let range = rw kind at (valid-in L t (f .formed) .ranges .range h (rw (read-hubs L t) here)) in (
+      boolCase (eqb k 0)
+          (λ q. absurd (rw (eqb-true k 0 q) at range))
+          (λ q. omega (arith, eqb-false k 0 q)),
+      boolCase (ltb k 7)
+          (λ q. omega (arith, ltb-true k 7 q))
+          (λ q. absurd (rw (List·getD-eq-default kinds NoKind {n = k} (ltb-false k 7 q)) at range)),
+    )
+  where
+    kinds : List RulesTable.Kind
+    kinds = NoKind ∷ RulesTable.Event ∷ RulesTable.Semaphore ∷ RulesTable.Port ∷ RulesTable.Fifo ∷ RulesTable.Resource ∷ RulesTable.Board ∷ []
+
+-- one that isn't has none
+kind-unused : (t : List ℕ) → Formed t → (h : ℕ) → h < 16 → getD t 2 0 ≤ h → getD t (hubsAt (sizeOf t) + h * 4) 0 ≡ 0
+unfolding unusedZero wellFormedIn
+kind-unused t f h few here =
+    let L = editionOf t in
+    let H = getD t 2 0 in
+    let a = RulesTable.hubsAt L + H * 4 in
+    let zeros : unusedZero L t ≡ true = written-says L t (and-eq-true-iff (written L t) (valid (read L t)) .0 (f .formed) .0) .unused in
+    let rest = and-eq-true-iff (zeroFrom (tasksAt + getD t 1 0 * taskSize L) (RulesTable.hubsAt L) t) _ .0 zeros .1 in
+    let behind : zeroFrom a (RulesTable.readyAt L) t ≡ true = and-eq-true-iff (zeroFrom a (RulesTable.readyAt L) t) _ .0 rest .0 in
+    let place : a + (h * 4 - getD t 2 0 * 4) ≡ hubsAt (sizeOf t) + h * 4 = omega (arith, laid t .size) in
+    rw place at (zero-at t a (RulesTable.readyAt L - a) (h * 4 - getD t 2 0 * 4) (omega arith) behind)
 
 -- ---- every place of a table lies in exactly one row
 
@@ -63,6 +112,27 @@ module _ (ts : ℕ) (a b : List ℕ) (ra rb : ℕ) where
       (λ q.
       let z : bit false + markedIn ts a b ra rb rs ≡ 0 = rw q at e in
       ⊎-elim (λ s. rw s q) (λ s. unmarked-all rs (omega arith) r s) (List·Memᴰ·cases-cons m))
+
+-- ---- a row is about one of 16
+
+lowRows : List Row → Bool
+lowRows [] = true
+lowRows (r ∷ rs) = cond (ltb (rowNumber r) 16) (lowRows rs) false
+
+low-rows : lowRows rows ≡ true
+unfolding hubRows lowRows rows taskRows
+low-rows = refl
+
+low-row : (rs : List Row) → lowRows rs ≡ true → (r : Row) → List·Memᴰ r rs → rowNumber r < 16
+unfolding lowRows
+low-row [] e r m = absurd (List·Memᴰ·not-nil m)
+low-row (x ∷ rs) e r m =
+    boolCase (ltb (rowNumber x) 16)
+    (λ q. ⊎-elim (λ s. rw s (ltb-true (rowNumber x) 16 q)) (λ s. low-row rs (rw q at e) r s) (List·Memᴰ·cases-cons m))
+    (λ q. absurd (false≢true (rw q at e)))
+
+row-few : (r : Row) → List·Memᴰ r rows → rowNumber r < 16
+row-few r m = low-row rows low-rows r m
 
 -- ---- a differing word lies in a marked row that is shown
 
@@ -105,6 +175,95 @@ module _ (a b : List ℕ) (w : OneEdition a b) where
         λ p i. none-differs a b (covers (sizeOf a) r) p (u .words) i,
         cell-same a b (w .same) (sizeOf a) (size-low (length a)) (runsIn a) (runsIn b) r few u,
       )
+
+  -- ---- a marked row differs: a word that it covers, or its two texts
+
+  -- one table alone uses it
+  used-apart : (r : Row) → (used a r ≡ used b r → ⊥) → cell (sizeOf a) a (runsIn a) r ≡ cell (sizeOf a) b (runsIn b) r → ⊥
+  unfolding cell
+  used-apart r d e =
+      boolCase (used a r)
+      (λ p. boolCase (used b r) (λ q. d (p ∙ sym q)) (λ q. never-unused (sizeOf a) a (runsIn a) r (rw (p, q) at e)))
+      (λ p. boolCase (used b r) (λ q. never-unused (sizeOf a) b (runsIn b) r (sym (rw (p, q) at e))) (λ q. d (p ∙ sym q)))
+
+  -- both use it, its words are equal, and what its text says beside them differs
+  more-apart : (r : Row) → used a r ≡ true → used b r ≡ true → differs a b (covers (sizeOf a) r) ≡ false → moreDiffers (sizeOf a) a b (runsIn a) (runsIn b) r ≡ true
+      → usedText (sizeOf a) a (runsIn a) r ≡ usedText (sizeOf a) b (runsIn b) r → ⊥
+  unfolding covers hubRecordAt moreDiffers next used usedText
+  more-apart Contents p q d m e = false≢true m
+  more-apart ReadyList p q d m e =
+      let l = numbers (part (readyAt (sizeOf a)) 16 a) in
+      let l′ = numbers (part (readyAt (sizeOf a)) 16 b) in
+      let one : l ≡ l′ = ap numbers (part-same a b (w .same) (readyAt (sizeOf a)) 16 (one-run a b (readyAt (sizeOf a)) 16 d)) in
+      let ra : runsIn a ≡ firstFree (stateOf a) l = ap (firstFree (stateOf a)) (ready-is a) in
+      let rb : runsIn b ≡ firstFree (stateOf b) l = ap (firstFree (stateOf b)) (ready-is b ∙ rw (sym (w .same)) (sym one)) in
+      let said : tasksText (firstFree (stateOf a) l) l ≡ tasksText (firstFree (stateOf b) l) l = rw (ra, rb, ← one) at e in
+      let same : runsIn a ≡ runsIn b = ra ∙ runs-said (stateOf a) (stateOf b) l said ∙ sym rb in
+      false≢true (rw (eq-eqb (runsIn a) (runsIn b) same) at m)
+  more-apart (State i) p q d m e = false≢true m
+  more-apart (Priority i) p q d m e = false≢true m
+  more-apart (Answer i) p q d m e = false≢true m
+  more-apart (Kind h) p q d m e = false≢true m
+  more-apart (Holds h) p q d m e =
+      let k = hubsAt (sizeOf a) + h * 4 in
+      let s = some-differs a b k 1 m in
+      let here : s .place ≡ k = omega (arith, s .low, s .high) in
+      let first = kind-known a (w .first) h (ltb-true h (getD a 2 0) p) in
+      let second : (1 ≤ getD b k 0) × (getD b k 0 ≤ 6) = rw (← w .same) at (kind-known b (w .second) h (ltb-true h (getD b 2 0) q)) in
+      let said = ap kindSaid e in
+      s .differ (rw here (sym (kind-said _ a _ _ (first .0) (first .1)) ∙ said ∙ kind-said _ b _ _ (second .0) (second .1)))
+  more-apart (Waiting h) p q d m e = false≢true m
+
+  -- neither uses it: then there is nothing that its text could say beside its words
+  unused-apart : (r : Row) → List·Memᴰ r rows → used a r ≡ false → used b r ≡ false → moreDiffers (sizeOf a) a b (runsIn a) (runsIn b) r ≡ true → ⊥
+  unfolding moreDiffers used
+  unused-apart Contents l p q m = false≢true m
+  unused-apart ReadyList l p q m = false≢true (sym p)
+  unused-apart (State i) l p q m = false≢true m
+  unused-apart (Priority i) l p q m = false≢true m
+  unused-apart (Answer i) l p q m = false≢true m
+  unused-apart (Kind h) l p q m = false≢true m
+  unused-apart (Holds h) l p q m =
+      let k = hubsAt (sizeOf a) + h * 4 in
+      let s = some-differs a b k 1 m in
+      let here : s .place ≡ k = omega (arith, s .low, s .high) in
+      let low : h < 16 = row-few (Holds h) l in
+      let first = kind-unused a (w .first) h low (ltb-false h (getD a 2 0) p) in
+      let second : getD b k 0 ≡ 0 = rw (← w .same) at (kind-unused b (w .second) h low (ltb-false h (getD b 2 0) q)) in
+      s .differ (rw here (first ∙ sym second))
+  unused-apart (Waiting h) l p q m = false≢true m
+
+  pub marked-differs : (r : Row) → List·Memᴰ r rows → isMarked a b r ≡ true
+      → Differing a b (covers (sizeOf a) r) ⊎ (cell (sizeOf a) a (runsIn a) r ≡ cell (sizeOf a) b (runsIn b) r → ⊥)
+  unfolding apart cell marked
+  marked-differs r l m =
+      boolCase (differs a b (covers (sizeOf a) r))
+      (λ d. inl (some-differ a b (covers (sizeOf a) r) d))
+      (λ d.
+      inr
+      (λ e.
+      boolCase (used a r)
+      (λ p.
+      boolCase (used b r)
+      (λ q. more-apart r p q d (rw (p, q, d) at m) (rw (p, q) at e))
+      (λ q. used-apart r (λ z. false≢true (sym q ∙ sym z ∙ p)) e))
+      (λ p.
+      boolCase (used b r)
+      (λ q. used-apart r (λ z. false≢true (sym p ∙ z ∙ q)) e)
+      (λ q. unused-apart r l p q (rw (p, q, d) at m)))))
+
+  -- both ways: a row is marked exactly if a word that it covers differs, or its two texts differ
+  pub marked-exactly : (r : Row) → List·Memᴰ r rows
+      → isMarked a b r ≡ true ↔ (Differing a b (covers (sizeOf a) r) ⊎ (cell (sizeOf a) a (runsIn a) r ≡ cell (sizeOf a) b (runsIn b) r → ⊥))
+  marked-exactly r l = (
+    marked-differs r l,
+    λ why.
+        boolCase (isMarked a b r)
+        (λ m. m)
+        (λ m.
+        let u = unmarked-same r m in
+        absurd (⊎-elim (λ s. s .differ (u .0 (s .place) (s .lies))) (λ d. d (u .1)) why)),
+  )
 
   -- ---- no row is marked: the tables are equal
 

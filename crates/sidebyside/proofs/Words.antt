@@ -38,7 +38,7 @@ module _ (a b : List ℕ) where
     pub high : place < p + n
     pub differ : getD a place 0 ≡ getD b place 0 → ⊥
 
-  some-differs : (p n : ℕ) → differ a b p n ≡ true → Spot p n
+  pub some-differs : (p n : ℕ) → differ a b p n ≡ true → Spot p n
   unfolding differ
   some-differs p zero e = absurd (false≢true e)
   some-differs p (suc n) e =
