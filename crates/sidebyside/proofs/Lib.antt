@@ -1,5 +1,6 @@
 pub mod Cells
 pub mod Distinct
+pub mod Lengths
 pub mod Marks
 pub mod Promise
 pub mod Turns

@@ -2,7 +2,7 @@
 -- lies in a marked row that is shown; what an unmarked row says, and a marked one; no row is marked exactly if the tables are equal; the
 -- marked rows and M-106's entries; the refusals.
 -- Not here: that the code does what the definitions say (the functions' proofs). Assumes nothing.
-use Prim.Native.Nat.{_*_, _+_, _-_, _<_, _≤_, suc, zero, ℕ}
+use Prim.Native.Nat.{_*_, _+_, _-_, _<_, _≤_, min, suc, zero, ℕ}
 use Rattle.differences.proofs.Promise.{OneEdition, differs-listed, listed-differs}
 use Rattle.differences.proofs.Ways.{Formed}
 use Rattle.differences.specs.Differences.{Entry, entries}
@@ -14,6 +14,7 @@ use Rattle.rules.proofs.After.{valid-in}
 use Rattle.rules.proofs.Layouts.{Laid, store-place}
 use Rattle.rules.proofs.Reading.{read-hub, read-hubs}
 use Rattle.rules.proofs.Valid.{Range}
+use Rattle.rules.specs.Refusals.{need}
 use Rattle.rules.specs.Table as RulesTable
 use Rattle.rules.proofs.Written.{written-says}
 use Rattle.rules.specs.Lists.{firstFree, next}
@@ -21,15 +22,16 @@ use Rattle.rules.specs.Table.{Hub, NoKind, editionOf, hub, hubAt, kindOf, part,
 use Rattle.rules.specs.WellFormed.{unusedZero, valid, wellFormedIn, written, zeroFrom}
 use Rattle.sidebyside.proofs.Cells.{Few, cell-same, one-run, part-same}
 use Rattle.sidebyside.proofs.Distinct.{kind-said, kindSaid, never-unused, runs-said}
+use Rattle.sidebyside.proofs.Lengths.{text-most}
 use Rattle.sidebyside.proofs.Words.{Differing, RowOf, Unmarked, marked-by, marked-shown, none-differs, once, row-of-place, some-differ, some-differs, times, unmarked}
 use Rattle.sidebyside.specs.Rows.{Range as Run, apart, cell, covers, differ, differs, hubRows, lies, marked, markedIn, moreDiffers, rowNumber, rows, shown, taskRows, used, usedText}
-use Rattle.sidebyside.specs.Shows.{isMarked, isShown, marksOf, runsIn, sizeOf}
+use Rattle.sidebyside.specs.Shows.{isMarked, isShown, marksOf, refusalFor, runsIn, sizeOf, textOf}
 use Rattle.sidebyside.specs.declared.Row.the-variants.{Answer, Contents, Holds, Kind, Priority, ReadyList, State, Waiting}
 use Rattle.sidebyside.specs.declared.Row.{Row}
 use Rattle.texts.specs.Cells.{tasksText}
 use Rattle.wellformed.proofs.Editions.{edition-laid-of}
-use borrow.Author.Tests.{eq-eqb, eqb-false, eqb-true, ltb-false, ltb-true}
-use lib.Dec.{eqb, ltb}
+use borrow.Author.Tests.{eq-eqb, eqb-false, eqb-true, le-leb, lt-leb, ltb-false, ltb-true}
+use lib.Dec.{eqb, leb, ltb}
 use lib.ListN.{List·getD-eq-default, getD, length}
 use lib.Seq.{ext-getD}
 use mathlib.Core.Bool.{Bool, and-eq-true-iff, cond, false, false≢true, true}
@@ -81,6 +83,19 @@ kind-known t f h here =
   where
     kinds : List RulesTable.Kind
     kinds = NoKind ∷ RulesTable.Event ∷ RulesTable.Semaphore ∷ RulesTable.Port ∷ RulesTable.Fifo ∷ RulesTable.Resource ∷ RulesTable.Board ∷ []
+
+-- a FIFO holds at most 8 words
+fifo-few : (t : List ℕ) → Formed t → (h : ℕ) → used t (Holds h) ≡ true → getD t (hubsAt (sizeOf t) + h * 4) 0 ≡ 4 → getD t (hubsAt (sizeOf t) + h * 4 + 1) 0 ≤ 8
+unfolding Range hubAt kindOf used
+fifo-few t f h i k =
+    let L = editionOf t in
+    let here : h < getD t 2 0 = ltb-true h (getD t 2 0) i in
+    let same : hub (stateOf t) h ≡ hubAt L t h = read-hub L t h here in
+    let second : RulesTable.hubsAt L + h * 4 + 1 ≡ hubsAt (sizeOf t) + h * 4 + 1 = omega (arith, laid t .size) in
+    let kind : hub (stateOf t) h .kind ≡ 4 = ap (λ (x : Hub). x .kind) same ∙ ap (λ (p : ℕ). getD t p 0) (kind-at t h) ∙ k in
+    let count : hub (stateOf t) h .count ≡ getD t (hubsAt (sizeOf t) + h * 4 + 1) 0 = ap (λ (x : Hub). x .count) same ∙ ap (λ (p : ℕ). getD t p 0) second in
+    let range = rw kind at (valid-in L t (f .formed) .ranges .range h (rw (read-hubs L t) here)) in
+    omega (arith, range .0, range .2, count)
 
 -- one that isn't has none
 kind-unused : (t : List ℕ) → Formed t → (h : ℕ) → h < 16 → getD t 2 0 ≤ h → getD t (hubsAt (sizeOf t) + h * 4) 0 ≡ 0
@@ -153,20 +168,9 @@ module _ (a b : List ℕ) (w : OneEdition a b) where
 
   -- ---- a row that isn't marked has equal words, and two equal texts
 
-  -- a FIFO holds at most 8 words
   few : Few a b (w .same) (sizeOf a) (size-low (length a)) (runsIn a) (runsIn b)
-  unfolding Few Range hubAt kindOf used
-  few h i k =
-      let L = editionOf a in
-      let s = stateOf a in
-      let here : h < getD a 2 0 = ltb-true h (getD a 2 0) i in
-      let same : hub s h ≡ hubAt L a h = read-hub L a h here in
-      let first : RulesTable.hubsAt L + h * 4 + 0 ≡ hubsAt (sizeOf a) + h * 4 = omega (arith, laid a .size) in
-      let second : RulesTable.hubsAt L + h * 4 + 1 ≡ hubsAt (sizeOf a) + h * 4 + 1 = omega (arith, laid a .size) in
-      let kind : hub s h .kind ≡ 4 = ap (λ (x : Hub). x .kind) same ∙ ap (λ (p : ℕ). getD a p 0) first ∙ k in
-      let count : hub s h .count ≡ getD a (hubsAt (sizeOf a) + h * 4 + 1) 0 = ap (λ (x : Hub). x .count) same ∙ ap (λ (p : ℕ). getD a p 0) second in
-      let range = rw kind at (valid-in L a (w .first .formed) .ranges .range h (rw (read-hubs L a) here)) in
-      omega (arith, range .0, range .2, count)
+  unfolding Few
+  few = fifo-few a (w .first)
 
   pub unmarked-same : (r : Row) → isMarked a b r ≡ false
       → ((p : ℕ) → lies (sizeOf a) r p ≡ true → getD a p 0 ≡ getD b p 0) × (cell (sizeOf a) a (runsIn a) r ≡ cell (sizeOf a) b (runsIn b) r)
@@ -305,6 +309,24 @@ module _ (a b : List ℕ) (w : OneEdition a b) where
       (λ q.
       let h = ltb-false p (length a) q in
       absurd (s .differ (List·getD-eq-default a 0 {n = p} h ∙ sym (List·getD-eq-default b 0 {n = p} (omega (arith, w .same))))))
+
+-- ---- 8 exactly if the buffer is shorter than the text: in tables of words of 32 bits no text has 65,536 bytes
+
+module _ (a b : List ℕ) (w : OneEdition a b) (low-a : (k : ℕ) → getD a k 0 < 4294967296) (low-b : (k : ℕ) → getD b k 0 < 4294967296) where
+  pub text-short : length (textOf a b) ≤ 65535
+  text-short =
+      text-most (sizeOf a) a b
+      (record { low = low-a; few = fifo-few a (w .first) })
+      (record { low = low-b; few = rw (← w .same) at (fifo-few b (w .second)) })
+      (runsIn a) (runsIn b) row-few
+
+  pub eight : (room : ℕ) → room < length (textOf a b) → refusalFor 0 (textOf a b) room ≡ 8
+  unfolding need refusalFor
+  eight room h = rw (lt-leb (length (textOf a b)) (min room 65535) (omega arith)) refl
+
+  pub not-eight : (room : ℕ) → length (textOf a b) ≤ room → refusalFor 0 (textOf a b) room ≡ 0
+  unfolding need refusalFor
+  not-eight room h = rw (le-leb (length (textOf a b)) (min room 65535) (omega (arith, text-short))) refl
 
 -- ---- a table against itself
 
