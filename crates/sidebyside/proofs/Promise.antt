@@ -2,7 +2,7 @@
 -- lies in a marked row that is shown; what an unmarked row says, and a marked one; no row is marked exactly if the tables are equal; the
 -- marked rows and M-106's entries; the refusals.
 -- Not here: that the code does what the definitions say (the functions' proofs). Assumes nothing.
-use Prim.Native.Nat.{_*_, _+_, _-_, _<_, _≤_, min, suc, zero, ℕ}
+use Prim.Native.Nat.{_*_, _+_, _-_, _<_, _≤_, suc, zero, ℕ}
 use Rattle.differences.proofs.Promise.{OneEdition, differs-listed, listed-differs}
 use Rattle.differences.proofs.Ways.{Formed}
 use Rattle.differences.specs.Differences.{Entry, entries}
@@ -14,7 +14,6 @@ use Rattle.rules.proofs.After.{valid-in}
 use Rattle.rules.proofs.Layouts.{Laid, store-place}
 use Rattle.rules.proofs.Reading.{read-hub, read-hubs}
 use Rattle.rules.proofs.Valid.{Range}
-use Rattle.rules.specs.Refusals.{need}
 use Rattle.rules.specs.Table as RulesTable
 use Rattle.rules.proofs.Written.{written-says}
 use Rattle.rules.specs.Lists.{firstFree, next}
@@ -25,13 +24,13 @@ use Rattle.sidebyside.proofs.Distinct.{kind-said, kindSaid, never-unuse
 use Rattle.sidebyside.proofs.Lengths.{text-most}
 use Rattle.sidebyside.proofs.Words.{Differing, RowOf, Unmarked, marked-by, marked-shown, none-differs, once, row-of-place, some-differ, some-differs, times, unmarked}
 use Rattle.sidebyside.specs.Rows.{Range as Run, apart, cell, covers, differ, differs, hubRows, lies, marked, markedIn, moreDiffers, rowNumber, rows, shown, taskRows, used, usedText}
-use Rattle.sidebyside.specs.Shows.{isMarked, isShown, marksOf, refusalFor, runsIn, sizeOf, textOf}
+use Rattle.sidebyside.specs.Shows.{isMarked, isShown, marksOf, runsIn, sizeOf, textOf}
 use Rattle.sidebyside.specs.declared.Row.the-variants.{Answer, Contents, Holds, Kind, Priority, ReadyList, State, Waiting}
 use Rattle.sidebyside.specs.declared.Row.{Row}
 use Rattle.texts.specs.Cells.{tasksText}
 use Rattle.wellformed.proofs.Editions.{edition-laid-of}
-use borrow.Author.Tests.{eq-eqb, eqb-false, eqb-true, le-leb, lt-leb, ltb-false, ltb-true}
-use lib.Dec.{eqb, leb, ltb}
+use borrow.Author.Tests.{eq-eqb, eqb-false, eqb-true, ltb-false, ltb-true}
+use lib.Dec.{eqb, ltb}
 use lib.ListN.{List·getD-eq-default, getD, length}
 use lib.Seq.{ext-getD}
 use mathlib.Core.Bool.{Bool, and-eq-true-iff, cond, false, false≢true, true}
@@ -310,7 +309,7 @@ module _ (a b : List ℕ) (w : OneEdition a b) where
       let h = ltb-false p (length a) q in
       absurd (s .differ (List·getD-eq-default a 0 {n = p} h ∙ sym (List·getD-eq-default b 0 {n = p} (omega (arith, w .same))))))
 
--- ---- 8 exactly if the buffer is shorter than the text: in tables of words of 32 bits no text has 65,536 bytes
+-- ---- in tables of words of 32 bits no text has 65,536 bytes: so 8 is given exactly if the caller's buffer is shorter than the text
 
 module _ (a b : List ℕ) (w : OneEdition a b) (low-a : (k : ℕ) → getD a k 0 < 4294967296) (low-b : (k : ℕ) → getD b k 0 < 4294967296) where
   pub text-short : length (textOf a b) ≤ 65535
@@ -319,14 +318,6 @@ module _ (a b : List ℕ) (w : OneEdition a b) (low-a : (k : ℕ) → getD a k 0
       (record { low = low-a; few = fifo-few a (w .first) })
       (record { low = low-b; few = rw (← w .same) at (fifo-few b (w .second)) })
       (runsIn a) (runsIn b) row-few
-
-  pub eight : (room : ℕ) → room < length (textOf a b) → refusalFor 0 (textOf a b) room ≡ 8
-  unfolding need refusalFor
-  eight room h = rw (lt-leb (length (textOf a b)) (min room 65535) (omega arith)) refl
-
-  pub not-eight : (room : ℕ) → length (textOf a b) ≤ room → refusalFor 0 (textOf a b) room ≡ 0
-  unfolding need refusalFor
-  not-eight room h = rw (le-leb (length (textOf a b)) (min room 65535) (omega (arith, text-short))) refl
 
 -- ---- a table against itself
 

@@ -1,7 +1,8 @@
 -- The ways out of `show`. In order: the tables' own refusals, and what two tables that pass them know; who runs in one of them; the
 -- reply and the buffer of each way out.
 -- Not here: what the rows say. Assumes nothing.
-use Prim.Native.Nat.{_+_, _<_, _≤_, min, ℕ}
+use Prim.Native.Nat.{_+_, _<_, _≤_, ℕ}
+use Rattle.differences.proofs.Promise.{OneEdition}
 use Rattle.differences.proofs.Ways.{Formed, edition-long, edition-same, table-passed, table-refused, table-to}
 use Rattle.differences.specs.Differences.{tableRefusal}
 use Rattle.lists.proofs.Laws.{boolCase}
@@ -52,19 +53,13 @@ module _ (a b : List ℕ) where
       unfolding need
       pair-0 e = rw (eq-eqb (editionOf a .edition) (editionOf b .edition) (edition-same a b e)) at passed
 
--- two tables that may be shown: both well formed, and of one length
-pub record Pair (a b : List ℕ) : Type 0 where
-  pub first : Formed a
-  pub second : Formed b
-  pub long : length a ≡ length b
-
-pub pair-formed : (a b : List ℕ) → pairRefusal a b ≡ 0 → Pair a b
+pub pair-formed : (a b : List ℕ) → pairRefusal a b ≡ 0 → OneEdition a b
 unfolding need pairRefusal
 pair-formed a b e =
     let f = table-to a _ 0 e (λ z. omega (arith, z)) (λ z. omega (arith, z)) in
     let g = table-to b _ 0 (f .1) (λ z. omega (arith, z)) (λ z. omega (arith, z)) in
     boolCase (eqb (editionOf a .edition) (editionOf b .edition))
-    (λ q. record { first = f .0; second = g .0; long = edition-long a b (f .0) (g .0) (eqb-true (editionOf a .edition) (editionOf b .edition) q) })
+    (λ q. record { first = f .0; second = g .0; same = edition-long a b (f .0) (g .0) (eqb-true (editionOf a .edition) (editionOf b .edition) q) })
     (λ q. absurd (let z : _≡_ {A = ℕ} 13 0 = rw q at (g .1) in omega (arith, z)))
 
 -- ---- who runs
@@ -94,15 +89,15 @@ module _ (k : ℕ) (rowsOf : List ℕ) (marks : ℕ) (text : List ℕ) where
   refused-tables r e d = refused-by k r e d (rw (ne-eqb k 0 d) refl)
 
 module _ (rowsOf : List ℕ) (marks : ℕ) (text : List ℕ) where
-  pub refused-8 : (r : Shown) → (r .refusal ≡ 8) × (r .length ≡ 0) × (r .marked ≡ 0) → min (length text) 65535 < length rowsOf → ShownAs 0 rowsOf marks text r text
+  pub refused-8 : (r : Shown) → (r .refusal ≡ 8) × (r .length ≡ 0) × (r .marked ≡ 0) → length text < length rowsOf → ShownAs 0 rowsOf marks text r text
   unfolding need refusalFor
-  refused-8 r e h = refused-by 0 rowsOf marks text 8 r e (λ z. omega (arith, z)) (rw (lt-leb (length rowsOf) (min (length text) 65535) h) refl)
+  refused-8 r e h = refused-by 0 rowsOf marks text 8 r e (λ z. omega (arith, z)) (rw (lt-leb (length rowsOf) (length text) h) refl)
 
-  pub shown-all : (end : ℕ) (text′ : List ℕ) → end ≡ length rowsOf → length rowsOf ≤ length text → length rowsOf ≤ 65535 → text′ ≡ put text 0 rowsOf
+  pub shown-all : (end : ℕ) (text′ : List ℕ) → end ≡ length rowsOf → length rowsOf ≤ length text → text′ ≡ put text 0 rowsOf
       → ShownAs 0 rowsOf marks text (record { refusal = 0; length = end; marked = marks }) text′
   unfolding need put refusalFor replyFor textAfter
-  shown-all end text′ e h g w =
-      let fits : leb (length rowsOf) (min (length text) 65535) ≡ true = le-leb (length rowsOf) (min (length text) 65535) (omega arith) in
+  shown-all end text′ e h w =
+      let fits : leb (length rowsOf) (length text) ≡ true = le-leb (length rowsOf) (length text) h in
       let whole : sets text 0 rowsOf ≡ rowsOf ++ drop (0 + length rowsOf) text = sets-eq rowsOf text 0 (omega arith) in
       record { reply = rw (fits, e) refl; bytes = w ∙ rw fits (whole ∙ rw zero-add) }
 
@@ -111,13 +106,9 @@ pub record Held (rowsOf : List ℕ) (end : ℕ) (scratch : List ℕ) : Type 0 wh
   pub all : end ≡ length rowsOf
   pub text : take end scratch ≡ rowsOf
 
-module _ {rowsOf : List ℕ} {end : ℕ} {before scratch : List ℕ} (p : Put before 0 rowsOf end scratch) (long : length before ≡ 65536) where
-  pub held-not : 65536 ≤ end → 65536 ≤ length rowsOf
-  held-not h = omega (arith, p .place)
-
-  pub held : end < 65536 → Held rowsOf end scratch
-  unfolding put
-  held h =
-      let all : end ≡ length rowsOf = omega (arith, p .place) in
-      let whole : sets before 0 rowsOf ≡ rowsOf ++ drop (0 + length rowsOf) before = sets-eq rowsOf before 0 (omega arith) in
-      record { all = all; text = ap (take end) (p .bytes ∙ whole) ∙ take-at rowsOf (drop (0 + length rowsOf) before) end (sym all) }
+pub held : {rowsOf : List ℕ} {end : ℕ} {before scratch : List ℕ} → Put before 0 rowsOf end scratch → length before ≡ 65536 → length rowsOf ≤ 65535 → Held rowsOf end scratch
+unfolding put
+held {rowsOf} {end} {before} {scratch} p long h =
+    let all : end ≡ length rowsOf = omega (arith, p .place) in
+    let whole : sets before 0 rowsOf ≡ rowsOf ++ drop (0 + length rowsOf) before = sets-eq rowsOf before 0 (omega arith) in
+    record { all = all; text = ap (take end) (p .bytes ∙ whole) ∙ take-at rowsOf (drop (0 + length rowsOf) before) end (sym all) }

@@ -1,7 +1,7 @@
 -- What is given back for two tables, and what the buffer holds afterwards. In order: the refusals; the rows of two tables; the reply
 -- and every byte.
 -- Not here: the rows themselves (Rows.antt), and what is proved of them (proofs/Promise).
-use Prim.Native.Nat.{min, ℕ}
+use Prim.Native.Nat.{ℕ}
 use Rattle.differences.specs.Differences.{tableRefusal}
 use Rattle.records.specs.Records.{taskSizeOf}
 use Rattle.rules.specs.Lists.{next}
@@ -22,9 +22,9 @@ use mathlib.Core.Path.{_≡_}
 unfoldable pub pairRefusal : List ℕ → List ℕ → ℕ
 pairRefusal a b = tableRefusal a (tableRefusal b (need (eqb (editionOf a .edition) (editionOf b .edition)) 13 0))
 
--- then 8: the buffer is shorter than the text. No text has 65,536 bytes
+-- then 8: the buffer is shorter than the text
 unfoldable pub refusalFor : ℕ → List ℕ → ℕ → ℕ
-refusalFor n rowsOf room = cond (eqb n 0) (need (leb (length rowsOf) (min room 65535)) 8 0) n
+refusalFor n rowsOf room = cond (eqb n 0) (need (leb (length rowsOf) room) 8 0) n
 
 -- ---- the rows of two tables of one edition, with the task that runs in each marked in its ready list
 

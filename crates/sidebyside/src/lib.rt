@@ -7,6 +7,7 @@ ghost use Rattle.sidebyside.specs.Rows.{cell, hubRow, lineText, markText
 ghost use Rattle.sidebyside.specs.Rows.{apart as Rows·apart, differ as Rows·differ, marked as Rows·marked, shown as Rows·shown, used as Rows·used};
 ghost use Rattle.sidebyside.specs.Shows.{ShownAs, Shows, pairRefusal};
 ghost use Rattle.texts.specs.Texts.{Put};
+ghost use lib.ListN.{length};
 ghost use mathlib.Core.Path.{_≡_};
 use records::HubNo;
 use records::TaskNo;
@@ -30,7 +31,7 @@ pub struct Shown {
     pub marked: u32,
 }
 
-// More room than the rows of two tables take.
+// More room than the rows of two tables take (proofs/Promise, `text-short`).
 const ROOM: usize = 65536;
 
 // How many rows there are: two of the table, three for each of 16 tasks, three for each of 16 hubs.
@@ -448,18 +449,16 @@ fn refused(number: u32) -> Shown
 }
 
 // The rows of two tables whose task records have ts words, ra and rb being who runs in each. They are written into a buffer of our
-// own first, so that a text without room leaves the caller's alone.
+// own first, which has room for all, so that a text without room leaves the caller's alone.
 fn show_in(a: &[u32], b: &[u32], ts: usize, ra: u32, rb: u32, text: &mut [u8]) -> Shown
     requires { ⌜ 8 ≤ ts ⌝ }
     requires { ⌜ ts ≤ 9 ⌝ }
+    requires { ⌜ length (rowsText ts (now a) (now b) ra rb rows) ≤ 65535 ⌝ }
     ensures { λ r. ⌜ ShownAs 0 (rowsText ts (now (a .entry)) (now (b .entry)) ra rb rows) (markedIn ts (now (a .entry)) (now (b .entry)) ra rb rows)
         (now (text .entry)) r (now (text .exit)) ⌝ }
 {
     let mut scratch = [0u8; ROOM];
     let end = put_rows(&mut scratch, a, b, ts, ra, rb);
-    if ROOM <= end {
-        return refused(rules::SHORT_BUFFER);
-    }
     if text.len() < end {
         return refused(rules::SHORT_BUFFER);
     }

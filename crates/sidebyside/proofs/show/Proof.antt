@@ -1,4 +1,5 @@
 -- `sidebyside::show` meets its contract: refused by the tables, or shown in their edition. Assumes nothing.
+use Rattle.sidebyside.proofs.Promise.{text-short}
 use Rattle.sidebyside.proofs.Ways.{pair-formed, refused-tables, runs-is}
 use Rattle.sidebyside.proofs.show.Statement.{statement}
 use Rattle.sidebyside.proofs.show.Tie as tie
@@ -26,13 +27,13 @@ running-requires-2 : tie.Need-running-requires-2
 running-requires-2 c κs = search needs
 
 show-in-requires : tie.Need-show-in-requires
-show-in-requires c κs = search needs
+show-in-requires c κs = let w = pair-formed (c .before .before .before .before .before .before .before .before .before .args .a .now) (c .before .before .before .before .before .before .before .before .before .args .b .now) (sym (c .before .before .before .before .before .pair-refusal .ensures) ∙ c .before .before .before .before .if1 .left) in let ra = runs-is (c .before .before .before .before .before .before .before .before .before .args .a .now) (w .first) (λ k. omega (arith, c .before .before .before .before .before .before .before .before .shared-slice-known .given k)) (c .before .before .before .task-size .ensures .0) (c .before .before .running .ensures) in let rb = runs-is (c .before .before .before .before .before .before .before .before .before .args .b .now) (w .second) (λ k. omega (arith, c .before .before .before .before .before .before .before .shared-slice-known2 .given k)) (c .before .before .before .task-size .ensures .0 ∙ rw (w .same) refl) (c .before .running2 .ensures) in (omega arith, (omega arith, rw (ra, rb, c .before .before .before .task-size .ensures .0) (text-short (c .before .before .before .before .before .before .before .before .before .args .a .now) (c .before .before .before .before .before .before .before .before .before .args .b .now) w (λ k. omega (arith, c .before .before .before .before .before .before .before .before .shared-slice-known .given k)) (λ k. omega (arith, c .before .before .before .before .before .before .before .shared-slice-known2 .given k)))))
 
 same-length : tie.Need-same-length
 same-length c = search needs
 
 returns-2 : tie.Need-returns-2
-returns-2 c = let none : pairRefusal (c .before .before .before .before .before .before .before .before .before .before .before .before .args .a .now) (c .before .before .before .before .before .before .before .before .before .before .before .before .args .b .now) ≡ 0 = sym (c .before .before .before .before .before .before .before .before .pair-refusal .ensures) ∙ c .before .before .before .before .before .before .before .if1 .left in let w = pair-formed (c .before .before .before .before .before .before .before .before .before .before .before .before .args .a .now) (c .before .before .before .before .before .before .before .before .before .before .before .before .args .b .now) none in let ra = runs-is (c .before .before .before .before .before .before .before .before .before .before .before .before .args .a .now) (w .first) (λ k. omega (arith, c .before .before .before .before .before .before .before .before .before .before .before .shared-slice-known .given k)) (c .before .before .before .before .before .before .task-size .ensures .0) (c .before .before .before .before .before .running .ensures) in let rb = runs-is (c .before .before .before .before .before .before .before .before .before .before .before .before .args .b .now) (w .second) (λ k. omega (arith, c .before .before .before .before .before .before .before .before .before .before .shared-slice-known2 .given k)) (c .before .before .before .before .before .before .task-size .ensures .0 ∙ rw (w .long) refl) (c .before .before .before .before .running2 .ensures) in rw (none, ← c .before .before .before .before .before .before .task-size .ensures .0, ← ra, ← rb) (c .before .before .show-in .ensures)
+returns-2 c = let none : pairRefusal (c .before .before .before .before .before .before .before .before .before .before .before .before .args .a .now) (c .before .before .before .before .before .before .before .before .before .before .before .before .args .b .now) ≡ 0 = sym (c .before .before .before .before .before .before .before .before .pair-refusal .ensures) ∙ c .before .before .before .before .before .before .before .if1 .left in let w = pair-formed (c .before .before .before .before .before .before .before .before .before .before .before .before .args .a .now) (c .before .before .before .before .before .before .before .before .before .before .before .before .args .b .now) none in let ra = runs-is (c .before .before .before .before .before .before .before .before .before .before .before .before .args .a .now) (w .first) (λ k. omega (arith, c .before .before .before .before .before .before .before .before .before .before .before .shared-slice-known .given k)) (c .before .before .before .before .before .before .task-size .ensures .0) (c .before .before .before .before .before .running .ensures) in let rb = runs-is (c .before .before .before .before .before .before .before .before .before .before .before .before .args .b .now) (w .second) (λ k. omega (arith, c .before .before .before .before .before .before .before .before .before .before .shared-slice-known2 .given k)) (c .before .before .before .before .before .before .task-size .ensures .0 ∙ rw (w .same) refl) (c .before .before .before .before .running2 .ensures) in rw (none, ← c .before .before .before .before .before .before .task-size .ensures .0, ← ra, ← rb) (c .before .before .show-in .ensures)
 
 pub show-spec : {M : Type 1} → statement M
 show-spec =

@@ -1,5 +1,5 @@
 -- `sidebyside::show_in` meets its contract: the text has no room, or is copied. Assumes nothing.
-use Rattle.sidebyside.proofs.Ways.{held, held-not, refused-8, shown-all}
+use Rattle.sidebyside.proofs.Ways.{held, refused-8, shown-all}
 use Rattle.sidebyside.proofs.show_in.Statement.{statement}
 use Rattle.sidebyside.proofs.show_in.Tie as tie
 use Rattle.texts.proofs.Putting.{length-put}
@@ -18,19 +18,13 @@ refused-requires : tie.Need-refused-requires
 refused-requires c κs = search needs
 
 returns : tie.Need-returns
-returns c = refused-8 _ _ _ _ (c .refused .ensures) (omega (arith, held-not (c .before .before .before .put-rows .ensures) refl (c .before .if1 .taken)))
-
-refused-requires-2 : tie.Need-refused-requires-2
-refused-requires-2 c κs = search needs
-
-returns-2 : tie.Need-returns-2
-returns-2 c = refused-8 _ _ _ _ (c .refused2 .ensures) (omega (arith, held (c .before .before .before .before .put-rows .ensures) refl (c .before .before .if1 .left) .all, c .before .if2 .taken))
+returns c = refused-8 _ _ _ _ (c .refused .ensures) (omega (arith, held (c .before .before .before .put-rows .ensures) refl (c .before .before .before .before .before .before .before .before .pre .1 .1) .all, c .before .if1 .taken))
 
 array-share-prefix-scratch : tie.Need-array-share-prefix-scratch
 array-share-prefix-scratch c = search needs
 
 slice-aggregate-put-bytes : tie.Need-slice-aggregate-put-bytes
-slice-aggregate-put-bytes c = sym (length-take-le _ _ (omega (arith, length-put (c .before .before .before .before .before .put-rows .ensures), c .before .before .before .if1 .left)))
+slice-aggregate-put-bytes c = sym (length-take-le _ _ (omega (arith, length-put (c .before .before .before .before .put-rows .ensures), held (c .before .before .before .before .put-rows .ensures) refl (c .before .before .before .before .before .before .before .before .before .pre .1 .1) .all, c .before .before .before .before .before .before .before .before .before .pre .1 .1)))
 
 put-bytes-requires : tie.Need-put-bytes-requires
 put-bytes-requires c κs = search needs
@@ -44,8 +38,8 @@ count-marked-requires c κs = search needs
 same-length : tie.Need-same-length
 same-length c = search needs
 
-returns-3 : tie.Need-returns-3
-returns-3 c = let h = held (c .before .before .before .before .before .before .before .before .before .put-rows .ensures) refl (c .before .before .before .before .before .before .before .if1 .left) in rw (← c .count-marked .ensures) (shown-all _ _ (c .before .before .before .before .before .before .before .before .before .before .before .before .before .before .args .text .now) _ _ (h .all) (omega (arith, h .all, c .before .before .before .before .before .before .if2 .left)) (omega (arith, h .all, c .before .before .before .before .before .before .before .if1 .left)) (rw (h .text) at (c .before .before .before .put-bytes .ensures .bytes)))
+returns-2 : tie.Need-returns-2
+returns-2 c = let h = held (c .before .before .before .before .before .before .before .before .put-rows .ensures) refl (c .before .before .before .before .before .before .before .before .before .before .before .before .before .pre .1 .1) in rw (← c .count-marked .ensures) (shown-all _ _ (c .before .before .before .before .before .before .before .before .before .before .before .before .before .args .text .now) _ _ (h .all) (omega (arith, h .all, c .before .before .before .before .before .before .if1 .left)) (rw (h .text) at (c .before .before .before .put-bytes .ensures .bytes)))
 
 pub show-in-spec : {M : Type 1} → statement M
 show-in-spec =
@@ -55,12 +49,10 @@ show-in-spec =
     put-rows-requires
     refused-requires
     returns
-    refused-requires-2
-    returns-2
     array-share-prefix-scratch
     slice-aggregate-put-bytes
     put-bytes-requires
     cast-t17
     count-marked-requires
     same-length
-    returns-3)
+    returns-2)
