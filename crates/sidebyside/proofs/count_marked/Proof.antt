@@ -37,10 +37,10 @@ loop-less : tie.Need-loop-less Inv-loop μ-loop
 loop-less c = search needs
 
 loop-again : tie.Need-loop-again Inv-loop μ-loop
-loop-again c = (omega (arith, c .bit-of .ensures .1), omega (arith, c .bit-of .ensures .0 ∙ ap bit (rw (c .before .before .row-at .ensures) at (c .before .marked .ensures)), marked-turn (c .before .before .before .before .before .before .before .args .ts) (c .before .before .before .before .before .before .before .args .a .now) (c .before .before .before .before .before .before .before .args .b .now) (c .before .before .before .before .before .before .before .args .ra) (c .before .before .before .before .before .before .before .args .rb) (c .before .before .before .before .loop .k) (c .before .before .before .loop-test .taken)))
+loop-again c = (omega (arith, c .bit-of .ensures .1), omega (arith, c .bit-of .ensures .0 ∙ ap bit (rw (c .before .before .row-at .ensures) at (c .before .marked .ensures)), marked-turn (c .before .before .before .before .before .before .before .args .ts) (c .before .before .before .before .before .before .before .args .a .now) (c .before .before .before .before .before .before .before .args .b .now) (c .before .before .before .before .before .before .before .args .ra) (c .before .before .before .before .before .before .before .args .rb) (c .before .before .before .before .loop .k) (omega (arith, c .before .before .before .loop-test .taken))))
 
 returns : tie.Need-returns Inv-loop μ-loop
-returns c = omega (arith, marked-end (c .before .before .before .before .args .ts) (c .before .before .before .before .args .a .now) (c .before .before .before .before .args .b .now) (c .before .before .before .before .args .ra) (c .before .before .before .before .args .rb) (c .before .loop .k) (c .loop-test .left))
+returns c = omega (arith, marked-end (c .before .before .before .before .args .ts) (c .before .before .before .before .args .a .now) (c .before .before .before .before .args .b .now) (c .before .before .before .before .args .ra) (c .before .before .before .before .args .rb) (c .before .loop .k) (omega (arith, c .loop-test .left)))
 
 pub count-marked-spec : {M : Type 1} → statement M
 count-marked-spec =

@@ -20,7 +20,7 @@ row-at-requires : tie.Need-row-at-requires Inv-loop μ-loop
 row-at-requires c κs = search needs
 
 put-row-requires : tie.Need-put-row-requires Inv-loop μ-loop
-put-row-requires c κs = (omega (arith, c .before .before .before .before .before .before .before .pre .0), (omega (arith, c .before .before .before .before .before .before .before .pre .1), rw (c .row-at .ensures) (row-low (c .before .before .before .loop .k) (c .before .before .loop-test .taken))))
+put-row-requires c κs = (omega (arith, c .before .before .before .before .before .before .before .pre .0), (omega (arith, c .before .before .before .before .before .before .before .pre .1), rw (c .row-at .ensures) (row-low (c .before .before .before .loop .k) (omega (arith, c .before .before .loop-test .taken)))))
 
 add-k : tie.Need-add-k Inv-loop μ-loop
 add-k c = search needs
@@ -29,13 +29,13 @@ loop-less : tie.Need-loop-less Inv-loop μ-loop
 loop-less c = search needs
 
 loop-again : tie.Need-loop-again Inv-loop μ-loop
-loop-again c = (omega arith, joining-turn (c .before .before .before .before .before .before .loop .inv .1) (c .before .before .put-row .ensures) (rw (c .before .before .before .row-at .ensures) (text-turn (c .before .before .before .before .before .before .before .before .before .before .args .ts) (c .before .before .before .before .before .before .before .before .before .before .args .a .now) (c .before .before .before .before .before .before .before .before .before .before .args .b .now) (c .before .before .before .before .before .before .before .before .before .before .args .ra) (c .before .before .before .before .before .before .before .before .before .before .args .rb) (c .before .before .before .before .before .before .loop .k) (c .before .before .before .before .before .loop-test .taken))))
+loop-again c = (omega arith, joining-turn (c .before .before .before .before .before .before .loop .inv .1) (c .before .before .put-row .ensures) (rw (c .before .before .before .row-at .ensures) (text-turn (c .before .before .before .before .before .before .before .before .before .before .args .ts) (c .before .before .before .before .before .before .before .before .before .before .args .a .now) (c .before .before .before .before .before .before .before .before .before .before .args .b .now) (c .before .before .before .before .before .before .before .before .before .before .args .ra) (c .before .before .before .before .before .before .before .before .before .before .args .rb) (c .before .before .before .before .before .before .loop .k) (omega (arith, c .before .before .before .before .before .loop-test .taken)))))
 
 same-length : tie.Need-same-length Inv-loop μ-loop
 same-length c = joining-long (c .before .loop .inv .1)
 
 returns : tie.Need-returns Inv-loop μ-loop
-returns c = joining-end (c .before .loop .inv .1) (text-end (c .before .before .before .before .before .args .ts) (c .before .before .before .before .before .args .a .now) (c .before .before .before .before .before .args .b .now) (c .before .before .before .before .before .args .ra) (c .before .before .before .before .before .args .rb) (c .before .loop .k) (c .loop-test .left))
+returns c = joining-end (c .before .loop .inv .1) (text-end (c .before .before .before .before .before .args .ts) (c .before .before .before .before .before .args .a .now) (c .before .before .before .before .before .args .b .now) (c .before .before .before .before .before .args .ra) (c .before .before .before .before .before .args .rb) (c .before .loop .k) (omega (arith, c .loop-test .left)))
 
 pub put-rows-spec : {M : Type 1} → statement M
 put-rows-spec =
