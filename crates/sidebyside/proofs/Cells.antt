@@ -1,6 +1,6 @@
 -- Cells of two tables of one length: where the words that a row covers are equal, and what its text says beside them, the texts are
 -- equal.
--- Not here: that texts differ (Promise.antt). Assumes nothing.
+-- Not here: that texts differ (Distinct.antt). Assumes nothing.
 use Prim.Native.Nat.{_*_, _+_, _-_, _<_, _≤_, min, suc, zero, ℕ}
 use Rattle.lists.proofs.Laws.{boolCase}
 use Rattle.lists.specs.Lists.{numbers}

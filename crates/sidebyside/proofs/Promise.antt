@@ -1,6 +1,6 @@
 -- What the rows of two tables promise, beside the contract of `show`. In order: every place lies in exactly one row; a differing word
 -- lies in a marked row that is shown; what an unmarked row says, and a marked one; no row is marked exactly if the tables are equal; the
--- marked rows and M-106's entries; the refusals.
+-- marked rows and M-106's entries; how long the text is at most; a table against itself; the state that the cells speak of.
 -- Not here: that the code does what the definitions say (the functions' proofs). Assumes nothing.
 use Prim.Native.Nat.{_*_, _+_, _-_, _<_, _≤_, suc, zero, ℕ}
 use Rattle.differences.proofs.Promise.{OneEdition, differs-listed, listed-differs}
@@ -9,15 +9,16 @@ use Rattle.differences.specs.Differences.{Entry, entries}
 use Rattle.lists.proofs.Laws.{boolCase}
 use Rattle.lists.proofs.Padding.{zero-at}
 use Rattle.lists.specs.Lists.{bit, numbers}
-use Rattle.records.specs.Records.{hubAt as hubRecordAt, hubsAt, readyAt, tableSize, taskSizeOf}
+use Rattle.records.specs.Records.{hubAt as hubRecordAt, hubsAt, readyAt, tableSize, taskAt as taskRecordAt, taskSizeOf, waitsAt}
+use Rattle.records.specs.declared.TaskRecord.{TaskRecord}
 use Rattle.rules.proofs.After.{valid-in}
 use Rattle.rules.proofs.Layouts.{Laid, store-place}
-use Rattle.rules.proofs.Reading.{read-hub, read-hubs}
+use Rattle.rules.proofs.Reading.{read-hub, read-hubs, read-task}
 use Rattle.rules.proofs.Valid.{Range}
 use Rattle.rules.specs.Table as RulesTable
 use Rattle.rules.proofs.Written.{written-says}
 use Rattle.rules.specs.Lists.{firstFree, next}
-use Rattle.rules.specs.Table.{Hub, NoKind, editionOf, hub, hubAt, kindOf, part, read, stateOf, taskSize, tasksAt}
+use Rattle.rules.specs.Table.{Hub, NoKind, Task, editionOf, hub, hubAt, kindOf, part, read, stateOf, task, taskSize, tasksAt}
 use Rattle.rules.specs.WellFormed.{unusedZero, valid, wellFormedIn, written, zeroFrom}
 use Rattle.sidebyside.proofs.Cells.{Few, cell-same, one-run, part-same}
 use Rattle.sidebyside.proofs.Distinct.{kind-said, kindSaid, never-unused, runs-said}
@@ -37,6 +38,7 @@ use mathlib.Core.Bool.{Bool, and-eq-true-iff, cond, false, false≢true, true}
 use mathlib.Core.List.{List, List·Memᴰ, List·Memᴰ·cases-cons, List·Memᴰ·head, List·Memᴰ·not-nil, List·Memᴰ·tail, [], _∷_}
 use mathlib.Core.Logic.{_↔_, _⊎_, inl, inr, ⊎-elim}
 use mathlib.Core.Path.{_∙_, _≡_, ap, refl, sym}
+use native.Mathlib.Nat.{add-zero}
 use native.Mathlib.Omega.{arith}
 
 -- ---- sizes
@@ -55,7 +57,7 @@ table-long t f = f .long ∙ sym (store-place (laid t) 16)
 
 -- ---- a table's ready list and the kinds of its hubs
 
-ready-is : (t : List ℕ) → stateOf t .ready ≡ numbers (part (readyAt (sizeOf t)) 16 t)
+pub ready-is : (t : List ℕ) → stateOf t .ready ≡ numbers (part (readyAt (sizeOf t)) 16 t)
 unfolding read
 ready-is t =
     let e : RulesTable.readyAt (editionOf t) ≡ readyAt (sizeOf t) = omega (arith, laid t .size) in
@@ -318,6 +320,33 @@ module _ (a b : List ℕ) (w : OneEdition a b) (low-a : (k : ℕ) → getD a k 0
       (record { low = low-a; few = fifo-few a (w .first) })
       (record { low = low-b; few = rw (← w .same) at (fifo-few b (w .second)) })
       (runsIn a) (runsIn b) row-few
+
+-- ---- the cells speak of the state that the table holds: a task's record, a hub's waiting list (of the ready list: `ready-is`)
+
+pub record SameTask (x : TaskRecord) (y : Task) : Type 0 where
+  pub state : x .state ≡ y .state
+  pub suspended : x .suspended ≡ y .suspended
+  pub priority : x .priority ≡ y .priority
+  pub hub : x .hub ≡ y .hub
+  pub ticks : x .ticks ≡ y .ticks
+  pub side : x .side ≡ y .side
+
+module _ (t : List ℕ) where
+  pub task-of-state : (i : ℕ) → i < getD t 1 0 → SameTask (taskRecordAt (sizeOf t) t i) (task (stateOf t) i)
+  unfolding RulesTable.taskAt taskRecordAt
+  task-of-state i h =
+      let L = editionOf t in
+      let word : (k : ℕ) → getD t (8 + i * sizeOf t + k) 0 ≡ getD t (tasksAt + i * taskSize L + k) 0 = λ k. ap (λ (n : ℕ). getD t (8 + i * n + k) 0) (laid t .size) in
+      let first : getD t (8 + i * sizeOf t) 0 ≡ getD t (tasksAt + i * taskSize L + 0) 0 = ap (λ (n : ℕ). getD t n 0) (sym (add-zero (8 + i * sizeOf t))) ∙ word 0 in
+      rw (read-task L t i h)
+      (record { state = first; suspended = word 1; priority = word 2; hub = word 3; ticks = word 4; side = word 5 })
+
+  pub waiting-of-state : (h : ℕ) → h < getD t 2 0 → numbers (part (waitsAt (sizeOf t) + h * 16) 16 t) ≡ hub (stateOf t) h .waiters
+  unfolding hubAt
+  waiting-of-state h here =
+      let L = editionOf t in
+      let place : waitsAt (sizeOf t) + h * 16 ≡ RulesTable.waitsAt L + h * 16 = omega (arith, laid t .size) in
+      rw (read-hub L t h here) (ap (λ (p : ℕ). numbers (part p 16 t)) place)
 
 -- ---- a table against itself
 
