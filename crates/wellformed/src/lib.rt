@@ -29,7 +29,7 @@ ghost use Rattle.rules.specs.WellFormed.{contentsRight, forAll, stageRight, unu
 ghost use Rattle.wellformed.specs.Walks.{Marked, Marks, Row, Used, bodyTest, hubRight, kindTest, may, meets, metAt, ownerOf, ownerTest, queueTest, recordOf, recordRight, restRight, storeTest, taskRight, waitsOf, walks};
 ghost use lib.Dec.{eqb, leb};
 ghost use lib.ListN.{getD, length};
-ghost use mathlib.Core.Bool.{_&&_, _||_, true};
+ghost use mathlib.Core.Bool.{_&&_, true};
 ghost use mathlib.Core.Path.{_≡_};
 
 // "contents: edition 1, tasks T, hubs H, then where each body starts"; the edition is how many words a message has

@@ -1,11 +1,11 @@
 -- `lists::remove_at` meets its contract. The loop's invariant: removing at i gives what was to be given. Assumes nothing.
-use Prim.Native.Nat.{_+_, _-_, _≤_, suc}
+use Prim.Native.Nat.{_-_, _≤_}
 use Rattle.lists.proofs.Laws.{removeAt-last, removeAt-out, removeAt-step}
 use Rattle.lists.proofs.remove_at.Statement.{statement}
 use Rattle.lists.proofs.remove_at.Tie as tie
 use Rattle.lists.specs.Lists.{removeAt}
 use borrow.Author.Needs.{needs}
-use lib.ListN.{getD, length, length-set}
+use lib.ListN.{length, length-set}
 use mathlib.Core.Path.{_∙_, _≡_, refl, sym}
 use native.Mathlib.Numerals.{add-one}
 use native.Mathlib.Omega.{arith}

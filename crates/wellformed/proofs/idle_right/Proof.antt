@@ -15,7 +15,6 @@ use lib.ListN.{getD}
 use mathlib.Core.Bool.{_&&_, true}
 use mathlib.Core.List.{List}
 use mathlib.Core.Path.{_∙_, _≡_, ap, sym}
-use native.Mathlib.Omega.{arith}
 
 -- the record and its mark and size, where the record's ranges are tested
 abbrev words : tie.After-shared-slice-known7 → List ℕ

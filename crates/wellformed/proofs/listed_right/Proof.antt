@@ -1,13 +1,12 @@
 -- `wellformed::listed_right` meets its contract: flag and priority, then an arm for each state. Assumes nothing.
+use Rattle.rules.specs.Table.{read, stageOf}
 use Rattle.wellformed.proofs.Turns.{listed-as, listed-neither, listed-no}
 use Rattle.wellformed.proofs.listed_right.Statement.{statement}
 use Rattle.wellformed.proofs.listed_right.Tie as tie
-use Rattle.rules.specs.Table.{read, stageOf}
 use Rattle.wellformed.specs.Walks.{recordOf}
 use borrow.Author.Needs.{needs}
 use borrow.Author.Tests.{not-false, not-true}
 use mathlib.Core.Path.{_∙_, refl, sym}
-use native.Mathlib.Omega.{arith}
 
 shared-slice-read-if1 : tie.Need-shared-slice-read-if1
 shared-slice-read-if1 c = search needs

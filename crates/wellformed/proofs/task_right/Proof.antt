@@ -1,8 +1,7 @@
 -- `wellformed::task_right` meets its contract: by its mark. Assumes nothing.
+use Rattle.rules.specs.Table.{read}
 use Rattle.wellformed.proofs.task_right.Statement.{statement}
 use Rattle.wellformed.proofs.task_right.Tie as tie
-use Rattle.rules.specs.Table.{read}
-use borrow.Author.Needs.{needs}
 
 listed-right-requires : tie.Need-listed-right-requires
 listed-right-requires c κs =

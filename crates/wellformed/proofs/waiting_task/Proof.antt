@@ -9,9 +9,8 @@ use Rattle.wellformed.proofs.waiting_task.Statement.{statement}
 use Rattle.wellformed.proofs.waiting_task.Tie as tie
 use Rattle.wellformed.specs.Walks.{recordOf}
 use borrow.Author.Needs.{needs}
-use borrow.Author.Tests.{not-false, not-true}
+use borrow.Author.Tests.{not-false}
 use mathlib.Core.Path.{_∙_, ap, refl, sym}
-use native.Mathlib.Omega.{arith}
 
 shared-slice-read-if1 : tie.Need-shared-slice-read-if1
 shared-slice-read-if1 c = search needs
