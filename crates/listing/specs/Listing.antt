@@ -6,8 +6,9 @@ use Prim.Native.Nat.{_*_, _+_, _-_, ℕ}
 use Rattle.lines.specs.Lines.{printed}
 use Rattle.listing.specs.declared.Listed.{Listed}
 use Rattle.records.specs.Records.{hubsAt}
+use Rattle.rules.specs.Calls.{newHeld}
 use Rattle.rules.specs.Refusals.{need}
-use Rattle.rules.specs.Table.{Hub, Layout, State, Task, editionOf, inactive, read, size, tab}
+use Rattle.rules.specs.Table.{Hub, Layout, State, Task, editionOf, inactive, kindOf, read, size, tab}
 use Rattle.rules.specs.WellFormed.{wellFormedIn}
 use lib.Dec.{eqb, leb}
 use lib.ListN.{drop, getD, length}
@@ -71,7 +72,14 @@ listing t = listingIn (editionOf t) t
 -- ---- what it builds: "the same table with every task inactive, every count at its start, and all lists and stores empty"
 
 abbrev pub newHub : HubSetUp → Hub
-newHub h = record { kind = h .kind; count = h .start; limit = h .limit; start = h .start; waiters = []; held = [] }
+newHub h = record {
+  kind = h .kind;
+  count = h .start;
+  limit = h .limit;
+  start = h .start;
+  waiters = [];
+  held = newHeld (kindOf (h .kind)) (h .limit);
+}
 
 unfoldable pub built : SetUp → State
 built u = record { tasks = map inactive (u .priorities); hubs = map newHub (u .hubs); ready = [] }

@@ -1,14 +1,15 @@
 -- How often a number stands in a list. In order: an entry by itself; a number joins, a number leaves; the numbers behind a
--- place; a list in which each number stands at most once, and only numbers below T, has at most T entries.
+-- place; a list in which each number stands at most once, and only numbers below T, has at most T entries; an entry replaced; a
+-- number that stands in a list, and its first place.
 -- Not here: the same list in words (Laws.antt). Assumes nothing.
 use Prim.Native.Nat.{_+_, _<_, _≤_, suc, zero, ℕ}
 use Rattle.lists.proofs.Laws.{boolCase}
-use Rattle.lists.specs.Lists.{bit, insert, occ, without}
+use Rattle.lists.specs.Lists.{bit, indexOf, insert, occ, without}
 use borrow.Author.Tests.{eq-eqb, eqb-false, eqb-true, ne-eqb}
 use lib.Dec.{eqb, ltb}
-use lib.ListN.{drop, length}
+use lib.ListN.{drop, getD, length, replicate, set}
 use mathlib.Core.Bool.{cond}
-use mathlib.Core.List.{List, [], _∷_}
+use mathlib.Core.List.{List, [], _++_, _∷_}
 use mathlib.Core.Logic.{_≢_}
 use mathlib.Core.Path.{_∙_, _≡_, refl, sym}
 use native.Mathlib.Nat.{zero-add}
@@ -67,3 +68,60 @@ length-below (suc T) l once below =
         boolCase (eqb T i)
         (λ b. absurd (omega (arith, rw b at (occ-without T i l))))
         (λ b. let n : T ≡ i → ⊥ = eqb-false T i b in omega (arith, kept i, below i (omega (arith, kept i))))
+
+-- ---- lists put together, and an entry replaced
+
+pub occ-most : (i : ℕ) (l : List ℕ) → occ i l ≤ length l
+occ-most i l = omega (arith, length-without i l)
+
+pub occ-append : (i : ℕ) (xs ys : List ℕ) → occ i (xs ++ ys) ≡ occ i xs + occ i ys
+unfolding occ
+occ-append i [] ys = sym (zero-add (occ i ys))
+occ-append i (x ∷ xs) ys = omega (arith, occ-append i xs ys)
+
+pub occ-replicate : (i n : ℕ) → occ i (replicate n i) ≡ n
+unfolding occ
+occ-replicate i zero = refl
+occ-replicate i (suc n) = rw (eq-eqb i i refl) (omega (arith, occ-replicate i n))
+
+pub occ-set : (i v : ℕ) (l : List ℕ) (b : ℕ) → b < length l → occ i (set l b v) + bit (eqb (getD l b 0) i) ≡ occ i l + bit (eqb v i)
+unfolding occ
+occ-set i v [] b h = absurd (omega arith)
+occ-set i v (x ∷ xs) zero h = omega arith
+occ-set i v (x ∷ xs) (suc b) h = omega (arith, occ-set i v xs b (omega arith))
+
+-- ---- a number that stands in a list: where it stands first
+
+pub occ-at : (v : ℕ) (l : List ℕ) (b : ℕ) → b < length l → getD l b 0 ≡ v → 1 ≤ occ v l
+unfolding occ
+occ-at v [] b h e = absurd (omega arith)
+occ-at v (x ∷ xs) zero h e = rw (eq-eqb x v e) (omega arith)
+occ-at v (x ∷ xs) (suc b) h e = omega (arith, occ-at v xs b (omega arith) e)
+
+pub first-in : (v : ℕ) (l : List ℕ) → 1 ≤ occ v l → indexOf v l < length l
+unfolding indexOf occ
+first-in v [] h = absurd (omega arith)
+first-in v (x ∷ xs) h =
+    boolCase (eqb x v)
+    (λ b. rw b (omega arith))
+    (λ b. rw b (let k : 1 ≤ 0 + occ v xs = rw b at h in omega (arith, first-in v xs (omega arith))))
+
+pub first-is : (v : ℕ) (l : List ℕ) → 1 ≤ occ v l → getD l (indexOf v l) 0 ≡ v
+unfolding indexOf occ
+first-is v [] h = absurd (omega arith)
+first-is v (x ∷ xs) h =
+    boolCase (eqb x v)
+    (λ b. rw b (eqb-true x v b))
+    (λ b. rw b (let k : 1 ≤ 0 + occ v xs = rw b at h in first-is v xs (omega arith)))
+
+pub before-first : (v : ℕ) (l : List ℕ) (j : ℕ) → j < indexOf v l → getD l j 0 ≢ v
+unfolding indexOf
+before-first v [] j h = absurd (omega arith)
+before-first v (x ∷ xs) j h =
+    boolCase (eqb x v)
+    (λ b. absurd (let k : j < 0 = rw b at h in omega arith))
+    (λ b. let k : j < suc (indexOf v xs) = rw b at h in there j k (eqb-false x v b) (λ i. before-first v xs i))
+  where
+    there : (j : ℕ) → j < suc (indexOf v xs) → x ≢ v → ((i : ℕ) → i < indexOf v xs → getD xs i 0 ≢ v) → getD (x ∷ xs) j 0 ≢ v
+    there zero k n f = n
+    there (suc j) k n f = f j (omega arith)

@@ -8,7 +8,7 @@ use Rattle.rules.specs.Calls.{AddHub, AddTask, Blank, HubRequest, Resume
 use Rattle.rules.specs.Lists.{next}
 use Rattle.rules.specs.Refusals.{Mode, NW, NoMode, W, WT, byRunning, goodHub, goodRequest, goodWait, lastSide, modeOf, need, onTask, refusalFor}
 use Rattle.rules.specs.Reply.{bearsAnswer}
-use Rattle.rules.specs.Table.{Board, Event, Fifo, Kind, NoKind, Port, Resource, Semaphore, State, hub, kindOf, task}
+use Rattle.rules.specs.Table.{Board, Event, Fifo, Kind, Memory, NoKind, Port, Resource, Semaphore, State, hub, kindOf, task}
 use Rattle.rules.specs.WellFormed.{within}
 use Rattle.rules.specs.declared.Call.{Call}
 use borrow.Author.Tests.{eqb-false, eqb-true, le-leb, leb-true, ltb-true}
@@ -87,6 +87,7 @@ sided Board n e =
     boolCase (eqb n 3)
     (λ q. inr (inr (eqb-true n 3 q, refl)))
     (λ q. two-sided Board n (one-or-two n (let d : n ≢ 3 = eqb-false n 3 q in rw (le-leb 1 n (r .0), le-leb n 2 (omega (arith, r .1))))))
+sided Memory n e = two-sided Memory n (one-or-two n e)
 
 wait-ticks : (m : Mode) (n : ℕ) → goodWait m n ≡ true → n ≤ 1000000
 unfolding goodWait

@@ -16,7 +16,7 @@ use Rattle.rules.proofs.Verdicts.{hubAfter}
 use Rattle.rules.specs.Calls.{carryOut, heir, hold, meetAll, passAll, passOne}
 use Rattle.rules.specs.HubTable.{pass}
 use Rattle.rules.specs.Lists.{firstWaiting, queued, readied, unqueue, wake}
-use Rattle.rules.specs.Table.{Board, Event, Fifo, Hub, Kind, NoKind, Port, Resource, Semaphore, State, Task, hub, isResource, kindOf, noHub, owns, setHub, task}
+use Rattle.rules.specs.Table.{Board, Event, Fifo, Hub, Kind, Memory, NoKind, Port, Resource, Semaphore, State, Task, hub, isResource, kindOf, noHub, owns, setHub, task}
 use Rattle.rules.specs.WellFormed.{waitsFor}
 use borrow.Author.Tests.{eq-eqb, eqb-true, ltb-false, ltb-true, lt-ltb, ne-eqb}
 use lib.Dec.{eqb, ltb}
@@ -71,6 +71,7 @@ is-resource Port e = absurd (false≢true e)
 is-resource Fifo e = absurd (false≢true e)
 is-resource Resource e = refl
 is-resource Board e = absurd (false≢true e)
+is-resource Memory e = absurd (false≢true e)
 
 pub owned-kind : (i : ℕ) (x : Hub) → owns i x ≡ true → kindOf (x .kind) ≡ Resource
 unfolding owns

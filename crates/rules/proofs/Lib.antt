@@ -2,6 +2,7 @@ pub mod Accepted
 pub mod After
 pub mod Ahead
 pub mod Answers
+pub mod Blocks
 pub mod Cases
 pub mod Changes
 pub mod Cut

@@ -6,7 +6,7 @@ use Rattle.rules.proofs.Tests.{t-below-all}
 use Rattle.rules.specs.Calls.{serviceOf}
 use Rattle.rules.specs.Refusals.{NW, NoMode, W, WT, lastSide, modeOf}
 use Rattle.rules.specs.Reply.{bearsAnswer}
-use Rattle.rules.specs.Table.{Board, Event, Fifo, Inactive, NoKind, NoStage, Port, Ready, Resource, Semaphore, Sleeping, Waiting, isResource, kindOf, stageOf}
+use Rattle.rules.specs.Table.{Board, Event, Fifo, Inactive, Memory, NoKind, NoStage, Port, Ready, Resource, Semaphore, Sleeping, Waiting, isResource, kindOf, stageOf}
 use Rattle.rules.specs.WellFormed.{bearsWord, forAll}
 use borrow.Author.Tests.{ne-eqb}
 use lib.Dec.{eqb}
@@ -21,9 +21,9 @@ unnamed : {A : Type 0} (d : A) (xs : List A) (n : ℕ) → (1 ≤ n → length x
 unnamed d xs zero h = refl
 unnamed d xs (suc n) h = List·getD-eq-default xs d (omega (arith, h (omega arith)))
 
-pub no-kind : (n : ℕ) → (1 ≤ n → 6 < n) → kindOf n ≡ NoKind
+pub no-kind : (n : ℕ) → (1 ≤ n → 7 < n) → kindOf n ≡ NoKind
 unfolding kindOf
-no-kind = unnamed NoKind (Event ∷ Semaphore ∷ Port ∷ Fifo ∷ Resource ∷ Board ∷ [])
+no-kind = unnamed NoKind (Event ∷ Semaphore ∷ Port ∷ Fifo ∷ Resource ∷ Board ∷ Memory ∷ [])
 
 pub no-stage : (n : ℕ) → (1 ≤ n → 4 < n) → stageOf n ≡ NoStage
 unfolding stageOf
@@ -33,8 +33,8 @@ pub no-mode : (n : ℕ) → (1 ≤ n → 3 < n) → modeOf n ≡ NoMode
 unfolding modeOf
 no-mode = unnamed NoMode (W ∷ NW ∷ WT ∷ [])
 
--- Port, FIFO and Board by their numbers
-pub bears-number : (n : ℕ) → bearsWord (kindOf n) ≡ (eqb n 3 || (eqb n 4 || eqb n 6))
+-- Port, FIFO, Board and Memory by their numbers
+pub bears-number : (n : ℕ) → bearsWord (kindOf n) ≡ (eqb n 3 || (eqb n 4 || (eqb n 6 || eqb n 7)))
 unfolding bearsWord kindOf
 bears-number zero = refl
 bears-number (suc zero) = refl
@@ -43,8 +43,10 @@ bears-number (suc (suc (suc zero))) = refl
 bears-number (suc (suc (suc (suc zero)))) = refl
 bears-number (suc (suc (suc (suc (suc zero))))) = refl
 bears-number (suc (suc (suc (suc (suc (suc zero)))))) = refl
-bears-number (suc (suc (suc (suc (suc (suc (suc n))))))) =
-    let m : ℕ = suc (suc (suc (suc (suc (suc (suc n)))))) in rw (ne-eqb m 3 (λ e. omega arith), ne-eqb m 4 (λ e. omega arith), ne-eqb m 6 (λ e. omega arith))
+bears-number (suc (suc (suc (suc (suc (suc (suc zero))))))) = refl
+bears-number (suc (suc (suc (suc (suc (suc (suc (suc n)))))))) =
+    let m : ℕ = suc (suc (suc (suc (suc (suc (suc (suc n))))))) in
+    rw (ne-eqb m 3 (λ e. omega arith), ne-eqb m 4 (λ e. omega arith), ne-eqb m 6 (λ e. omega arith), ne-eqb m 7 (λ e. omega arith))
 
 -- the Resource by its number
 pub resource-number : (n : ℕ) → isResource (kindOf n) ≡ eqb n 5
@@ -56,7 +58,8 @@ resource-number (suc (suc (suc zero))) = refl
 resource-number (suc (suc (suc (suc zero)))) = refl
 resource-number (suc (suc (suc (suc (suc zero))))) = refl
 resource-number (suc (suc (suc (suc (suc (suc zero)))))) = refl
-resource-number (suc (suc (suc (suc (suc (suc (suc n))))))) = rw (ne-eqb (suc (suc (suc (suc (suc (suc (suc n))))))) 5 (λ e. omega arith))
+resource-number (suc (suc (suc (suc (suc (suc (suc zero))))))) = refl
+resource-number (suc (suc (suc (suc (suc (suc (suc (suc n)))))))) = rw (ne-eqb (suc (suc (suc (suc (suc (suc (suc (suc n)))))))) 5 (λ e. omega arith))
 
 -- the last side by the kind's number: a Board's is 3
 pub last-side : (n : ℕ) → lastSide (kindOf n) ≡ cond (eqb n 6) 3 2
@@ -68,7 +71,8 @@ last-side (suc (suc (suc zero))) = refl
 last-side (suc (suc (suc (suc zero)))) = refl
 last-side (suc (suc (suc (suc (suc zero))))) = refl
 last-side (suc (suc (suc (suc (suc (suc zero)))))) = refl
-last-side (suc (suc (suc (suc (suc (suc (suc n))))))) = rw (ne-eqb (suc (suc (suc (suc (suc (suc (suc n))))))) 6 (λ e. omega arith))
+last-side (suc (suc (suc (suc (suc (suc (suc zero))))))) = refl
+last-side (suc (suc (suc (suc (suc (suc (suc (suc n)))))))) = rw (ne-eqb (suc (suc (suc (suc (suc (suc (suc (suc n)))))))) 6 (λ e. omega arith))
 
 -- "For services 1 to 7 the answer is the caller's answer word after the call; for 0, 8, 9 and 10 it is 0."
 pub bears-answer : (n : ℕ) → 1 ≤ n → n ≤ 7 → bearsAnswer (serviceOf n) ≡ true

@@ -10,7 +10,7 @@ use Rattle.rules.proofs.Places.{hub-word, hubs-word, length-words, read
 use Rattle.rules.proofs.Rows.{row-word, rows-behind, rows-none}
 use Rattle.rules.proofs.Tests.{t-below-all}
 use Rattle.rules.proofs.Valid.{Held, Room}
-use Rattle.rules.specs.Table.{Board, Event, Fifo, Hub, Kind, Layout, NoKind, Port, Resource, Semaphore, State, Task, contents, heldIn, hub, hubAt, hubWordAt, hubsAt, inactive, kindOf, noHub, part, read, readyAt, size, storeFrom, storeOf, storePart, storeSize, storeWords, storesAt, tab, task, taskAt, taskFrom, taskSize, taskWords, tasksAt, waitPart, waitsAt, words}
+use Rattle.rules.specs.Table.{Board, Event, Fifo, Hub, Kind, Layout, Memory, NoKind, Port, Resource, Semaphore, State, Task, contents, heldIn, hub, hubAt, hubWordAt, hubsAt, inactive, kindOf, noHub, part, read, readyAt, size, storeFrom, storeOf, storePart, storeSize, storeWords, storesAt, tab, task, taskAt, taskFrom, taskSize, taskWords, tasksAt, waitPart, waitsAt, words}
 use Rattle.rules.specs.WellFormed.{contentsRight, listsPacked, storeRight, storesRight, written}
 use borrow.Author.Tests.{eq-eqb, le-leb}
 use lib.ListN.{getD, length}
@@ -84,7 +84,7 @@ module _ {ts : ℕ} (L : Layout) (y : Laid ts L) where
       (λ i hi. rw zero-add (y .back (getD ws i 0) _ (λ k hk. row-word (L .width) (L .message) (y .long) 8 ws i k 0 (omega arith) hi hk)))
 
   -- a store read and tested, by kind
-  held-back : (k : Kind) (x : Hub) → Held k x → length (x .held) ≤ 8 → heldIn L k (x .count) (storeOf L x) ≡ x .held
+  held-back : (k : Kind) (x : Hub) → Held k x → length (x .held) ≤ 8 → heldIn L k (x .count) (x .limit) (storeOf L x) ≡ x .held
   unfolding Held heldIn
   held-back NoKind x e h = sym e
   held-back Event x e h = sym e
@@ -93,11 +93,12 @@ module _ {ts : ℕ} (L : Layout) (y : Laid ts L) where
   held-back Fifo x e h = rw e (messages-back (x .held) h)
   held-back Resource x e h = sym e
   held-back Board x e h = rw e (messages-back (x .held) h)
+  held-back Memory x e h = rw e (messages-back (x .held) h)
 
   none-right : (x : Hub) → x .held ≡ [] → allZero (storeOf L x) ≡ true
   none-right x e = rw (e, rows-none (L .width) (L .message) 8) (allZero-replicate (storeSize L))
 
-  store-right : (k : Kind) (x : Hub) → Held k x → length (x .held) ≤ 8 → storeRight L k (x .count) (storeOf L x) ≡ true
+  store-right : (k : Kind) (x : Hub) → Held k x → length (x .held) ≤ 8 → storeRight L k (x .count) (x .limit) (storeOf L x) ≡ true
   unfolding Held storeRight
   store-right NoKind x e h = none-right x e
   store-right Event x e h = none-right x e
@@ -106,6 +107,7 @@ module _ {ts : ℕ} (L : Layout) (y : Laid ts L) where
   store-right Fifo x e h = rw e (rows-behind (L .width) (L .message) (y .long) 8 (x .held) h)
   store-right Resource x e h = none-right x e
   store-right Board x e h = rw e (rows-behind (L .width) (L .message) (y .long) 8 (x .held) h)
+  store-right Memory x e h = rw e (rows-behind (L .width) (L .message) (y .long) 8 (x .held) h)
 
   module _ (s : State) (r : Room s) where
     task-back : (i : ℕ) → i < length (s .tasks) → taskAt L (words L s) i ≡ task s i
@@ -121,9 +123,9 @@ module _ {ts : ℕ} (L : Layout) (y : Laid ts L) where
         let word = hub-word L (sized y) s h lt used in
         let wait : numbers (waitPart L (words L s) h) ≡ hub s h .waiters =
         rw (wait-part L (sized y) s h lt used) (numbers-entries 16 (hub s h .waiters) (r .waiters h)) in
-        let held : heldIn L (kindOf (hubWordAt L (words L s) h 0)) (hubWordAt L (words L s) h 1) (storePart L (words L s) h) ≡ hub s h .held =
+        let held : heldIn L (kindOf (hubWordAt L (words L s) h 0)) (hubWordAt L (words L s) h 1) (hubWordAt L (words L s) h 2) (storePart L (words L s) h) ≡ hub s h .held =
         rw
-        (word 0 (omega arith), word 1 (omega arith), store-part L (sized y) s h lt used)
+        (word 0 (omega arith), word 1 (omega arith), word 2 (omega arith), store-part L (sized y) s h lt used)
         (held-back (kindOf (hub s h .kind)) (hub s h) (r .held h used) (r .stores h)) in
         λ j. record {
           kind = word 0 (omega arith) j;
@@ -171,12 +173,12 @@ module _ {ts : ℕ} (L : Layout) (y : Laid ts L) where
     stores-right =
         rw
         (hubs-word L s)
-        (t-below-all (λ h. storeRight L (kindOf (hubWordAt L (words L s) h 0)) (hubWordAt L (words L s) h 1) (storePart L (words L s) h)) (length (s .hubs)) .conv
+        (t-below-all (λ h. storeRight L (kindOf (hubWordAt L (words L s) h 0)) (hubWordAt L (words L s) h 1) (hubWordAt L (words L s) h 2) (storePart L (words L s) h)) (length (s .hubs)) .conv
         (λ h used.
         let lt : h < 16 = omega (arith, r .hubs) in
         let word = hub-word L (sized y) s h lt used in
         rw
-        (word 0 (omega arith), word 1 (omega arith), store-part L (sized y) s h lt used)
+        (word 0 (omega arith), word 1 (omega arith), word 2 (omega arith), store-part L (sized y) s h lt used)
         (store-right (kindOf (hub s h .kind)) (hub s h) (r .held h used) (r .stores h))))
 
     pub written-words : written L (words L s) ≡ true

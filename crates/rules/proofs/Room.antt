@@ -7,7 +7,7 @@ use Rattle.lists.specs.Lists.{bit, occ}
 use Rattle.rules.proofs.Changes.{inUse}
 use Rattle.rules.proofs.Standing.{listed-ready, listed-waits}
 use Rattle.rules.proofs.Valid.{Held, Listed, Range, Room, Valid}
-use Rattle.rules.specs.Table.{Board, Event, Fifo, Hub, Kind, NoKind, Port, Resource, Semaphore, State, hub, kindOf, noHub}
+use Rattle.rules.specs.Table.{Board, Event, Fifo, Hub, Kind, Memory, NoKind, Port, Resource, Semaphore, State, hub, kindOf, noHub}
 use Rattle.rules.specs.WellFormed.{isReady, waitsFor}
 use borrow.Author.Tests.{ltb-false, ltb-true}
 use lib.Dec.{ltb}
@@ -45,6 +45,7 @@ store-le Port T h r e = rw e (omega arith)
 store-le Fifo T h r e = omega (arith, e, r .0, r .2)
 store-le Resource T h r e = rw e (omega arith)
 store-le Board T h r e = omega (arith, e, r .0)
+store-le Memory T h r e = omega (arith, e, r .1)
 
 pub valid-room : (s : State) → Valid s → Room s
 valid-room s g = record {

@@ -8,11 +8,11 @@ use Rattle.rules.proofs.Cases.{and-l, and-r, sameOr}
 use Rattle.rules.proofs.Shapes.{ok-inactive, shape-at}
 use Rattle.rules.proofs.Standing.{listed-waiting, waiting-listed, waiting-used}
 use Rattle.rules.proofs.Valid.{Below, Fits, GetWaits, Listed, MayWait, Ordered, Owners, PutWaits, Range, Records, Shape, Sorted, TaskOk, Valid, Waits}
-use Rattle.rules.specs.Table.{Board, Event, Fifo, Get, Hub, Inactive, Kind, NoKind, NoSide, NoStage, Port, Put, Ready, Resource, Semaphore, Side, Sleeping, Stage, State, Task, Waiting, Wipe, hub, inactive, isResource, kindOf, noHub, owns, sideOf, stageOf, task}
+use Rattle.rules.specs.Table.{Board, Event, Fifo, Get, Hub, Inactive, Kind, Memory, NoKind, NoSide, NoStage, Port, Put, Ready, Resource, Semaphore, Side, Sleeping, Stage, State, Task, Waiting, Wipe, hub, inactive, isResource, kindOf, noHub, owns, sideOf, stageOf, task}
 use Rattle.rules.specs.WellFormed.{bearsWord, every, exactly, fieldsRight, forAll, hubsRight, inOrder, isReady, kindRight, listsExact, mayWait, oneSide, ownerRight, ownersRight, rising, stageRight, tasksRight, urgency, valid, waitersRight, waitsFor, within}
 use borrow.Author.Tests.{eq-eqb, eqb-false, eqb-true, le-leb, leb-true, lt-ltb, ltb-false, ltb-true, ne-eqb}
 use lib.Dec.{eqb, leb, ltb}
-use lib.ListN.{List·getD-eq-default, length}
+use lib.ListN.{List·getD-eq-default, getD, length}
 use mathlib.Core.Bool.{Bool, _&&_, _||_, false, false≢true, not, true}
 use mathlib.Core.List.{List, [], _∷_}
 use mathlib.Core.Logic.{_≢_}
@@ -124,6 +124,12 @@ t-kind Resource T h =
     t-iff _ (t-and _ _ (t-le _ T) (t-and _ _ (t-eq _ 1) (t-eq _ 0))) (λ q. (q .0, q .1 .0, q .1 .1)) (λ q. (q .0, (q .1, q .2)))
 t-kind Board T h =
     t-iff _ (t-and _ _ (t-le _ 1) (t-and _ _ (t-eq _ 1) (t-eq _ 0))) (λ q. (q .0, q .1 .0, q .1 .1)) (λ q. (q .0, (q .1, q .2)))
+t-kind Memory T h =
+    t-iff _
+    (t-and _ _ (t-within 1 8 (h .limit)) (t-and _ _ (t-eq _ _)
+    (t-and _ _ (t-all (λ b. getD (h .held) b 0 ≤ 1) _ (λ b. t-le (getD (h .held) b 0) 1) (h .limit)) (t-eq _ _))))
+    (λ q. (q .0 .0, q .0 .1, q .1 .0, q .1 .1 .0, q .1 .1 .1))
+    (λ q. ((q .0, q .1), (q .2, (q .3, q .4))))
 
 pub t-hubs : (s : State) → Tests (hubsRight s) ((h : ℕ) → h < length (s .hubs) → Range (kindOf (hub s h .kind)) (length (s .tasks)) (hub s h))
 unfolding hubsRight
@@ -251,6 +257,7 @@ t-may Put Port h i = t-true
 t-may Put Fifo h i = t-eq _ _
 t-may Put Resource h i = t-false
 t-may Put Board h i = t-false
+t-may Put Memory h i = t-false
 t-may Get NoKind h i = t-false
 t-may Get Event h i = t-eq _ _
 t-may Get Semaphore h i = t-eq _ _
@@ -258,6 +265,7 @@ t-may Get Port h i = t-true
 t-may Get Fifo h i = t-eq _ _
 t-may Get Resource h i = t-and _ _ (t-not _ (t-eq _ _)) (t-not _ (t-eq _ _))
 t-may Get Board h i = t-eq _ _
+t-may Get Memory h i = t-eq _ _
 t-may Wipe k h i = t-false
 
 pub t-oneSide : (s : State) (l : List ℕ) → Tests (oneSide s l) ((i : ℕ) → 1 ≤ occ i l → (j : ℕ) → 1 ≤ occ j l → task s i .side ≡ task s j .side)

@@ -3,9 +3,9 @@
 -- Not here: that a test says its statement (Tests.antt), that calls keep it (Kept.antt). Assumes nothing.
 use Prim.Native.Nat.{_<_, _≤_, pred, suc, ℕ}
 use Rattle.lists.specs.Lists.{bit, occ}
-use Rattle.rules.specs.Table.{Board, Event, Fifo, Get, Hub, Inactive, Kind, NoKind, NoSide, NoStage, Port, Put, Ready, Resource, Semaphore, Side, Sleeping, Stage, State, Task, Waiting, Wipe, hub, kindOf, owns, sideOf, stageOf, task}
+use Rattle.rules.specs.Table.{Board, Event, Fifo, Get, Hub, Inactive, Kind, Memory, NoKind, NoSide, NoStage, Port, Put, Ready, Resource, Semaphore, Side, Sleeping, Stage, State, Task, Waiting, Wipe, hub, kindOf, owns, sideOf, stageOf, task}
 use Rattle.rules.specs.WellFormed.{bearsWord, isReady, urgency, waitsFor}
-use lib.ListN.{length}
+use lib.ListN.{getD, length}
 use mathlib.Core.Bool.{true}
 use mathlib.Core.List.{List, [], _∷_}
 use mathlib.Core.Logic.{_≢_}
@@ -41,6 +41,7 @@ GetWaits Port h i = Unit {0}
 GetWaits Fifo h i = h .count ≡ 0
 GetWaits Resource h i = (h .count ≡ 0 → ⊥) × (h .count ≡ suc i → ⊥)
 GetWaits Board h i = h .count ≡ 0
+GetWaits Memory h i = h .count ≡ 0
 
 unfoldable pub PutWaits : Kind → Hub → Type 0
 PutWaits NoKind h = ⊥
@@ -50,6 +51,7 @@ PutWaits Port h = Unit {0}
 PutWaits Fifo h = h .count ≡ h .limit
 PutWaits Resource h = ⊥
 PutWaits Board h = ⊥
+PutWaits Memory h = ⊥
 
 unfoldable pub MayWait : Side → Kind → Hub → ℕ → Type 0
 MayWait NoSide k h i = ⊥
@@ -71,8 +73,14 @@ Range Port T h = (h .count ≡ 0) × (h .limit ≡ 0) × (h .start ≡ 0)
 Range Fifo T h = (h .count ≤ h .limit) × (1 ≤ h .limit) × (h .limit ≤ 8) × (h .start ≡ 0)
 Range Resource T h = (h .count ≤ T) × (h .limit ≡ 1) × (h .start ≡ 0)
 Range Board T h = (h .count ≤ 1) × (h .limit ≡ 1) × (h .start ≡ 0)
+Range Memory T h =
+    (1 ≤ h .limit)
+    × (h .limit ≤ 8)
+    × (h .start ≡ h .limit)
+    × ((b : ℕ) → b < h .limit → getD (h .held) b 0 ≤ 1)
+    × (h .count ≡ occ 0 (h .held))
 
--- a FIFO's count is how many words it holds, and a Board's; other hubs hold none
+-- a FIFO's count is how many words it holds, and a Board's; a Memory hub's limit is how many marks; other hubs hold none
 unfoldable pub Held : Kind → Hub → Type 0
 Held NoKind h = h .held ≡ []
 Held Event h = h .held ≡ []
@@ -81,6 +89,7 @@ Held Port h = h .held ≡ []
 Held Fifo h = h .count ≡ length (h .held)
 Held Resource h = h .held ≡ []
 Held Board h = h .count ≡ length (h .held)
+Held Memory h = h .limit ≡ length (h .held)
 
 pub record Ranges (s : State) : Type 0 where
   pub range : (h : ℕ) → h < length (s .hubs) → Range (kindOf (hub s h .kind)) (length (s .tasks)) (hub s h)

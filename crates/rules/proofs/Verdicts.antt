@@ -6,15 +6,16 @@ use Prim.Native.Nat.{_<_, _≤_, pred, suc, zero, ℕ}
 use Rattle.lists.proofs.Counting.{occ-tail}
 use Rattle.lists.proofs.Laws.{boolCase}
 use Rattle.lists.specs.Lists.{occ}
+use Rattle.rules.proofs.Blocks.{back-free, mark-set, taken-free}
 use Rattle.rules.proofs.Cases.{condCase, sameOr}
 use Rattle.rules.proofs.Valid.{GetWaits, Held, MayWait, PutWaits, Range}
-use Rattle.rules.specs.HubTable.{Meeting, Verdict, alone, fail, getBoard, getEvent, getFifo, getPort, getResource, getSemaphore, message, met, notNow, onGet, onPut, onSide, onWipe, pair, pass, putBoard, putEvent, putFifo, putPort, putResource, putSemaphore, readers, verdict}
+use Rattle.rules.specs.HubTable.{Meeting, Verdict, alone, fail, getBoard, getEvent, getFifo, getMemory, getPort, getResource, getSemaphore, giveBack, isOut, lowestFree, message, met, notNow, onGet, onPut, onSide, onWipe, pair, pass, putBoard, putEvent, putFifo, putMemory, putPort, putResource, putSemaphore, readers, verdict}
 use Rattle.rules.specs.Lists.{firstWaiting, holding}
-use Rattle.rules.specs.Table.{Board, Event, Fifo, Get, Hub, Kind, NoKind, NoSide, Port, Put, Resource, Semaphore, Side, State, Wipe, hub, kindOf, sideOf, task}
+use Rattle.rules.specs.Table.{Board, Event, Fifo, Get, Hub, Kind, Memory, NoKind, NoSide, Port, Put, Resource, Semaphore, Side, State, Wipe, hub, kindOf, sideOf, task}
 use Rattle.rules.specs.declared.Call.{Call}
 use borrow.Author.Tests.{eq-eqb, eqb-false, eqb-true, ltb-false, ltb-true}
 use lib.Dec.{eqb, ltb}
-use lib.ListN.{length, length-append}
+use lib.ListN.{length, length-append, length-set}
 use mathlib.Core.Bool.{false≢true, true}
 use mathlib.Core.List.{List, [], _++_, _∷_}
 use mathlib.Core.Logic.{_≢_, _⊎_, inl, inr}
@@ -53,7 +54,7 @@ pub data Few (k : Kind) (s : State) (l : List ℕ) (d : ℕ) (f : Option ℕ) : 
   meets-never : Few k s l d f fail
 
 few-put : (k : Kind) (s : State) (f : Option ℕ) (h : Hub) (i x : ℕ) → Few k s (h .waiters) 2 f (onPut k s f h i x)
-unfolding onPut pass putBoard putEvent putFifo putPort putResource putSemaphore
+unfolding giveBack onPut pass putBoard putEvent putFifo putMemory putPort putResource putSemaphore
 few-put NoKind s f h i x = meets-never
 few-put Event s (some w) h i x = meets-first _ _ _ w _ refl
 few-put Event s none h i x = condCase (Few Event s (h .waiters) 2 none) (eqb (h .count) 0) _ _ (λ _. meets-none _ _ _) (λ _. meets-later)
@@ -67,9 +68,12 @@ few-put Resource s (some w) h i x =
     condCase (Few Resource s (h .waiters) 2 (some w)) (eqb (h .count) (suc i)) (pass (some w) h) fail (λ _. meets-first _ _ _ w _ refl) (λ _. meets-never)
 few-put Resource s none h i x = condCase (Few Resource s (h .waiters) 2 none) (eqb (h .count) (suc i)) (pass none h) fail (λ _. meets-none _ _ _) (λ _. meets-never)
 few-put Board s f h i x = meets-all x refl refl
+few-put Memory s (some w) h i x =
+    condCase (Few Memory s (h .waiters) 2 (some w)) (isOut x h) (giveBack (some w) h x) fail (λ _. meets-first _ _ _ w _ refl) (λ _. meets-never)
+few-put Memory s none h i x = condCase (Few Memory s (h .waiters) 2 none) (isOut x h) (giveBack none h x) fail (λ _. meets-none _ _ _) (λ _. meets-never)
 
 few-get : (k : Kind) (s : State) (f : Option ℕ) (h : Hub) (i : ℕ) → Few k s (h .waiters) 1 f (onGet k s f h i)
-unfolding getBoard getEvent getFifo getPort getResource getSemaphore onGet
+unfolding getBoard getEvent getFifo getMemory getPort getResource getSemaphore onGet
 few-get NoKind s f h i = meets-never
 few-get Event s (some w) h i = condCase (Few Event s (h .waiters) 1 (some w)) (eqb (h .count) 1) _ _ (λ _. meets-first _ _ _ w _ refl) (λ _. meets-later)
 few-get Event s none h i = condCase (Few Event s (h .waiters) 1 none) (eqb (h .count) 1) _ _ (λ _. meets-none _ _ _) (λ _. meets-later)
@@ -92,6 +96,7 @@ few-get Board s f h i = board (h .held)
     board : (l : List ℕ) → Few Board s (h .waiters) 1 f (getBoard l h)
     board [] = meets-later
     board (x ∷ xs) = meets-none _ _ _
+few-get Memory s f h i = condCase (Few Memory s (h .waiters) 1 f) (ltb 0 (h .count)) _ _ (λ _. meets-none _ _ _) (λ _. meets-later)
 
 few-wipe : (k : Kind) (s : State) (l : List ℕ) (f : Option ℕ) → Few k s l 0 f (onWipe k)
 unfolding onWipe
@@ -102,6 +107,7 @@ few-wipe Port s l f = meets-never
 few-wipe Fifo s l f = meets-never
 few-wipe Resource s l f = meets-never
 few-wipe Board s l f = meets-none _ _ _
+few-wipe Memory s l f = meets-never
 
 -- the other side's number
 unfoldable pub across : Side → ℕ
@@ -146,7 +152,7 @@ RangeLaw k T h v = Range k T (hubAfter h v)
 
 range-put : (k : Kind) (T : ℕ) (s : State) (f : Option ℕ) (h : Hub) (i x : ℕ) → ((w : ℕ) → f ≡ some w → w < T) → Range k T h
     → RangeLaw k T h (onPut k s f h i x)
-unfolding Range holding hubAfter onPut pass putBoard putEvent putFifo putPort putResource putSemaphore
+unfolding Range giveBack holding hubAfter onPut pass putBoard putEvent putFifo putMemory putPort putResource putSemaphore
 range-put NoKind T s f h i x b r = r
 range-put Event T s (some w) h i x b r = r
 range-put Event T s none h i x b r = condCase (RangeLaw Event T h) (eqb (h .count) 0) _ _ (λ q. (omega arith, r .1, r .2)) (λ q. r)
@@ -163,9 +169,14 @@ range-put Resource T s (some w) h i x b r =
 range-put Resource T s none h i x b r =
     condCase (RangeLaw Resource T h) (eqb (h .count) (suc i)) (pass none h) fail (λ q. (omega arith, r .1, r .2)) (λ q. r)
 range-put Board T s f h i x b r = (omega arith, r .1, r .2)
+range-put Memory T s (some w) h i x b r = condCase (RangeLaw Memory T h) (isOut x h) (giveBack (some w) h x) fail (λ q. r) (λ q. r)
+range-put Memory T s none h i x b r =
+    condCase (RangeLaw Memory T h) (isOut x h) (giveBack none h x) fail
+    (λ q. (r .0, r .1, r .2, (λ j lt. mark-set (h .held) x 0 j (omega arith) (r .3 j lt)), back-free x h q (r .4)))
+    (λ q. r)
 
 range-get : (k : Kind) (T : ℕ) (s : State) (f : Option ℕ) (h : Hub) (i : ℕ) → i < T → Range k T h → RangeLaw k T h (onGet k s f h i)
-unfolding Range getBoard getEvent getFifo getPort getResource getSemaphore holding hubAfter onGet
+unfolding Range getBoard getEvent getFifo getMemory getPort getResource getSemaphore holding hubAfter onGet
 range-get NoKind T s f h i a r = r
 range-get Event T s (some w) h i a r = condCase (RangeLaw Event T h) (eqb (h .count) 1) _ _ (λ q. r) (λ q. r)
 range-get Event T s none h i a r = condCase (RangeLaw Event T h) (eqb (h .count) 1) _ _ (λ q. (omega arith, r .1, r .2)) (λ q. r)
@@ -191,6 +202,10 @@ range-get Board T s f h i a r = board (h .held)
     board : (l : List ℕ) → RangeLaw Board T h (getBoard l h)
     board [] = r
     board (y ∷ ys) = r
+range-get Memory T s f h i a r =
+    condCase (RangeLaw Memory T h) (ltb 0 (h .count)) _ _
+    (λ q. (r .0, r .1, r .2, (λ j lt. mark-set (h .held) (lowestFree h) 1 j (omega arith) (r .3 j lt)), taken-free h (r .4) (ltb-true 0 _ q)))
+    (λ q. r)
 
 range-wipe : (k : Kind) (T : ℕ) (h : Hub) → Range k T h → RangeLaw k T h (onWipe k)
 unfolding Range holding hubAfter onWipe
@@ -201,6 +216,7 @@ range-wipe Port T h r = r
 range-wipe Fifo T h r = r
 range-wipe Resource T h r = r
 range-wipe Board T h r = (omega arith, r .1, r .2)
+range-wipe Memory T h r = r
 
 pub range-side : (d : Side) (T : ℕ) (s : State) (h : Hub) (c : Call) → c .caller < T → ((w : ℕ) → firstWaiting s 2 (h .waiters) ≡ some w → w < T)
     → Range (kindOf (h .kind)) T h → RangeLaw (kindOf (h .kind)) T h (onSide d s h c)
@@ -216,7 +232,7 @@ abbrev HeldLaw : Kind → Hub → Verdict → Type 0
 HeldLaw k h v = Held k (hubAfter h v)
 
 held-put : (k : Kind) (s : State) (f : Option ℕ) (h : Hub) (i x : ℕ) → Held k h → HeldLaw k h (onPut k s f h i x)
-unfolding Held holding hubAfter onPut pass putBoard putEvent putFifo putPort putResource putSemaphore
+unfolding Held giveBack holding hubAfter onPut pass putBoard putEvent putFifo putMemory putPort putResource putSemaphore
 held-put NoKind s f h i x e = e
 held-put Event s (some w) h i x e = e
 held-put Event s none h i x e = condCase (HeldLaw Event h) (eqb (h .count) 0) _ _ (λ q. e) (λ q. e)
@@ -232,9 +248,12 @@ held-put Fifo s none h i x e =
 held-put Resource s (some w) h i x e = condCase (HeldLaw Resource h) (eqb (h .count) (suc i)) (pass (some w) h) fail (λ q. e) (λ q. e)
 held-put Resource s none h i x e = condCase (HeldLaw Resource h) (eqb (h .count) (suc i)) (pass none h) fail (λ q. e) (λ q. e)
 held-put Board s f h i x e = refl
+held-put Memory s (some w) h i x e = condCase (HeldLaw Memory h) (isOut x h) (giveBack (some w) h x) fail (λ q. e) (λ q. e)
+held-put Memory s none h i x e =
+    condCase (HeldLaw Memory h) (isOut x h) (giveBack none h x) fail (λ q. e ∙ sym (length-set (h .held) x 0)) (λ q. e)
 
 held-get : (k : Kind) (s : State) (f : Option ℕ) (h : Hub) (i : ℕ) → Held k h → HeldLaw k h (onGet k s f h i)
-unfolding Held getBoard getEvent getFifo getPort getResource getSemaphore holding hubAfter onGet
+unfolding Held getBoard getEvent getFifo getMemory getPort getResource getSemaphore holding hubAfter onGet
 held-get NoKind s f h i e = e
 held-get Event s (some w) h i e = condCase (HeldLaw Event h) (eqb (h .count) 1) _ _ (λ q. e) (λ q. e)
 held-get Event s none h i e = condCase (HeldLaw Event h) (eqb (h .count) 1) _ _ (λ q. e) (λ q. e)
@@ -258,6 +277,8 @@ held-get Board s f h i e = board (h .held)
     board : (l : List ℕ) → HeldLaw Board h (getBoard l h)
     board [] = e
     board (y ∷ ys) = e
+held-get Memory s f h i e =
+    condCase (HeldLaw Memory h) (ltb 0 (h .count)) _ _ (λ q. e ∙ sym (length-set (h .held) (lowestFree h) 1)) (λ q. e)
 
 held-wipe : (k : Kind) (h : Hub) → Held k h → HeldLaw k h (onWipe k)
 unfolding Held holding hubAfter onWipe
@@ -268,6 +289,7 @@ held-wipe Port h e = e
 held-wipe Fifo h e = e
 held-wipe Resource h e = e
 held-wipe Board h e = refl
+held-wipe Memory h e = e
 
 pub held-side : (d : Side) (s : State) (h : Hub) (c : Call) → Held (kindOf (h .kind)) h → HeldLaw (kindOf (h .kind)) h (onSide d s h c)
 unfolding hubAfter onSide
@@ -296,7 +318,7 @@ in-readers s (t ∷ ts) x j o e a =
 -- a put: j a putter, or a getter where f is not none; of a Board a reader, and so met
 wait-put : (k : Kind) (d : Side) (T : ℕ) (s : State) (f : Option ℕ) (h : Hub) (i x j : ℕ) → Range k T h → MayWait d k h j → (f ≡ none → d ≡ Get → ⊥)
     → (d ≡ Get → Apart (readers s (h .waiters) x) j → ⊥) → Apart (waitersMet (onPut k s f h i x)) j → WaitLaw k d h j (onPut k s f h i x)
-unfolding Each GetWaits MayWait PutWaits Range holding hubAfter onPut pass putBoard putEvent putFifo putPort putResource putSemaphore waitersMet
+unfolding Each GetWaits MayWait PutWaits Range giveBack holding hubAfter onPut pass putBoard putEvent putFifo putMemory putPort putResource putSemaphore waitersMet
 wait-put NoKind d T s f h i x j r m a z n = absurd r
 wait-put Event d T s (some w) h i x j r m a z n = m
 wait-put Event NoSide T s none h i x j r m a z n = absurd m
@@ -331,11 +353,16 @@ wait-put Board NoSide T s f h i x j r m a z n = absurd m
 wait-put Board Put T s f h i x j r m a z n = absurd m
 wait-put Board Get T s f h i x j r m a z n = absurd (z refl n)
 wait-put Board Wipe T s f h i x j r m a z n = absurd m
+wait-put Memory NoSide T s f h i x j r m a z n = absurd m
+wait-put Memory Put T s f h i x j r m a z n = absurd m
+wait-put Memory Wipe T s f h i x j r m a z n = absurd m
+wait-put Memory Get T s (some w) h i x j r m a z n = condCase (WaitLaw Memory Get h j) (isOut x h) (giveBack (some w) h x) fail (λ q. m) (λ q. m)
+wait-put Memory Get T s none h i x j r m a z n = absurd (a refl refl)
 
 -- a get: j a getter, or a putter where f is not none
 wait-get : (k : Kind) (d : Side) (s : State) (f : Option ℕ) (h : Hub) (i j : ℕ) → Held k h → MayWait d k h j → (f ≡ none → d ≡ Put → ⊥)
     → WaitLaw k d h j (onGet k s f h i)
-unfolding GetWaits Held MayWait PutWaits getBoard getEvent getFifo getPort getResource getSemaphore holding hubAfter onGet
+unfolding GetWaits Held MayWait PutWaits getBoard getEvent getFifo getMemory getPort getResource getSemaphore holding hubAfter onGet
 wait-get NoKind d s f h i j e m a = m
 wait-get Event d s (some w) h i j e m a = condCase (WaitLaw Event d h j) (eqb (h .count) 1) _ _ (λ q. m) (λ q. m)
 wait-get Event NoSide s none h i j e m a = absurd m
@@ -375,6 +402,11 @@ wait-get Board d s f h i j e m a = board (h .held)
     board : (l : List ℕ) → WaitLaw Board d h j (getBoard l h)
     board [] = m
     board (y ∷ ys) = m
+wait-get Memory NoSide s f h i j e m a = absurd m
+wait-get Memory Put s f h i j e m a = absurd m
+wait-get Memory Wipe s f h i j e m a = absurd m
+wait-get Memory Get s f h i j e m a =
+    condCase (WaitLaw Memory Get h j) (ltb 0 (h .count)) _ _ (λ q. absurd (omega (arith, ltb-true 0 (h .count) q))) (λ q. m)
 
 -- a wipe: whoever waits goes on
 wait-wipe : (k : Kind) (d : Side) (h : Hub) (j : ℕ) → MayWait d k h j → WaitLaw k d h j (onWipe k)
@@ -389,6 +421,7 @@ wait-wipe Board NoSide h j m = absurd m
 wait-wipe Board Put h j m = absurd m
 wait-wipe Board Get h j m = refl
 wait-wipe Board Wipe h j m = absurd m
+wait-wipe Memory d h j m = m
 
 side-put : (n : ℕ) → sideOf n ≡ Put → n ≡ 1
 unfolding sideOf
@@ -425,7 +458,7 @@ JoinLaw k d h i f notNow = MayWait d k h i × (f ≡ none)
 JoinLaw k d h i f fail = Unit {0}
 
 join-put : (k : Kind) (T : ℕ) (s : State) (f : Option ℕ) (h : Hub) (i x : ℕ) → Range k T h → JoinLaw k Put h i f (onPut k s f h i x)
-unfolding JoinLaw MayWait PutWaits Range onPut pass putBoard putEvent putFifo putPort putResource putSemaphore
+unfolding JoinLaw MayWait PutWaits Range giveBack onPut pass putBoard putEvent putFifo putMemory putPort putResource putSemaphore
 join-put NoKind T s f h i x r = absurd r
 join-put Event T s (some w) h i x r = tt
 join-put Event T s none h i x r =
@@ -449,10 +482,12 @@ join-put Resource T s (some w) h i x r =
 join-put Resource T s none h i x r =
     condCase (JoinLaw Resource Put h i none) (eqb (h .count) (suc i)) (pass none h) fail (λ q. tt) (λ q. tt)
 join-put Board T s f h i x r = tt
+join-put Memory T s (some w) h i x r = condCase (JoinLaw Memory Put h i (some w)) (isOut x h) (giveBack (some w) h x) fail (λ q. tt) (λ q. tt)
+join-put Memory T s none h i x r = condCase (JoinLaw Memory Put h i none) (isOut x h) (giveBack none h x) fail (λ q. tt) (λ q. tt)
 
 join-get : (k : Kind) (T : ℕ) (s : State) (f : Option ℕ) (h : Hub) (i : ℕ) → Range k T h → Held k h → ((w : ℕ) → f ≡ some w → MayWait Put k h w)
     → JoinLaw k Get h i f (onGet k s f h i)
-unfolding GetWaits Held JoinLaw MayWait PutWaits Range getBoard getEvent getFifo getPort getResource getSemaphore onGet
+unfolding GetWaits Held JoinLaw MayWait PutWaits Range getBoard getEvent getFifo getMemory getPort getResource getSemaphore onGet
 join-get NoKind T s f h i r e m = absurd r
 join-get Event T s (some w) h i r e m =
     condCase (JoinLaw Event Get h i (some w)) (eqb (h .count) 1) _ _
@@ -490,6 +525,9 @@ join-get Board T s none h i r e m = board (h .held) refl
     board : (l : List ℕ) → h .held ≡ l → JoinLaw Board Get h i none (getBoard l h)
     board [] q = (e ∙ ap length q, refl)
     board (y ∷ ys) q = tt
+join-get Memory T s (some w) h i r e m = absurd (m w refl)
+join-get Memory T s none h i r e m =
+    condCase (JoinLaw Memory Get h i none) (ltb 0 (h .count)) _ _ (λ q. tt) (λ q. (omega (arith, ltb-false 0 (h .count) q), refl))
 
 join-wipe : (k : Kind) (h : Hub) (i : ℕ) (f : Option ℕ) → JoinLaw k Wipe h i f (onWipe k)
 unfolding JoinLaw onWipe
@@ -500,6 +538,7 @@ join-wipe Port h i f = tt
 join-wipe Fifo h i f = tt
 join-wipe Resource h i f = tt
 join-wipe Board h i f = tt
+join-wipe Memory h i f = tt
 
 pub join-side : (d : Side) (T : ℕ) (s : State) (h : Hub) (c : Call) → Range (kindOf (h .kind)) T h → Held (kindOf (h .kind)) h
     → ((w : ℕ) → firstWaiting s 1 (h .waiters) ≡ some w → MayWait Put (kindOf (h .kind)) h w)
@@ -567,6 +606,7 @@ never-later Port e = false≢true (cc)
 never-later Fifo e = false≢true (cc)
 never-later Resource e = false≢true (cc)
 never-later Board e = false≢true (cc)
+never-later Memory e = false≢true (cc)
 
 pub later-side : (s : State) (h : Hub) (c : Call) → c .side ≡ 3 → onSide (sideOf (c .side)) s h c ≡ notNow → ⊥
 unfolding onSide sideOf

@@ -1,6 +1,7 @@
 -- Calls keep who may wait where, and the hubs in their ranges. In order: what is said of a hub does not read its waiting
 -- list; calls that meet no request; the hub request, for any waiters met; a hub added; each service. By any key.
 use Prim.Native.Nat.{_<_, _≤_, suc, zero, ℕ}
+use Rattle.lists.proofs.Counting.{occ-replicate}
 use Rattle.lists.proofs.Laws.{boolCase}
 use Rattle.rules.proofs.Accepted.{Asked, caller-ready, hub-tests, on-task, request-tests, within-true}
 use Rattle.rules.proofs.Cases.{and-l, and-r, condCase, sameOr}
@@ -15,16 +16,16 @@ use Rattle.rules.proofs.Settled.{Partners, caller-in, later-asked, leng
 use Rattle.rules.proofs.Standing.{first-waits, listed-waiting, listed-waits, none-waits, waiting-listed, waiting-used}
 use Rattle.rules.proofs.Valid.{GetWaits, Held, Listed, MayWait, PutWaits, Range, Ranges, Valid, Waits}
 use Rattle.rules.proofs.Verdicts.{Apart, Each, JoinLaw, across, after-kind, held-side, hubAfter, join-side, pass-held, pass-range, pass-wait, range-side, side-get, wait-side, waitersMet}
-use Rattle.rules.specs.Calls.{AddHub, AddTask, Blank, HubRequest, Resume, Service, Sleep, Start, Stop, Suspend, Tick, Unknown, Yield, addHub, blank, deactivate, grant, heir, mayStop, newHub, passAll, serve, settle, stop, wait}
+use Rattle.rules.specs.Calls.{AddHub, AddTask, Blank, HubRequest, Resume, Service, Sleep, Start, Stop, Suspend, Tick, Unknown, Yield, addHub, blank, deactivate, grant, heir, mayStop, newHeld, newHub, passAll, serve, settle, stop, wait}
 use Rattle.rules.specs.HubTable.{Verdict, fail, met, notNow, pass, verdict}
 use Rattle.rules.specs.Lists.{answer, firstWaiting, leave, queued, waits}
 use Rattle.rules.specs.Refusals.{goodHub, refusalFor}
-use Rattle.rules.specs.Table.{Board, Event, Fifo, Get, Hub, Kind, NoKind, NoSide, Port, Put, Resource, Semaphore, Side, State, Task, Wipe, hub, inactive, kindOf, owns, sideOf, task}
+use Rattle.rules.specs.Table.{Board, Event, Fifo, Get, Hub, Kind, Memory, NoKind, NoSide, Port, Put, Resource, Semaphore, Side, State, Task, Wipe, hub, inactive, kindOf, owns, sideOf, task}
 use Rattle.rules.specs.WellFormed.{waitsFor, within}
 use Rattle.rules.specs.declared.Call.{Call}
 use borrow.Author.Tests.{eq-eqb, eqb-true, leb-true, lt-ltb, ltb-false, ltb-true}
 use lib.Dec.{eqb, ltb}
-use lib.ListN.{length}
+use lib.ListN.{getD-replicate, length, length-replicate}
 use mathlib.Core.Bool.{Bool, _&&_, false, false≢true, true}
 use mathlib.Core.List.{List}
 use mathlib.Core.Logic.{_≢_, _⊎_, inl, inr}
@@ -48,6 +49,7 @@ may-queued Put Port x l j m = m
 may-queued Put Fifo x l j m = m
 may-queued Put Resource x l j m = m
 may-queued Put Board x l j m = m
+may-queued Put Memory x l j m = m
 may-queued Get NoKind x l j m = m
 may-queued Get Event x l j m = m
 may-queued Get Semaphore x l j m = m
@@ -55,6 +57,7 @@ may-queued Get Port x l j m = m
 may-queued Get Fifo x l j m = m
 may-queued Get Resource x l j m = m
 may-queued Get Board x l j m = m
+may-queued Get Memory x l j m = m
 may-queued Wipe k x l j m = m
 
 -- the same side and kind, read from equal numbers
@@ -73,6 +76,7 @@ range-queued Port T x l r = r
 range-queued Fifo T x l r = r
 range-queued Resource T x l r = r
 range-queued Board T x l r = r
+range-queued Memory T x l r = r
 
 range-move : (T : ℕ) (x x′ : Hub) → core x′ ≡ core x → Range (kindOf (x .kind)) T x → Range (kindOf (x′ .kind)) T x′
 unfolding queued
@@ -87,6 +91,7 @@ held-queued Port x l e = e
 held-queued Fifo x l e = e
 held-queued Resource x l e = e
 held-queued Board x l e = e
+held-queued Memory x l e = e
 
 held-move : (x x′ : Hub) → core x′ ≡ core x → Held (kindOf (x .kind)) x → Held (kindOf (x′ .kind)) x′
 unfolding queued
@@ -102,6 +107,7 @@ range-more Port T T′ x h r = r
 range-more Fifo T T′ x h r = r
 range-more Resource T T′ x h r = (omega (arith, h, r .0), r .1, r .2)
 range-more Board T T′ x h r = r
+range-more Memory T T′ x h r = r
 
 -- ---- calls that meet no request
 
@@ -295,36 +301,41 @@ module _ (key : ℕ → ℕ) (s : State) (l : Listed s) (m : Waits s) (r : Range
 
 -- ---- a hub added
 
-new-range : (k : Kind) (c : Call) (T : ℕ) → goodHub k (c .ticks) (c .word) ≡ true → Range k T (newHub c)
-unfolding Range goodHub newHub
-new-range NoKind c T e = absurd (false≢true e)
-new-range Event c T e =
+new-range : (k : Kind) (c : Call) (T : ℕ) → kindOf (c .target) ≡ k → goodHub k (c .ticks) (c .word) ≡ true → Range k T (newHub c)
+unfolding Range goodHub newHeld newHub
+new-range NoKind c T q e = absurd (false≢true e)
+new-range Event c T q e =
     let b : c .word ≡ 0 = eqb-true _ 0 (and-r (eqb (c .ticks) 1) _ e) in (omega (arith, b), eqb-true _ 1 (and-l _ _ e), b)
-new-range Semaphore c T e =
+new-range Semaphore c T q e =
     let w = within-true 1 65535 (c .ticks) (and-l _ _ e) in
     let d : c .word ≤ c .ticks = leb-true _ _ (and-r (within 1 65535 (c .ticks)) _ e) in
     (d, w .0, w .1, d)
-new-range Port c T e =
+new-range Port c T q e =
     let b : c .word ≡ 0 = eqb-true _ 0 (and-r (eqb (c .ticks) 0) _ e) in (b, eqb-true _ 0 (and-l _ _ e), b)
-new-range Fifo c T e =
+new-range Fifo c T q e =
     let w = within-true 1 8 (c .ticks) (and-l _ _ e) in
     let d : c .word ≡ 0 = eqb-true _ 0 (and-r (within 1 8 (c .ticks)) _ e) in
     (omega (arith, d), w .0, w .1, d)
-new-range Resource c T e =
+new-range Resource c T q e =
     let b : c .word ≡ 0 = eqb-true _ 0 (and-r (eqb (c .ticks) 1) _ e) in (omega (arith, b), eqb-true _ 1 (and-l _ _ e), b)
-new-range Board c T e =
+new-range Board c T q e =
     let b : c .word ≡ 0 = eqb-true _ 0 (and-r (eqb (c .ticks) 1) _ e) in (omega (arith, b), eqb-true _ 1 (and-l _ _ e), b)
+new-range Memory c T q e =
+    let w = within-true 1 8 (c .ticks) (and-l _ _ e) in
+    let d : c .word ≡ c .ticks = eqb-true _ _ (and-r (within 1 8 (c .ticks)) _ e) in
+    rw q (w .0, w .1, d, (λ b lt. rw (getD-replicate {A = ℕ} (c .ticks) b 0 0 lt) (omega arith)), d ∙ sym (occ-replicate 0 (c .ticks)))
 
--- it holds nothing: a FIFO's count is its start, and that is 0
-new-held : (k : Kind) (c : Call) → goodHub k (c .ticks) (c .word) ≡ true → Held k (newHub c)
-unfolding Held goodHub newHub
-new-held NoKind c e = refl
-new-held Event c e = refl
-new-held Semaphore c e = refl
-new-held Port c e = refl
-new-held Fifo c e = eqb-true _ 0 (and-r (within 1 8 (c .ticks)) _ e)
-new-held Resource c e = refl
-new-held Board c e = eqb-true _ 0 (and-r (eqb (c .ticks) 1) _ e)
+-- it holds nothing: a FIFO's count is its start, and that is 0; a Memory hub a mark for each block
+new-held : (k : Kind) (c : Call) → kindOf (c .target) ≡ k → goodHub k (c .ticks) (c .word) ≡ true → Held k (newHub c)
+unfolding Held goodHub newHeld newHub
+new-held NoKind c q e = rw q refl
+new-held Event c q e = rw q refl
+new-held Semaphore c q e = rw q refl
+new-held Port c q e = rw q refl
+new-held Fifo c q e = rw q (eqb-true _ 0 (and-r (within 1 8 (c .ticks)) _ e))
+new-held Resource c q e = rw q refl
+new-held Board c q e = rw q (eqb-true _ 0 (and-r (eqb (c .ticks) 1) _ e))
+new-held Memory c q e = rw q (sym (length-replicate {A = ℕ} (c .ticks) 0))
 
 -- ---- by service
 
@@ -468,9 +479,9 @@ good-addHub key s c g e = record {
   waits = waits-quiet s s′ (g .waits) (quiet-same s s′ (λ j. unfold addHub in refl))
       (λ h i w. ap core (hub-added-other (newHub c) s h (λ q. omega (arith, q, waiting-used s (g .listed) h i w))));
   ranges = record {
-    range = all (λ (y : Hub). Range (kindOf (y .kind)) (length (s′ .tasks)) y) (unfold newHub in new-range (kindOf (c .target)) c _ good)
+    range = all (λ (y : Hub). Range (kindOf (y .kind)) (length (s′ .tasks)) y) (unfold newHub in new-range (kindOf (c .target)) c _ refl good)
         (unfold addHub in g .ranges .range);
-    held = all (λ (y : Hub). Held (kindOf (y .kind)) y) (unfold newHub in new-held (kindOf (c .target)) c good) (g .ranges .held);
+    held = all (λ (y : Hub). Held (kindOf (y .kind)) y) (unfold newHub in new-held (kindOf (c .target)) c refl good) (g .ranges .held);
   };
 }
   where

@@ -11,7 +11,7 @@ use Rattle.rules.proofs.Reading.{length-tab, read-hub, read-hubs, read-
 use Rattle.rules.proofs.Rows.{rows-none}
 use Rattle.rules.proofs.Tests.{t-below-all, t-hubs}
 use Rattle.rules.proofs.Valid.{Fits, Held, Range}
-use Rattle.rules.specs.Table.{Board, Event, Fifo, Hub, Kind, Layout, NoKind, Port, Resource, Semaphore, Task, contents, heldIn, hub, hubAt, hubWordAt, hubWords, hubsAt, kindOf, part, read, readyAt, rows, size, storeFrom, storeOf, storePart, storeSize, storeWords, storesAt, tab, taskAt, taskFrom, taskSize, taskWords, tasksAt, waitPart, waitWords, waitsAt, words}
+use Rattle.rules.specs.Table.{Board, Event, Fifo, Hub, Kind, Layout, Memory, NoKind, Port, Resource, Semaphore, Task, contents, heldIn, hub, hubAt, hubWordAt, hubWords, hubsAt, kindOf, part, read, readyAt, rows, size, storeFrom, storeOf, storePart, storeSize, storeWords, storesAt, tab, taskAt, taskFrom, taskSize, taskWords, tasksAt, waitPart, waitWords, waitsAt, words}
 use Rattle.rules.specs.WellFormed.{contentsRight, hubsRight, listsPacked, storeRight, storesRight, unusedZero, valid, written, zeroFrom}
 use borrow.Author.Tests.{eqb-true, leb-true, ltb-false, ltb-true}
 use lib.Dec.{ltb}
@@ -92,7 +92,7 @@ pub record Written (L : Layout) (t : List ℕ) : Type 0 where
   pub unused : unusedZero L t ≡ true
   pub ready : packed (part (readyAt L) 16 t) ≡ true
   pub waiters : (h : ℕ) → h < getD t 2 0 → packed (waitPart L t h) ≡ true
-  pub stores : (h : ℕ) → h < getD t 2 0 → storeRight L (kindOf (hubWordAt L t h 0)) (hubWordAt L t h 1) (storePart L t h) ≡ true
+  pub stores : (h : ℕ) → h < getD t 2 0 → storeRight L (kindOf (hubWordAt L t h 0)) (hubWordAt L t h 1) (hubWordAt L t h 2) (storePart L t h) ≡ true
 
 pub written-says : (L : Layout) (t : List ℕ) → written L t ≡ true → Written L t
 unfolding contents contentsRight listsPacked storesRight window written
@@ -128,7 +128,7 @@ written-says L t e =
       unused = w2 .0;
       ready = p .0;
       waiters = t-below-all (λ h. packed (waitPart L t h)) (getD t 2 0) .yes (p .1);
-      stores = t-below-all (λ h. storeRight L (kindOf (hubWordAt L t h 0)) (hubWordAt L t h 1) (storePart L t h)) (getD t 2 0) .yes (w3 .1);
+      stores = t-below-all (λ h. storeRight L (kindOf (hubWordAt L t h 0)) (hubWordAt L t h 1) (hubWordAt L t h 2) (storePart L t h)) (getD t 2 0) .yes (w3 .1);
     }
   where
     fits : length t ≡ size L → 0 + 8 ≤ length t
@@ -214,15 +214,16 @@ module _ {ts : ℕ} {L : Layout} (y : Laid ts L) (t : List ℕ) (low : (k : ℕ)
       rows-none (L .width) (L .message) 8
       ∙ sym (rw (length-store h lt) at (replicate-allZero (storePart L t h) e))
 
-  store-words : (k : Kind) (n h : ℕ) → h < 16 → storeRight L k n (storePart L t h) ≡ true → storeWords L (heldIn L k n (storePart L t h)) ≡ storePart L t h
+  store-words : (k : Kind) (n m h : ℕ) → h < 16 → storeRight L k n m (storePart L t h) ≡ true → storeWords L (heldIn L k n m (storePart L t h)) ≡ storePart L t h
   unfolding heldIn storeRight
-  store-words NoKind n h lt e = none-words h lt e
-  store-words Event n h lt e = none-words h lt e
-  store-words Semaphore n h lt e = none-words h lt e
-  store-words Port n h lt e = none-words h lt e
-  store-words Fifo n h lt e = messages-words n h lt e
-  store-words Resource n h lt e = none-words h lt e
-  store-words Board n h lt e = messages-words n h lt e
+  store-words NoKind n m h lt e = none-words h lt e
+  store-words Event n m h lt e = none-words h lt e
+  store-words Semaphore n m h lt e = none-words h lt e
+  store-words Port n m h lt e = none-words h lt e
+  store-words Fifo n m h lt e = messages-words n h lt e
+  store-words Resource n m h lt e = none-words h lt e
+  store-words Board n m h lt e = messages-words n h lt e
+  store-words Memory n m h lt e = messages-words m h lt e
 
   -- the six bodies, one after the other
   bodies : t ≡ take 8 t ++ (part tasksAt (16 * taskSize L) t ++ (part (hubsAt L) (16 * 4) t ++ (part (readyAt L) 16 t ++ (part (waitsAt L) (16 * 16) t ++ part (storesAt L) (16 * storeSize L) t))))
@@ -280,16 +281,17 @@ module _ {ts : ℕ} {L : Layout} (y : Laid ts L) (t : List ℕ) (low : (k : ℕ)
       waitRows j h lt = rw zero-add (wait-words j lt (w .waiters j h))
 
       storeRows : (j : ℕ) → j < getD t 2 0 → j < 16 → storeOf L (hubAt L t (0 + j)) ≡ storePart L t j
-      storeRows j h lt = rw zero-add (store-words (kindOf (hubWordAt L t j 0)) (hubWordAt L t j 1) j lt (w .stores j h))
+      storeRows j h lt = rw zero-add (store-words (kindOf (hubWordAt L t j 0)) (hubWordAt L t j 1) (hubWordAt L t j 2) j lt (w .stores j h))
 
 -- a table of 32-bit words
 pub words-read : {ts : ℕ} {L : Layout} → Laid ts L → (t : List ℕ) → ((k : ℕ) → getD t k 0 < 4294967296) → written L t ≡ true → t ≡ words L (read L t)
 words-read {L = L} y t low e = words-read-of y t low (written-says L t e)
 
--- ---- what the words say of the state: how many records, and that a FIFO's count is how many words it holds
+-- ---- what the words say of the state: how many records, and that a FIFO's count is how many words it holds, a Memory hub's limit
+-- how many marks
 
 -- the kinds table keeps a FIFO's count within its store
-holds : (L : Layout) (k : Kind) (T : ℕ) (x : Hub) (l : List ℕ) → x .held ≡ heldIn L k (x .count) l → Range k T x → Held k x
+holds : (L : Layout) (k : Kind) (T : ℕ) (x : Hub) (l : List ℕ) → x .held ≡ heldIn L k (x .count) (x .limit) l → Range k T x → Held k x
 unfolding Held Range heldIn
 holds L NoKind T x l e r = e
 holds L Event T x l e r = e
@@ -298,6 +300,7 @@ holds L Port T x l e r = e
 holds L Fifo T x l e r = sym (ap length e ∙ length-tab (λ j. L .messageFrom (λ k. getD l (j * L .width + k) 0)) (x .count) 0)
 holds L Resource T x l e r = e
 holds L Board T x l e r = sym (ap length e ∙ length-tab (λ j. L .messageFrom (λ k. getD l (j * L .width + k) 0)) (x .count) 0)
+holds L Memory T x l e r = sym (ap length e ∙ length-tab (λ j. L .messageFrom (λ k. getD l (j * L .width + k) 0)) (x .limit) 0)
 
 pub read-fits : (L : Layout) (t : List ℕ) → written L t ≡ true → valid (read L t) ≡ true → Fits (read L t)
 unfolding hubAt valid
@@ -309,6 +312,6 @@ read-fits L t e v =
       hubs = rw (read-hubs L t) (w .hubs);
       held = λ h used.
           let lt : h < getD t 2 0 = rw (read-hubs L t) at used in
-          let held : hub (read L t) h .held ≡ heldIn L (kindOf (hub (read L t) h .kind)) (hub (read L t) h .count) (storePart L t h) = rw (read-hub L t h lt) in
+          let held : hub (read L t) h .held ≡ heldIn L (kindOf (hub (read L t) h .kind)) (hub (read L t) h .count) (hub (read L t) h .limit) (storePart L t h) = rw (read-hub L t h lt) in
           holds L (kindOf (hub (read L t) h .kind)) (length (read L t .tasks)) (hub (read L t) h) (storePart L t h) held (ranges h used);
     }

@@ -1,11 +1,13 @@
 -- The hub table: what a hub says of a put, a get or a wipe, by its kind; a row of the paper for each definition. What a verdict does
 -- to the table is in Calls.antt.
 use Prim.Native.Nat.{_*_, _+_, pred, suc, ℕ}
+use Rattle.lists.specs.Lists.{indexOf}
 use Rattle.rules.specs.Lists.{firstWaiting}
-use Rattle.rules.specs.Table.{Board, Event, Fifo, Get, Hub, Kind, NoKind, NoSide, Port, Put, Resource, Semaphore, Side, State, Wipe, hub, kindOf, sideOf, task}
+use Rattle.rules.specs.Table.{Board, Event, Fifo, Get, Hub, Kind, Memory, NoKind, NoSide, Port, Put, Resource, Semaphore, Side, State, Wipe, hub, kindOf, sideOf, task}
 use Rattle.rules.specs.declared.Call.{Call}
 use lib.Dec.{eqb, ltb}
-use mathlib.Core.Bool.{cond}
+use lib.ListN.{getD, set}
+use mathlib.Core.Bool.{Bool, cond}
 use mathlib.Core.List.{List, [], _++_, _∷_}
 use mathlib.Core.Option.{Option, none, some}
 
@@ -71,6 +73,20 @@ readers s (t ∷ ts) x = cond (eqb (task s t .side) 2) (record { waiter = t; wor
 unfoldable pub putBoard : State → Hub → ℕ → Verdict
 putBoard s h x = met 1 (x ∷ []) 0 (readers s (h .waiters) x)
 
+-- Memory (M-107): block b is out; a number from the limit on has no mark, and is not
+unfoldable pub isOut : ℕ → Hub → Bool
+isOut b h = eqb (getD (h .held) b 0) 1
+
+-- "With getters waiting, the block returned goes to the first and stays marked": the count stays 0. Else its mark becomes 0, and
+-- one more is free.
+unfoldable pub giveBack : Option ℕ → Hub → ℕ → Verdict
+giveBack (some w) h b = pair (h .count) (h .held) 0 w b
+giveBack none h b = alone (suc (h .count)) (set (h .held) b 0) 0
+
+-- "Put gives a block back; a number not out is FAIL in every mode"
+unfoldable pub putMemory : Option ℕ → Hub → ℕ → Verdict
+putMemory f h b = cond (isOut b h) (giveBack f h b) fail
+
 -- ---- get: by the first putter that waits, and the hub
 
 -- "count 1: a putter waits, the first is met and count stays 1; else becomes 0. Count 0: not now"
@@ -104,6 +120,15 @@ unfoldable pub getBoard : List ℕ → Hub → Verdict
 getBoard [] h = notNow
 getBoard (x ∷ xs) h = alone (h .count) (h .held) x
 
+-- Memory (M-107): the lowest free block, the first whose mark is 0
+abbrev pub lowestFree : Hub → ℕ
+lowestFree h = indexOf 0 (h .held)
+
+-- "takes the lowest free block and receives its number as word"; "not now", "exactly when no block is free"
+unfoldable pub getMemory : Hub → Verdict
+getMemory h =
+    cond (ltb 0 (h .count)) (alone (pred (h .count)) (set (h .held) (lowestFree h) 1) (lowestFree h)) notNow
+
 -- ---- wipe, side 3: of a Board (M-103) "always OK, and store and count become 0"; of any other kind it is refused before
 
 unfoldable pub onWipe : Kind → Verdict
@@ -114,6 +139,7 @@ onWipe Port = fail
 onWipe Fifo = fail
 onWipe Resource = fail
 onWipe Board = alone 0 [] 0
+onWipe Memory = fail
 
 -- ---- by kind, and by side; a kind or side that no table in use has fails
 
@@ -125,6 +151,7 @@ onPut Port s f h caller x = putPort f h x
 onPut Fifo s f h caller x = putFifo f h x
 onPut Resource s f h caller x = putResource f h caller
 onPut Board s f h caller x = putBoard s h x
+onPut Memory s f h caller x = putMemory f h x
 
 unfoldable pub onGet : Kind → State → Option ℕ → Hub → ℕ → Verdict
 onGet NoKind s f h caller = fail
@@ -134,6 +161,7 @@ onGet Port s f h caller = getPort s f h
 onGet Fifo s f h caller = getFifo s (h .held) f h
 onGet Resource s f h caller = getResource h caller
 onGet Board s f h caller = getBoard (h .held) h
+onGet Memory s f h caller = getMemory h
 
 unfoldable pub onSide : Side → State → Hub → Call → Verdict
 onSide NoSide s h c = fail

@@ -2,7 +2,7 @@
 use Prim.Native.Nat.{suc, zero, ℕ}
 use Rattle.rules.specs.Calls.{AddHub, AddTask, Blank, HubRequest, Resume, Service, Sleep, Start, Stop, Suspend, Tick, Unknown, Yield, serviceOf}
 use Rattle.rules.specs.Lists.{next}
-use Rattle.rules.specs.Table.{Board, Event, Fifo, Kind, Layout, NoKind, Port, Resource, Semaphore, State, editionOf, hub, kindOf, read, size}
+use Rattle.rules.specs.Table.{Board, Event, Fifo, Kind, Layout, Memory, NoKind, Port, Resource, Semaphore, State, editionOf, hub, kindOf, read, size}
 use Rattle.rules.specs.WellFormed.{wellFormedIn, within}
 use Rattle.rules.specs.declared.Call.{Call}
 use lib.Dec.{eqb, leb, ltb}
@@ -50,12 +50,13 @@ lastSide Port = 2
 lastSide Fifo = 2
 lastSide Resource = 2
 lastSide Board = 3
+lastSide Memory = 2
 
 -- the side, at a hub of this kind, and the mode with its ticks
 abbrev pub goodRequest : Kind → Call → Bool
 goodRequest k c = within 1 (lastSide k) (c .side) && goodWait (modeOf (c .mode)) (c .ticks)
 
--- "kind not 1 to 5" (6 with M-103), "limit or start outside the kinds table"
+-- "kind not 1 to 5" (6 with M-103, 7 with M-107), "limit or start outside the kinds table"
 unfoldable pub goodHub : Kind → ℕ → ℕ → Bool
 goodHub NoKind limit start = false
 goodHub Event limit start = eqb limit 1 && eqb start 0
@@ -64,6 +65,7 @@ goodHub Port limit start = eqb limit 0 && eqb start 0
 goodHub Fifo limit start = within 1 8 limit && eqb start 0
 goodHub Resource limit start = eqb limit 1 && eqb start 0
 goodHub Board limit start = eqb limit 1 && eqb start 0
+goodHub Memory limit start = within 1 8 limit && eqb start limit
 
 -- ---- by service, each row's tests in the order of their numbers; 3 "service above 10"; 7 "service 9 or 10 with 16 already"
 

@@ -48,7 +48,8 @@ sideOf n = getD (NoSide ∷ Put ∷ Get ∷ Wipe ∷ []) n NoSide
 
 -- ---- "Hub record: kind, count, limit, start"
 
--- with it the hub's waiting list, task numbers, first entry first, and the words that its store holds, oldest first
+-- with it the hub's waiting list, task numbers, first entry first, and the words that its store holds, oldest first; of a Memory
+-- hub (M-107) a mark for each of its blocks, 1 when it is out
 pub record Hub : Type 0 where
   pub kind : ℕ
   pub count : ℕ
@@ -58,11 +59,11 @@ pub record Hub : Type 0 where
   pub held : List ℕ
 
 pub data Kind : Type 0 where
-  NoKind Event Semaphore Port Fifo Resource Board : Kind
+  NoKind Event Semaphore Port Fifo Resource Board Memory : Kind
 
--- 1 Event, 2 Semaphore, 3 Port, 4 FIFO, 5 Resource, 6 Board (M-103)
+-- 1 Event, 2 Semaphore, 3 Port, 4 FIFO, 5 Resource, 6 Board (M-103), 7 Memory (M-107)
 unfoldable pub kindOf : ℕ → Kind
-kindOf n = getD (NoKind ∷ Event ∷ Semaphore ∷ Port ∷ Fifo ∷ Resource ∷ Board ∷ []) n NoKind
+kindOf n = getD (NoKind ∷ Event ∷ Semaphore ∷ Port ∷ Fifo ∷ Resource ∷ Board ∷ Memory ∷ []) n NoKind
 
 unfoldable pub isResource : Kind → Bool
 isResource NoKind = false
@@ -72,6 +73,7 @@ isResource Port = false
 isResource Fifo = false
 isResource Resource = true
 isResource Board = false
+isResource Memory = false
 
 -- whether task i owns hub h: a Resource's count is "0 free, else owner plus 1"
 unfoldable pub owns : ℕ → Hub → Bool
@@ -251,15 +253,16 @@ abbrev pub storeFrom : Layout → ℕ → List ℕ → List ℕ
 storeFrom L n store = tab n 0 (λ j. L .messageFrom (λ k. getD store (j * L .width + k) 0))
 
 -- "A FIFO's store holds its words, oldest first": its count says how many. A Board's holds "the word in its store's first place"
--- when it is written, count 1. Other stores hold none.
-unfoldable pub heldIn : Layout → Kind → ℕ → List ℕ → List ℕ
-heldIn L NoKind count store = []
-heldIn L Event count store = []
-heldIn L Semaphore count store = []
-heldIn L Port count store = []
-heldIn L Fifo count store = storeFrom L count store
-heldIn L Resource count store = []
-heldIn L Board count store = storeFrom L count store
+-- when it is written, count 1. A Memory hub's (M-107) holds a mark for each block, as many as its limit. Other stores hold none.
+unfoldable pub heldIn : Layout → Kind → ℕ → ℕ → List ℕ → List ℕ
+heldIn L NoKind count limit store = []
+heldIn L Event count limit store = []
+heldIn L Semaphore count limit store = []
+heldIn L Port count limit store = []
+heldIn L Fifo count limit store = storeFrom L count store
+heldIn L Resource count limit store = []
+heldIn L Board count limit store = storeFrom L count store
+heldIn L Memory count limit store = storeFrom L limit store
 
 unfoldable pub hubAt : Layout → List ℕ → ℕ → Hub
 hubAt L t h = record {
@@ -268,7 +271,7 @@ hubAt L t h = record {
   limit = hubWordAt L t h 2;
   start = hubWordAt L t h 3;
   waiters = numbers (waitPart L t h);
-  held = heldIn L (kindOf (hubWordAt L t h 0)) (hubWordAt L t h 1) (storePart L t h);
+  held = heldIn L (kindOf (hubWordAt L t h 0)) (hubWordAt L t h 1) (hubWordAt L t h 2) (storePart L t h);
 }
 
 unfoldable pub read : Layout → List ℕ → State

@@ -4,7 +4,7 @@
 -- Not here: what each test says as a statement, and that calls keep it (proofs/).
 use Prim.Native.Nat.{_*_, _+_, _-_, pred, suc, zero, ℕ}
 use Rattle.lists.specs.Lists.{allZero, bit, occ, packed}
-use Rattle.rules.specs.Table.{Board, Event, Fifo, Get, Hub, Inactive, Kind, Layout, NoKind, NoSide, NoStage, Port, Put, Ready, Resource, Semaphore, Side, Sleeping, Stage, State, Task, Waiting, Wipe, editionOf, hub, hubWordAt, hubsAt, isInactive, isResource, kindOf, part, read, readyAt, sideOf, size, stageOf, storePart, storeSize, storesAt, task, taskSize, tasksAt, waitPart, waitsAt}
+use Rattle.rules.specs.Table.{Board, Event, Fifo, Get, Hub, Inactive, Kind, Layout, Memory, NoKind, NoSide, NoStage, Port, Put, Ready, Resource, Semaphore, Side, Sleeping, Stage, State, Task, Waiting, Wipe, editionOf, hub, hubWordAt, hubsAt, isInactive, isResource, kindOf, part, read, readyAt, sideOf, size, stageOf, storePart, storeSize, storesAt, task, taskSize, tasksAt, waitPart, waitsAt}
 use lib.Dec.{eqb, leb, ltb}
 use lib.ListN.{drop, getD, length}
 use mathlib.Core.Bool.{Bool, _&&_, _||_, false, not, true}
@@ -52,19 +52,20 @@ unfoldable pub listsPacked : Layout → List ℕ → Bool
 listsPacked L t = packed (part (readyAt L) 16 t) && forAll (getD t 2 0) (λ h. packed (waitPart L t h))
 
 -- "A FIFO's store holds its words, oldest first, then zeros. Other stores are 0." A Board's: "the word in its store's first place,
--- else count and store 0"
-unfoldable pub storeRight : Layout → Kind → ℕ → List ℕ → Bool
-storeRight L NoKind count store = allZero store
-storeRight L Event count store = allZero store
-storeRight L Semaphore count store = allZero store
-storeRight L Port count store = allZero store
-storeRight L Fifo count store = allZero (drop (count * L .width) store)
-storeRight L Resource count store = allZero store
-storeRight L Board count store = allZero (drop (count * L .width) store)
+-- else count and store 0". A Memory hub's (M-107): the marks of its blocks, "the rest 0"
+unfoldable pub storeRight : Layout → Kind → ℕ → ℕ → List ℕ → Bool
+storeRight L NoKind count limit store = allZero store
+storeRight L Event count limit store = allZero store
+storeRight L Semaphore count limit store = allZero store
+storeRight L Port count limit store = allZero store
+storeRight L Fifo count limit store = allZero (drop (count * L .width) store)
+storeRight L Resource count limit store = allZero store
+storeRight L Board count limit store = allZero (drop (count * L .width) store)
+storeRight L Memory count limit store = allZero (drop (limit * L .width) store)
 
 unfoldable pub storesRight : Layout → List ℕ → Bool
 storesRight L t =
-    forAll (getD t 2 0) (λ h. storeRight L (kindOf (hubWordAt L t h 0)) (hubWordAt L t h 1) (storePart L t h))
+    forAll (getD t 2 0) (λ h. storeRight L (kindOf (hubWordAt L t h 0)) (hubWordAt L t h 1) (hubWordAt L t h 2) (storePart L t h))
 
 unfoldable pub written : Layout → List ℕ → Bool
 written L t =
@@ -76,10 +77,14 @@ written L t =
 unfoldable pub fieldsRight : Task → Bool
 fieldsRight t = leb (t .suspended) 1 && (leb (t .priority) 255 && (leb (t .ticks) 1000000 && leb (t .answer) 3))
 
+-- M-107: "mark block i with 1 when it is out", else 0; count is how many are free
+abbrev pub marksRight : Hub → Bool
+marksRight h = forAll (h .limit) (λ b. leb (getD (h .held) b 0) 1) && eqb (h .count) (occ 0 (h .held))
+
 -- the kinds table: count, limit, start; T is the number of tasks in use
 --   Event 0 or 1, 1, 0;  Semaphore 0 to limit, 1 to 65,535, 0 to limit;  Port 0, 0, 0
 --   FIFO words held, 0 to limit, 1 to 8, 0;  Resource 0 free, else owner plus 1, owner below T, 1, 0
---   Board (M-103) 1 when written, else 0, 1, 0
+--   Board (M-103) 1 when written, else 0, 1, 0;  Memory (M-107) free blocks, 1 to 8, start = limit
 unfoldable pub kindRight : Kind → ℕ → Hub → Bool
 kindRight NoKind T h = false
 kindRight Event T h = leb (h .count) 1 && (eqb (h .limit) 1 && eqb (h .start) 0)
@@ -88,6 +93,7 @@ kindRight Port T h = eqb (h .count) 0 && (eqb (h .limit) 0 && eqb (h .start) 0)
 kindRight Fifo T h = leb (h .count) (h .limit) && (within 1 8 (h .limit) && eqb (h .start) 0)
 kindRight Resource T h = leb (h .count) T && (eqb (h .limit) 1 && eqb (h .start) 0)
 kindRight Board T h = leb (h .count) 1 && (eqb (h .limit) 1 && eqb (h .start) 0)
+kindRight Memory T h = within 1 8 (h .limit) && (eqb (h .start) (h .limit) && marksRight h)
 
 unfoldable pub hubsRight : State → Bool
 hubsRight s = forAll (length (s .hubs)) (λ h. kindRight (kindOf (hub s h .kind)) (length (s .tasks)) (hub s h))
@@ -126,7 +132,7 @@ inOrder s =
 
 -- ---- the task records, by state
 
--- the kinds whose puts bear a word: Port and FIFO, and Board (M-103), whose puts never wait
+-- the kinds whose puts bear a word: Port and FIFO, and Board (M-103) and Memory (M-107), whose puts never wait
 unfoldable pub bearsWord : Kind → Bool
 bearsWord NoKind = false
 bearsWord Event = false
@@ -135,6 +141,7 @@ bearsWord Port = true
 bearsWord Fifo = true
 bearsWord Resource = false
 bearsWord Board = true
+bearsWord Memory = true
 
 -- "Inactive: all but state and priority 0."
 -- "Ready: hub, ticks and side 0; word 0 unless the answer is 1."
@@ -163,7 +170,7 @@ tasksRight s =
 
 -- "Getters wait only on an Event or Semaphore at count 0, an empty FIFO, a Port, or a Resource owned by a task not in that
 -- list" (said of each task in it). "Putters wait only on an Event, Semaphore or FIFO at its limit, or on a Port."
--- Board (M-103): "Only readers wait, and only on an unwritten board."
+-- Board (M-103): "Only readers wait, and only on an unwritten board." Memory (M-107): "only getters wait, at count 0".
 unfoldable pub mayWait : Side → Kind → Hub → ℕ → Bool
 mayWait NoSide k h i = false
 mayWait Get NoKind h i = false
@@ -173,6 +180,7 @@ mayWait Get Port h i = true
 mayWait Get Fifo h i = eqb (h .count) 0
 mayWait Get Resource h i = not (eqb (h .count) 0) && not (eqb (h .count) (suc i))
 mayWait Get Board h i = eqb (h .count) 0
+mayWait Get Memory h i = eqb (h .count) 0
 mayWait Put NoKind h i = false
 mayWait Put Event h i = eqb (h .count) (h .limit)
 mayWait Put Semaphore h i = eqb (h .count) (h .limit)
@@ -180,6 +188,7 @@ mayWait Put Port h i = true
 mayWait Put Fifo h i = eqb (h .count) (h .limit)
 mayWait Put Resource h i = false
 mayWait Put Board h i = false
+mayWait Put Memory h i = false
 mayWait Wipe k h i = false
 
 -- "One waiting list holds one side only."

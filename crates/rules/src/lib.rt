@@ -55,6 +55,8 @@ pub const RESOURCE: u32 = 5;
 
 pub const BOARD: u32 = 6;
 
+pub const MEMORY: u32 = 7;
+
 // The sides of a hub request.
 pub const PUT: u32 = 1;
 
