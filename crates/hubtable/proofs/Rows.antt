@@ -6,7 +6,7 @@ use Rattle.hubtable.specs.Says.{metWith}
 use Rattle.records.specs.Records.{first}
 use Rattle.rules.proofs.Valid.{Held, Range}
 use Rattle.rules.specs.HubTable.{fail, getBoard, getEvent, getFifo, getSemaphore, met, notNow, onGet, onPut, onWipe, pass, putEvent, putSemaphore}
-use Rattle.rules.specs.Table.{Board, Event, Fifo, Hub, NoKind, Port, Resource, Semaphore, State, kindOf, task}
+use Rattle.rules.specs.Table.{Board, Event, Fifo, Hub, Memory, NoKind, Port, Resource, Semaphore, State, kindOf, task}
 use lib.Dec.{eqb, eqb·suc-suc}
 use lib.ListN.{List·getD-eq-default, drop, getD, length}
 use mathlib.Core.List.{List, [], _++_, _∷_}
@@ -46,9 +46,13 @@ fifo-pair s (y ∷ l) w x h = refl
 
 -- ---- the kinds
 
-pub no-kind : (n : ℕ) → 7 ≤ n → kindOf n ≡ NoKind
+pub no-kind : (n : ℕ) → 8 ≤ n → kindOf n ≡ NoKind
 unfolding kindOf
-no-kind n h = List·getD-eq-default (NoKind ∷ Event ∷ Semaphore ∷ Port ∷ Fifo ∷ Resource ∷ Board ∷ []) NoKind h
+no-kind n h = List·getD-eq-default (NoKind ∷ Event ∷ Semaphore ∷ Port ∷ Fifo ∷ Resource ∷ Board ∷ Memory ∷ []) NoKind h
+
+-- from 6 on, but for a Board's and a Memory hub's number
+pub no-more : (n : ℕ) → 6 ≤ n → (n ≡ 6 → ⊥) → (n ≡ 7 → ⊥) → kindOf n ≡ NoKind
+no-more n h b m = no-kind n (omega arith)
 
 -- a kind that is no Board's number is not a Board
 pub no-wipe : (n : ℕ) → (n ≡ 6 → ⊥) → fail ≡ onWipe (kindOf n)
@@ -60,7 +64,8 @@ no-wipe (suc (suc (suc zero))) h = refl
 no-wipe (suc (suc (suc (suc zero)))) h = refl
 no-wipe (suc (suc (suc (suc (suc zero))))) h = refl
 no-wipe (suc (suc (suc (suc (suc (suc zero)))))) h = absurd (h refl)
-no-wipe (suc (suc (suc (suc (suc (suc (suc n))))))) h = refl
+no-wipe (suc (suc (suc (suc (suc (suc (suc zero))))))) h = refl
+no-wipe (suc (suc (suc (suc (suc (suc (suc (suc n)))))))) h = refl
 
 -- ---- a Board, by the words held
 

@@ -2,7 +2,7 @@
 -- waiters met, the words held afterwards, a verdict; the bound of its messages.
 -- Not here: the hub table itself (crate rules, specs/HubTable.antt).
 use Prim.Native.Nat.{_<_, ℕ}
-use Rattle.hubtable.specs.declared.Store.the-variants.{Append, Keep, Take, TakeAppend}
+use Rattle.hubtable.specs.declared.Store.the-variants.{Append, Back, Keep, Out, Take, TakeAppend}
 use Rattle.hubtable.specs.declared.Store.{Store}
 use Rattle.hubtable.specs.declared.Verdict.the-variants.{Fail, Met, NotNow}
 use Rattle.hubtable.specs.declared.Verdict.{Verdict}
@@ -10,7 +10,7 @@ use Rattle.records.specs.Records.{first}
 use Rattle.records.specs.declared.HubRecord.{HubRecord}
 use Rattle.rules.specs.HubTable.{Meeting, Verdict as Row, fail, met, notNow}
 use Rattle.rules.specs.Table.{Hub}
-use lib.ListN.{drop}
+use lib.ListN.{drop, set}
 use mathlib.Core.List.{List, [], _++_, _∷_}
 use mathlib.Core.Option.{Option, none, some}
 use mathlib.Core.Path.{_≡_}
@@ -27,12 +27,14 @@ unfoldable pub metWith : Option ℕ → ℕ → List Meeting
 metWith none y = []
 metWith (some w) y = record { waiter = w; word = y } ∷ []
 
--- the words held afterwards
+-- the words held afterwards; a Memory hub's marks, block b out or back
 unfoldable pub storeAfter : Store → List ℕ → List ℕ
 storeAfter Keep held = held
 storeAfter (Append x) held = held ++ x ∷ []
 storeAfter Take held = drop 1 held
 storeAfter (TakeAppend x) held = drop 1 held ++ x ∷ []
+storeAfter (Out b) held = set held b 1
+storeAfter (Back b) held = set held b 0
 
 -- of a hub that holds these words
 unfoldable pub says : List ℕ → Verdict → Row
@@ -46,6 +48,8 @@ StoreBelow b Keep = Unit {0}
 StoreBelow b (Append x) = x < b
 StoreBelow b Take = Unit {0}
 StoreBelow b (TakeAppend x) = x < b
+StoreBelow b (Out k) = Unit {0}
+StoreBelow b (Back k) = Unit {0}
 
 unfoldable pub Below : ℕ → Verdict → Type 0
 Below b (Met m) = StoreBelow b (m .store) × (m .word < b) × (m .its < b)

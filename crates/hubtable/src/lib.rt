@@ -1,13 +1,14 @@
 // The hub table of document 01: what a hub says of a put, a get or a wipe, by its record, the first waiter of the other side and, of
-// a get, the words that may be received. A waiter is a task number plus 1, or 0 for none.
+// a get, the words that may be received. A waiter is a task number plus 1, or 0 for none. Of a Memory hub's blocks it is told which is
+// the lowest that is free, and whether the one named is out.
 // A message is one number; what a verdict says of messages is below any bound that those handed in are below.
 // Not here: where the words stand in the table, and what a verdict does to it.
 ghost use Prim.Native.Nat.{_<_, suc, ℕ};
 ghost use Rattle.hubtable.specs.Says.{Below, RecordOf, StoreBelow, metWith, says, storeAfter};
 ghost use Rattle.records.specs.Records.{first};
 ghost use Rattle.rules.proofs.Valid.{Held, Range};
-ghost use Rattle.rules.specs.HubTable.{getBoard, getFifo, getPort, getResource, getSemaphore, met, onGet, onPut, onWipe, putFifo, putPort, putResource, putSemaphore};
-ghost use Rattle.rules.specs.Table.{Hub, State, kindOf, task};
+ghost use Rattle.rules.specs.HubTable.{getBoard, getFifo, getMemory, getPort, getResource, getSemaphore, isOut, lowestFree, met, onGet, onPut, onWipe, putFifo, putMemory, putPort, putResource, putSemaphore};
+ghost use Rattle.rules.specs.Table.{Hub, Memory, State, kindOf, task};
 ghost use lib.Dec.{eqb};
 ghost use lib.ListN.{getD, length};
 ghost use mathlib.Core.List.{List, []};
@@ -15,12 +16,14 @@ ghost use mathlib.Core.Option.{some};
 ghost use mathlib.Core.Path.{_≡_};
 use records::HubRecord;
 
-// What becomes of the messages held.
+// What becomes of the messages held. Of a Memory hub's marks: this block is out, this block is back.
 pub enum Store {
     Keep,
     Append(u64),
     Take,
     TakeAppend(u64),
+    Out(u64),
+    Back(u64),
 }
 
 // What a met request does: the hub's count and words held, the caller's word, the waiter met with it, and its word.
@@ -199,6 +202,36 @@ fn get_board(h: HubRecord, word: u64) -> Verdict
     alone(h.count, Store::Keep, word)
 }
 
+// Memory: "Put gives a block back; a number not out is FAIL in every mode. With getters waiting, the block returned goes to the first
+// and stays marked." Where every block is free none is out.
+pub fn put_memory(h: HubRecord, waiter: u32, word: u64, out: bool) -> Verdict
+    ensures { λ r. ⌜ ((x : Hub) (T : ℕ) → RecordOf h x → Range Memory T x → Held Memory x → out ≡ isOut word x
+        → says (x .held) r ≡ putMemory (first waiter) x word) ⌝ }
+    ensures { λ r. ⌜ ((b : ℕ) → 0 < b → word < b → Below b r) ⌝ }
+{
+    if h.limit <= h.count {
+        return Verdict::Fail;
+    }
+    if out {
+        if waiter != 0 {
+            return pair(h.count, Store::Keep, 0, waiter, word);
+        }
+        return alone(h.count + 1, Store::Back(word), 0);
+    }
+    Verdict::Fail
+}
+
+// Memory: "takes the lowest free block and receives its number as word"; "not now" when no block is free
+pub fn get_memory(h: HubRecord, lowest: u64) -> Verdict
+    ensures { λ r. ⌜ ((x : Hub) → RecordOf h x → lowest ≡ lowestFree x → says (x .held) r ≡ getMemory x) ⌝ }
+    ensures { λ r. ⌜ ((b : ℕ) → lowest < b → Below b r) ⌝ }
+{
+    if h.count == 0 {
+        return Verdict::NotNow;
+    }
+    alone(h.count - 1, Store::Out(lowest), lowest)
+}
+
 // Board: "always OK, and store and count become 0": it holds at most one word, the oldest. Any other kind's wipe is refused
 // before it comes here.
 pub fn on_wipe(h: HubRecord) -> Verdict
@@ -213,9 +246,10 @@ pub fn on_wipe(h: HubRecord) -> Verdict
 }
 
 // A put by the caller of this word, where waiter is the first getter that waits. An Event runs as a Semaphore of limit 1.
-// Not here: the update of a Board, which meets every waiter (crate requests).
+// Not here: a block given back (`put_memory`), and the update of a Board, which meets every waiter (crate requests).
 pub fn on_put(h: HubRecord, waiter: u32, caller: u32, word: u64) -> Verdict
     ensures { λ r. ⌜ ((x : Hub) (s : State) (T : ℕ) → RecordOf h x → Range (kindOf (x .kind)) T x → (x .kind ≡ 6 → ⊥)
+        → (x .kind ≡ 7 → ⊥)
         → says (x .held) r ≡ onPut (kindOf (x .kind)) s (first waiter) x caller word) ⌝ }
     ensures { λ r. ⌜ ((b : ℕ) → 0 < b → word < b → Below b r) ⌝ }
 {
@@ -230,10 +264,11 @@ pub fn on_put(h: HubRecord, waiter: u32, caller: u32, word: u64) -> Verdict
 }
 
 // A get by the caller, where waiter is the first putter that waits, its is that putter's word and oldest the first word held.
+// Not here: a block taken (`get_memory`).
 pub fn on_get(h: HubRecord, waiter: u32, its: u64, oldest: u64, caller: u32) -> Verdict
     requires { ⌜ caller < 4294967295 ⌝ }
     ensures { λ r. ⌜ ((x : Hub) (s : State) (T : ℕ) → RecordOf h x → Range (kindOf (x .kind)) T x
-        → Held (kindOf (x .kind)) x
+        → Held (kindOf (x .kind)) x → (x .kind ≡ 7 → ⊥)
         → ((w : ℕ) → first waiter ≡ some w → its ≡ task s w .word) → oldest ≡ getD (x .held) 0 0
         → says (x .held) r ≡ onGet (kindOf (x .kind)) s (first waiter) x caller) ⌝ }
     ensures { λ r. ⌜ ((b : ℕ) → 0 < b → its < b → oldest < b → Below b r) ⌝ }

@@ -1,17 +1,18 @@
 -- A Memory hub's marks (M-107): a block that is out, the lowest free block, and how many are free once one is taken or given back.
 -- Not here: the hub table's laws (Verdicts.antt), and what a run says of blocks (crate history). Assumes nothing.
 use Prim.Native.Nat.{_<_, _≤_, pred, suc, ℕ}
-use Rattle.lists.proofs.Counting.{first-in, first-is, occ-set}
+use Rattle.lists.proofs.Counting.{first-in, first-is, occ-most, occ-set}
 use Rattle.lists.proofs.Laws.{boolCase}
 use Rattle.lists.specs.Lists.{bit, occ}
 use Rattle.rules.proofs.Cases.{sameOr}
+use Rattle.rules.proofs.Valid.{Held, Range}
 use Rattle.rules.specs.HubTable.{isOut, lowestFree}
-use Rattle.rules.specs.Table.{Hub}
+use Rattle.rules.specs.Table.{Hub, Memory}
 use borrow.Author.Tests.{eqb-true, ltb-false, ltb-true}
 use lib.Dec.{eqb, ltb}
-use lib.ListN.{List·getD-eq-default, getD, length, set}
+use lib.ListN.{List·getD-eq-default, getD, length, length-set, set}
 use lib.Seq.{getD-set-other, getD-set-same, set-out}
-use mathlib.Core.Bool.{true}
+use mathlib.Core.Bool.{false, true}
 use mathlib.Core.List.{List}
 use mathlib.Core.Path.{_∙_, _≡_, ap, sym}
 use native.Mathlib.Omega.{arith}
@@ -44,6 +45,14 @@ module _ (b : ℕ) (h : Hub) (o : isOut b h ≡ true) where
   back-free e =
       let was : bit (eqb (getD (h .held) b 0) 0) ≡ 0 = ap (λ (m : ℕ). bit (eqb m 0)) out-mark in
       omega (arith, e, was, occ-set 0 0 (h .held) b out-in)
+
+-- where every block is free none is out
+pub all-free : (h : Hub) (T b : ℕ) → Range Memory T h → Held Memory h → h .limit ≤ h .count → isOut b h ≡ false
+unfolding Held Range
+all-free h T b r e full =
+    boolCase (isOut b h)
+    (λ o. absurd (omega (arith, e, full, back-free b h o (r .4), occ-most 0 (set (h .held) b 0), length-set (h .held) b 0)))
+    (λ o. o)
 
 -- ---- the lowest free block, where one is free
 

@@ -27,12 +27,12 @@ get-counted-requires c κs = search needs
 
 returns : tie.Need-returns
 unfolding kindOf onGet
-returns c = ((λ x s T e r held its oldest. rw (ap kindOf (sym (e .kind) ∙ c .before .match .keys1)) (c .get-port .ensures .0 x s e its)), λ b z its oldest. c .get-port .ensures .1 b z its)
+returns c = ((λ x s T e r held m its oldest. rw (ap kindOf (sym (e .kind) ∙ c .before .match .keys1)) (c .get-port .ensures .0 x s e its)), λ b z its oldest. c .get-port .ensures .1 b z its)
 
 returns-2 : tie.Need-returns-2
 unfolding Held kindOf onGet
 returns-2 c = (
-  (λ x s T e r held its oldest.
+  (λ x s T e r held m its oldest.
       let fifo = ap kindOf (sym (e .kind) ∙ c .before .match .keys2) in
       rw fifo (c .get-fifo .ensures .0 x s e (rw fifo at held) its oldest)),
   c .get-fifo .ensures .1,
@@ -40,12 +40,12 @@ returns-2 c = (
 
 returns-3 : tie.Need-returns-3
 unfolding kindOf onGet
-returns-3 c = ((λ x s T e r held its oldest. rw (ap kindOf (sym (e .kind) ∙ c .before .match .keys3)) (c .get-resource .ensures .0 x e)), λ b z its oldest. c .get-resource .ensures .1 b z)
+returns-3 c = ((λ x s T e r held m its oldest. rw (ap kindOf (sym (e .kind) ∙ c .before .match .keys3)) (c .get-resource .ensures .0 x e)), λ b z its oldest. c .get-resource .ensures .1 b z)
 
 returns-4 : tie.Need-returns-4
 unfolding Held kindOf onGet
 returns-4 c = (
-  (λ x s T e r held its oldest.
+  (λ x s T e r held m its oldest.
       let board = ap kindOf (sym (e .kind) ∙ c .before .match .keys4) in
       rw board (c .get-board .ensures .0 x e (rw board at held) oldest)),
   λ b z its oldest. c .get-board .ensures .1 b oldest,
@@ -53,7 +53,7 @@ returns-4 c = (
 
 returns-5 : tie.Need-returns-5
 returns-5 c = (
-  (λ x s T e r held its oldest.
+  (λ x s T e r held m its oldest.
       c .get-counted .ensures .0 x e
       ∙ counted-get _ x T _ s (x .kind) (omega arith) (omega arith) r),
   λ b z its oldest. c .get-counted .ensures .1 b z,
@@ -62,7 +62,7 @@ returns-5 c = (
 returns-6 : tie.Need-returns-6
 unfolding Below kindOf onGet says
 returns-6 c = (
-  (λ x s T e r held its oldest.
+  (λ x s T e r held m its oldest.
       let unused : x .kind ≡ 0 = omega arith in
       rw (ap kindOf unused)),
   λ b z its oldest. tt,
@@ -70,7 +70,7 @@ returns-6 c = (
 
 returns-7 : tie.Need-returns-7
 unfolding Below onGet says
-returns-7 c = ((λ x s T e r held its oldest. rw (no-kind (x .kind) (omega arith))), λ b z its oldest. tt)
+returns-7 c = ((λ x s T e r held m its oldest. rw (no-kind (x .kind) (omega (arith, m)))), λ b z its oldest. tt)
 
 pub on-get-spec : {M : Type 1} → statement M
 on-get-spec =

@@ -1,5 +1,5 @@
 -- `hubtable::on_put` meets its contract, kind by kind. Assumes nothing.
-use Rattle.hubtable.proofs.Rows.{counted-put, no-kind}
+use Rattle.hubtable.proofs.Rows.{counted-put, no-more}
 use Rattle.hubtable.proofs.on_put.Statement.{statement}
 use Rattle.hubtable.proofs.on_put.Tie as tie
 use Rattle.hubtable.specs.Says.{Below, says}
@@ -23,19 +23,19 @@ put-counted-requires c κs = search needs
 
 returns : tie.Need-returns
 unfolding kindOf onPut
-returns c = ((λ x s T e r b. rw (ap kindOf (sym (e .kind) ∙ c .before .match .keys1)) (c .put-port .ensures .0 x e)), c .put-port .ensures .1)
+returns c = ((λ x s T e r b m. rw (ap kindOf (sym (e .kind) ∙ c .before .match .keys1)) (c .put-port .ensures .0 x e)), c .put-port .ensures .1)
 
 returns-2 : tie.Need-returns-2
 unfolding kindOf onPut
-returns-2 c = ((λ x s T e r b. rw (ap kindOf (sym (e .kind) ∙ c .before .match .keys2)) (c .put-fifo .ensures .0 x e)), c .put-fifo .ensures .1)
+returns-2 c = ((λ x s T e r b m. rw (ap kindOf (sym (e .kind) ∙ c .before .match .keys2)) (c .put-fifo .ensures .0 x e)), c .put-fifo .ensures .1)
 
 returns-3 : tie.Need-returns-3
 unfolding kindOf onPut
-returns-3 c = ((λ x s T e r b. rw (ap kindOf (sym (e .kind) ∙ c .before .match .keys3)) (c .put-resource .ensures .0 x e)), λ b z w. c .put-resource .ensures .1 b z)
+returns-3 c = ((λ x s T e r b m. rw (ap kindOf (sym (e .kind) ∙ c .before .match .keys3)) (c .put-resource .ensures .0 x e)), λ b z w. c .put-resource .ensures .1 b z)
 
 returns-4 : tie.Need-returns-4
 returns-4 c = (
-  (λ x s T e r b.
+  (λ x s T e r b m.
       c .put-counted .ensures .0 x e
       ∙ counted-put _ x T _ _ (x .kind) (omega arith) (omega arith) r s),
   λ b z w. c .put-counted .ensures .1 b z,
@@ -44,7 +44,7 @@ returns-4 c = (
 returns-5 : tie.Need-returns-5
 unfolding Below kindOf onPut says
 returns-5 c = (
-  (λ x s T e r b.
+  (λ x s T e r b m.
       let unused : x .kind ≡ 0 = omega arith in
       rw (ap kindOf unused)),
   λ b z w. tt,
@@ -52,7 +52,7 @@ returns-5 c = (
 
 returns-6 : tie.Need-returns-6
 unfolding Below onPut says
-returns-6 c = ((λ x s T e r b. rw (no-kind (x .kind) (omega (arith, b)))), λ b z w. tt)
+returns-6 c = ((λ x s T e r b m. rw (no-more (x .kind) (omega arith) b m)), λ b z w. tt)
 
 pub on-put-spec : {M : Type 1} → statement M
 on-put-spec =
