@@ -139,6 +139,7 @@ fn good_hub(kind: u32, limit: u32, start: u32) -> bool
         rules::PORT => (limit == 0) & (start == 0),
         rules::FIFO => ((1 <= limit) & (limit <= rules::MOST_HELD)) & (start == 0),
         rules::BOARD => (limit == 1) & (start == 0),
+        rules::MEMORY => ((1 <= limit) & (limit <= rules::MOST_HELD)) & (start == limit),
         _ => false,
     }
 }

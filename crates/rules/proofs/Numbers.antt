@@ -14,6 +14,7 @@ use lib.ListN.{List·getD-eq-default, getD, length}
 use mathlib.Core.Bool.{_||_, cond, false, true}
 use mathlib.Core.List.{List, [], _∷_}
 use mathlib.Core.Path.{_≡_, refl}
+use native.Mathlib.Nat.{not-suc-le-zero}
 use native.Mathlib.Omega.{arith}
 
 -- a table of names whose entry 0 is the default: only 1 to its length name anything
@@ -24,6 +25,21 @@ unnamed d xs (suc n) h = List·getD-eq-default xs d (omega (arith, h (omega arit
 pub no-kind : (n : ℕ) → (1 ≤ n → 7 < n) → kindOf n ≡ NoKind
 unfolding kindOf
 no-kind = unnamed NoKind (Event ∷ Semaphore ∷ Port ∷ Fifo ∷ Resource ∷ Board ∷ Memory ∷ [])
+
+-- none of the seven
+past : (n : ℕ) → 7 < (suc (suc (suc (suc (suc (suc (suc (suc n))))))))
+past n = omega arith
+
+pub past-kinds : (n : ℕ) → 1 ≤ n → (n ≡ 1 → ⊥) → (n ≡ 2 → ⊥) → (n ≡ 3 → ⊥) → (n ≡ 4 → ⊥) → (n ≡ 5 → ⊥) → (n ≡ 6 → ⊥) → (n ≡ 7 → ⊥) → 7 < n
+past-kinds zero h a b c d e f g = absurd (not-suc-le-zero h)
+past-kinds (suc zero) h a b c d e f g = absurd (a refl)
+past-kinds (suc (suc zero)) h a b c d e f g = absurd (b refl)
+past-kinds (suc (suc (suc zero))) h a b c d e f g = absurd (c refl)
+past-kinds (suc (suc (suc (suc zero)))) h a b c d e f g = absurd (d refl)
+past-kinds (suc (suc (suc (suc (suc zero))))) h a b c d e f g = absurd (e refl)
+past-kinds (suc (suc (suc (suc (suc (suc zero)))))) h a b c d e f g = absurd (f refl)
+past-kinds (suc (suc (suc (suc (suc (suc (suc zero))))))) h a b c d e f g = absurd (g refl)
+past-kinds (suc (suc (suc (suc (suc (suc (suc (suc n)))))))) h a b c d e f g = past n
 
 pub no-stage : (n : ℕ) → (1 ≤ n → 4 < n) → stageOf n ≡ NoStage
 unfolding stageOf

@@ -1,12 +1,11 @@
 -- `refusals::good_hub` meets its contract: each number's row of the kinds table computes. Assumes nothing.
 use Rattle.refusals.proofs.good_hub.Statement.{statement}
 use Rattle.refusals.proofs.good_hub.Tie as tie
-use Rattle.rules.proofs.Numbers.{no-kind}
+use Rattle.rules.proofs.Numbers.{no-kind, past-kinds}
 use Rattle.rules.specs.Refusals.{goodHub}
 use Rattle.rules.specs.Table.{kindOf}
 use mathlib.Core.Logic.{inl, inr, ⊎-elim}
 use mathlib.Core.Path.{_≡_}
-use native.Mathlib.Omega.{arith}
 
 returns : tie.Need-returns
 unfolding goodHub kindOf
@@ -29,13 +28,17 @@ unfolding goodHub kindOf
 returns-5 c = rw (c .match .keys5)
 
 returns-6 : tie.Need-returns-6
+unfolding goodHub kindOf
+returns-6 c = rw (c .match .keys6)
+
+returns-7 : tie.Need-returns-7
 unfolding goodHub
-returns-6 c =
+returns-7 c =
     let n = c .match .rest in
     let kind = c .before .args .kind in
-    let not-event : kind ≡ 1 → ⊥ = λ k. n .0 .0 .0 .0 .1 (inl k) in
-    let not-resource : kind ≡ 5 → ⊥ = λ k. n .0 .0 .0 .0 .1 (inr k) in
-    rw (no-kind kind (λ h. omega (arith, n .0 .0 .0 .1, n .0 .0 .1, n .0 .1, n .1)))
+    let not-event : kind ≡ 1 → ⊥ = λ k. n .0 .0 .0 .0 .0 .1 (inl k) in
+    let not-resource : kind ≡ 5 → ⊥ = λ k. n .0 .0 .0 .0 .0 .1 (inr k) in
+    rw (no-kind kind (λ h. past-kinds kind h not-event (n .0 .0 .0 .0 .1) (n .0 .0 .0 .1) (n .0 .0 .1) not-resource (n .0 .1) (n .1)))
 
 pub good-hub-spec : {M : Type 1} → statement M
-good-hub-spec = tie.close (tie.spec returns returns-2 returns-3 returns-4 returns-5 returns-6)
+good-hub-spec = tie.close (tie.spec returns returns-2 returns-3 returns-4 returns-5 returns-6 returns-7)
