@@ -6,12 +6,11 @@ use Prim.Native.Nat.{_*_, _+_, _-_, ℕ}
 use Rattle.lines.specs.Lines.{printed}
 use Rattle.listing.specs.declared.Listed.{Listed}
 use Rattle.records.specs.Records.{hubsAt}
-use Rattle.rules.specs.Calls.{newHeld}
 use Rattle.rules.specs.Refusals.{need}
-use Rattle.rules.specs.Table.{Hub, Layout, State, Task, editionOf, inactive, kindOf, read, size, tab}
+use Rattle.rules.specs.Table.{Hub, Layout, State, Task, editionOf, inactive, kindOf, read, size, stored, tab}
 use Rattle.rules.specs.WellFormed.{wellFormedIn}
 use lib.Dec.{eqb, leb}
-use lib.ListN.{drop, getD, length}
+use lib.ListN.{drop, getD, length, replicate}
 use mathlib.Core.Bool.{cond}
 use mathlib.Core.List.{List, [], _++_, _∷_, map}
 use mathlib.Core.Path.{_≡_}
@@ -78,7 +77,7 @@ newHub h = record {
   limit = h .limit;
   start = h .start;
   waiters = [];
-  held = newHeld (kindOf (h .kind)) (h .limit);
+  held = replicate (stored (kindOf (h .kind)) (h .start) (h .limit)) 0;
 }
 
 unfoldable pub built : SetUp → State

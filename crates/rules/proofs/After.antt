@@ -63,7 +63,7 @@ module _ (L : Layout) (t : List ℕ) (e : wellFormedIn L t ≡ true) where
   long-in = written-says L t (said .0) .long
 
   pub valid-in : Valid (read L t)
-  valid-in = tested (read L t) (read-fits L t (said .0) (said .1)) (said .1)
+  valid-in = tested (read L t) (read-fits L t (said .0)) (said .1)
 
   pub words-in : {ts : ℕ} → Laid ts L → ((k : ℕ) → getD t k 0 < 4294967296) → t ≡ words L (read L t)
   words-in y low = words-read y t low (said .0)

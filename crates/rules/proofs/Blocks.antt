@@ -7,7 +7,7 @@ use Rattle.lists.specs.Lists.{bit, occ}
 use Rattle.rules.proofs.Cases.{sameOr}
 use Rattle.rules.proofs.Valid.{Held, Range}
 use Rattle.rules.specs.HubTable.{isOut, lowestFree}
-use Rattle.rules.specs.Table.{Hub, Memory}
+use Rattle.rules.specs.Table.{Hub, Memory, stored}
 use borrow.Author.Tests.{eqb-true, ltb-false, ltb-true}
 use lib.Dec.{eqb, ltb}
 use lib.ListN.{List·getD-eq-default, getD, length, length-set, set}
@@ -48,7 +48,7 @@ module _ (b : ℕ) (h : Hub) (o : isOut b h ≡ true) where
 
 -- where every block is free none is out
 pub all-free : (h : Hub) (T b : ℕ) → Range Memory T h → Held Memory h → h .limit ≤ h .count → isOut b h ≡ false
-unfolding Held Range
+unfolding Held Range stored
 all-free h T b r e full =
     boolCase (isOut b h)
     (λ o. absurd (omega (arith, e, full, back-free b h o (r .4), occ-most 0 (set (h .held) b 0), length-set (h .held) b 0)))

@@ -6,7 +6,7 @@ use Rattle.rules.proofs.Tests.{t-below-all}
 use Rattle.rules.specs.Calls.{serviceOf}
 use Rattle.rules.specs.Refusals.{NW, NoMode, W, WT, lastSide, modeOf}
 use Rattle.rules.specs.Reply.{bearsAnswer}
-use Rattle.rules.specs.Table.{Board, Event, Fifo, Inactive, Memory, NoKind, NoStage, Port, Ready, Resource, Semaphore, Sleeping, Waiting, isResource, kindOf, stageOf}
+use Rattle.rules.specs.Table.{Board, Event, Fifo, Inactive, Memory, NoKind, NoStage, Port, Ready, Resource, Semaphore, Sleeping, Waiting, isResource, kindOf, stageOf, stored}
 use Rattle.rules.specs.WellFormed.{bearsWord, forAll}
 use borrow.Author.Tests.{ne-eqb}
 use lib.Dec.{eqb}
@@ -76,6 +76,19 @@ resource-number (suc (suc (suc (suc (suc zero))))) = refl
 resource-number (suc (suc (suc (suc (suc (suc zero)))))) = refl
 resource-number (suc (suc (suc (suc (suc (suc (suc zero))))))) = refl
 resource-number (suc (suc (suc (suc (suc (suc (suc (suc n)))))))) = rw (ne-eqb (suc (suc (suc (suc (suc (suc (suc (suc n)))))))) 5 (λ e. omega arith))
+
+-- the stores that hold nothing: not a FIFO's, a Board's or a Memory hub's
+pub stored-none : (n count limit : ℕ) → (n ≡ 4 → ⊥) → (n ≡ 6 → ⊥) → (n ≡ 7 → ⊥) → stored (kindOf n) count limit ≡ 0
+unfolding kindOf stored
+stored-none zero count limit a b c = refl
+stored-none (suc zero) count limit a b c = refl
+stored-none (suc (suc zero)) count limit a b c = refl
+stored-none (suc (suc (suc zero))) count limit a b c = refl
+stored-none (suc (suc (suc (suc zero)))) count limit a b c = absurd (a refl)
+stored-none (suc (suc (suc (suc (suc zero))))) count limit a b c = refl
+stored-none (suc (suc (suc (suc (suc (suc zero)))))) count limit a b c = absurd (b refl)
+stored-none (suc (suc (suc (suc (suc (suc (suc zero))))))) count limit a b c = absurd (c refl)
+stored-none (suc (suc (suc (suc (suc (suc (suc (suc n)))))))) count limit a b c = refl
 
 -- the last side by the kind's number: a Board's is 3
 pub last-side : (n : ℕ) → lastSide (kindOf n) ≡ cond (eqb n 6) 3 2

@@ -10,7 +10,7 @@ use Rattle.rules.proofs.Places.{hub-word, hubs-word, length-words, read
 use Rattle.rules.proofs.Rows.{row-word, rows-behind, rows-none}
 use Rattle.rules.proofs.Tests.{t-below-all}
 use Rattle.rules.proofs.Valid.{Held, Room}
-use Rattle.rules.specs.Table.{Board, Event, Fifo, Hub, Kind, Layout, Memory, NoKind, Port, Resource, Semaphore, State, Task, contents, heldIn, hub, hubAt, hubWordAt, hubsAt, inactive, kindOf, noHub, part, read, readyAt, size, storeFrom, storeOf, storePart, storeSize, storeWords, storesAt, tab, task, taskAt, taskFrom, taskSize, taskWords, tasksAt, waitPart, waitsAt, words}
+use Rattle.rules.specs.Table.{Hub, Kind, Layout, State, Task, contents, heldIn, hub, hubAt, hubWordAt, hubsAt, inactive, kindOf, noHub, part, read, readyAt, size, storeFrom, storeOf, storePart, storeSize, storeWords, storesAt, tab, task, taskAt, taskFrom, taskSize, taskWords, tasksAt, waitPart, waitsAt, words}
 use Rattle.rules.specs.WellFormed.{contentsRight, listsPacked, storeRight, storesRight, written}
 use borrow.Author.Tests.{eq-eqb, le-leb}
 use lib.ListN.{getD, length}
@@ -83,31 +83,14 @@ module _ {ts : ℕ} (L : Layout) (y : Laid ts L) where
       tab-getD (λ i. L .messageFrom (λ k. getD (storeWords L ws) (i * L .width + k) 0)) 0 ws 0
       (λ i hi. rw zero-add (y .back (getD ws i 0) _ (λ k hk. row-word (L .width) (L .message) (y .long) 8 ws i k 0 (omega arith) hi hk)))
 
-  -- a store read and tested, by kind
+  -- a store read and tested, whatever the kind
   held-back : (k : Kind) (x : Hub) → Held k x → length (x .held) ≤ 8 → heldIn L k (x .count) (x .limit) (storeOf L x) ≡ x .held
   unfolding Held heldIn
-  held-back NoKind x e h = sym e
-  held-back Event x e h = sym e
-  held-back Semaphore x e h = sym e
-  held-back Port x e h = sym e
-  held-back Fifo x e h = rw e (messages-back (x .held) h)
-  held-back Resource x e h = sym e
-  held-back Board x e h = rw e (messages-back (x .held) h)
-  held-back Memory x e h = rw e (messages-back (x .held) h)
-
-  none-right : (x : Hub) → x .held ≡ [] → allZero (storeOf L x) ≡ true
-  none-right x e = rw (e, rows-none (L .width) (L .message) 8) (allZero-replicate (storeSize L))
+  held-back k x e h = rw e (messages-back (x .held) h)
 
   store-right : (k : Kind) (x : Hub) → Held k x → length (x .held) ≤ 8 → storeRight L k (x .count) (x .limit) (storeOf L x) ≡ true
   unfolding Held storeRight
-  store-right NoKind x e h = none-right x e
-  store-right Event x e h = none-right x e
-  store-right Semaphore x e h = none-right x e
-  store-right Port x e h = none-right x e
-  store-right Fifo x e h = rw e (rows-behind (L .width) (L .message) (y .long) 8 (x .held) h)
-  store-right Resource x e h = none-right x e
-  store-right Board x e h = rw e (rows-behind (L .width) (L .message) (y .long) 8 (x .held) h)
-  store-right Memory x e h = rw e (rows-behind (L .width) (L .message) (y .long) 8 (x .held) h)
+  store-right k x e h = rw e (rows-behind (L .width) (L .message) (y .long) 8 (x .held) h)
 
   module _ (s : State) (r : Room s) where
     task-back : (i : ℕ) → i < length (s .tasks) → taskAt L (words L s) i ≡ task s i

@@ -7,7 +7,7 @@ use Rattle.lists.specs.Lists.{bit, occ}
 use Rattle.rules.proofs.Changes.{inUse}
 use Rattle.rules.proofs.Standing.{listed-ready, listed-waits}
 use Rattle.rules.proofs.Valid.{Held, Listed, Range, Room, Valid}
-use Rattle.rules.specs.Table.{Board, Event, Fifo, Hub, Kind, Memory, NoKind, Port, Resource, Semaphore, State, hub, kindOf, noHub}
+use Rattle.rules.specs.Table.{Board, Event, Fifo, Hub, Kind, Memory, NoKind, Port, Resource, Semaphore, State, hub, kindOf, noHub, stored}
 use Rattle.rules.specs.WellFormed.{isReady, waitsFor}
 use borrow.Author.Tests.{ltb-false, ltb-true}
 use lib.Dec.{ltb}
@@ -36,14 +36,14 @@ module _ (s : State) (l : Listed s) where
 
 -- ---- the parts of a valid state
 
-store-le : (k : Kind) (T : ℕ) (h : Hub) → Range k T h → Held k h → length (h .held) ≤ 8
-unfolding Held Range
+pub store-le : (k : Kind) (T : ℕ) (h : Hub) → Range k T h → Held k h → length (h .held) ≤ 8
+unfolding Held Range stored
 store-le NoKind T h r e = absurd r
-store-le Event T h r e = rw e (omega arith)
-store-le Semaphore T h r e = rw e (omega arith)
-store-le Port T h r e = rw e (omega arith)
+store-le Event T h r e = omega (arith, e)
+store-le Semaphore T h r e = omega (arith, e)
+store-le Port T h r e = omega (arith, e)
 store-le Fifo T h r e = omega (arith, e, r .0, r .2)
-store-le Resource T h r e = rw e (omega arith)
+store-le Resource T h r e = omega (arith, e)
 store-le Board T h r e = omega (arith, e, r .0)
 store-le Memory T h r e = omega (arith, e, r .1)
 

@@ -3,7 +3,7 @@
 -- Not here: that a test says its statement (Tests.antt), that calls keep it (Kept.antt). Assumes nothing.
 use Prim.Native.Nat.{_<_, _≤_, pred, suc, ℕ}
 use Rattle.lists.specs.Lists.{bit, occ}
-use Rattle.rules.specs.Table.{Board, Event, Fifo, Get, Hub, Inactive, Kind, Memory, NoKind, NoSide, NoStage, Port, Put, Ready, Resource, Semaphore, Side, Sleeping, Stage, State, Task, Waiting, Wipe, hub, kindOf, owns, sideOf, stageOf, task}
+use Rattle.rules.specs.Table.{Board, Event, Fifo, Get, Hub, Inactive, Kind, Memory, NoKind, NoSide, NoStage, Port, Put, Ready, Resource, Semaphore, Side, Sleeping, Stage, State, Task, Waiting, Wipe, hub, kindOf, owns, sideOf, stageOf, stored, task}
 use Rattle.rules.specs.WellFormed.{bearsWord, isReady, urgency, waitsFor}
 use lib.ListN.{getD, length}
 use mathlib.Core.Bool.{true}
@@ -80,16 +80,9 @@ Range Memory T h =
     × ((b : ℕ) → b < h .limit → getD (h .held) b 0 ≤ 1)
     × (h .count ≡ occ 0 (h .held))
 
--- a FIFO's count is how many words it holds, and a Board's; a Memory hub's limit is how many marks; other hubs hold none
+-- a hub holds as many messages as its kind, count and limit say
 unfoldable pub Held : Kind → Hub → Type 0
-Held NoKind h = h .held ≡ []
-Held Event h = h .held ≡ []
-Held Semaphore h = h .held ≡ []
-Held Port h = h .held ≡ []
-Held Fifo h = h .count ≡ length (h .held)
-Held Resource h = h .held ≡ []
-Held Board h = h .count ≡ length (h .held)
-Held Memory h = h .limit ≡ length (h .held)
+Held k h = stored k (h .count) (h .limit) ≡ length (h .held)
 
 pub record Ranges (s : State) : Type 0 where
   pub range : (h : ℕ) → h < length (s .hubs) → Range (kindOf (hub s h .kind)) (length (s .tasks)) (hub s h)

@@ -11,7 +11,7 @@ use Rattle.rules.proofs.Cases.{condCase, sameOr}
 use Rattle.rules.proofs.Valid.{GetWaits, Held, MayWait, PutWaits, Range}
 use Rattle.rules.specs.HubTable.{Meeting, Verdict, alone, fail, getBoard, getEvent, getFifo, getMemory, getPort, getResource, getSemaphore, giveBack, isOut, lowestFree, message, met, notNow, onGet, onPut, onSide, onWipe, pair, pass, putBoard, putEvent, putFifo, putMemory, putPort, putResource, putSemaphore, readers, verdict}
 use Rattle.rules.specs.Lists.{firstWaiting, holding}
-use Rattle.rules.specs.Table.{Board, Event, Fifo, Get, Hub, Kind, Memory, NoKind, NoSide, Port, Put, Resource, Semaphore, Side, State, Wipe, hub, kindOf, sideOf, task}
+use Rattle.rules.specs.Table.{Board, Event, Fifo, Get, Hub, Kind, Memory, NoKind, NoSide, Port, Put, Resource, Semaphore, Side, State, Wipe, hub, kindOf, sideOf, stored, task}
 use Rattle.rules.specs.declared.Call.{Call}
 use borrow.Author.Tests.{eq-eqb, eqb-false, eqb-true, ltb-false, ltb-true}
 use lib.Dec.{eqb, ltb}
@@ -232,7 +232,7 @@ abbrev HeldLaw : Kind → Hub → Verdict → Type 0
 HeldLaw k h v = Held k (hubAfter h v)
 
 held-put : (k : Kind) (s : State) (f : Option ℕ) (h : Hub) (i x : ℕ) → Held k h → HeldLaw k h (onPut k s f h i x)
-unfolding Held giveBack holding hubAfter onPut pass putBoard putEvent putFifo putMemory putPort putResource putSemaphore
+unfolding Held giveBack holding hubAfter onPut pass putBoard putEvent putFifo putMemory putPort putResource putSemaphore stored
 held-put NoKind s f h i x e = e
 held-put Event s (some w) h i x e = e
 held-put Event s none h i x e = condCase (HeldLaw Event h) (eqb (h .count) 0) _ _ (λ q. e) (λ q. e)
@@ -253,7 +253,7 @@ held-put Memory s none h i x e =
     condCase (HeldLaw Memory h) (isOut x h) (giveBack none h x) fail (λ q. e ∙ sym (length-set (h .held) x 0)) (λ q. e)
 
 held-get : (k : Kind) (s : State) (f : Option ℕ) (h : Hub) (i : ℕ) → Held k h → HeldLaw k h (onGet k s f h i)
-unfolding Held getBoard getEvent getFifo getMemory getPort getResource getSemaphore holding hubAfter onGet
+unfolding Held getBoard getEvent getFifo getMemory getPort getResource getSemaphore holding hubAfter onGet stored
 held-get NoKind s f h i e = e
 held-get Event s (some w) h i e = condCase (HeldLaw Event h) (eqb (h .count) 1) _ _ (λ q. e) (λ q. e)
 held-get Event s none h i e = condCase (HeldLaw Event h) (eqb (h .count) 1) _ _ (λ q. e) (λ q. e)
@@ -281,7 +281,7 @@ held-get Memory s f h i e =
     condCase (HeldLaw Memory h) (ltb 0 (h .count)) _ _ (λ q. e ∙ sym (length-set (h .held) (lowestFree h) 1)) (λ q. e)
 
 held-wipe : (k : Kind) (h : Hub) → Held k h → HeldLaw k h (onWipe k)
-unfolding Held holding hubAfter onWipe
+unfolding Held holding hubAfter onWipe stored
 held-wipe NoKind h e = e
 held-wipe Event h e = e
 held-wipe Semaphore h e = e
@@ -362,7 +362,7 @@ wait-put Memory Get T s none h i x j r m a z n = absurd (a refl refl)
 -- a get: j a getter, or a putter where f is not none
 wait-get : (k : Kind) (d : Side) (s : State) (f : Option ℕ) (h : Hub) (i j : ℕ) → Held k h → MayWait d k h j → (f ≡ none → d ≡ Put → ⊥)
     → WaitLaw k d h j (onGet k s f h i)
-unfolding GetWaits Held MayWait PutWaits getBoard getEvent getFifo getMemory getPort getResource getSemaphore holding hubAfter onGet
+unfolding GetWaits Held MayWait PutWaits getBoard getEvent getFifo getMemory getPort getResource getSemaphore holding hubAfter onGet stored
 wait-get NoKind d s f h i j e m a = m
 wait-get Event d s (some w) h i j e m a = condCase (WaitLaw Event d h j) (eqb (h .count) 1) _ _ (λ q. m) (λ q. m)
 wait-get Event NoSide s none h i j e m a = absurd m
@@ -487,7 +487,7 @@ join-put Memory T s none h i x r = condCase (JoinLaw Memory Put h i none) (isOut
 
 join-get : (k : Kind) (T : ℕ) (s : State) (f : Option ℕ) (h : Hub) (i : ℕ) → Range k T h → Held k h → ((w : ℕ) → f ≡ some w → MayWait Put k h w)
     → JoinLaw k Get h i f (onGet k s f h i)
-unfolding GetWaits Held JoinLaw MayWait PutWaits Range getBoard getEvent getFifo getMemory getPort getResource getSemaphore onGet
+unfolding GetWaits Held JoinLaw MayWait PutWaits Range getBoard getEvent getFifo getMemory getPort getResource getSemaphore onGet stored
 join-get NoKind T s f h i r e m = absurd r
 join-get Event T s (some w) h i r e m =
     condCase (JoinLaw Event Get h i (some w)) (eqb (h .count) 1) _ _
@@ -562,7 +562,7 @@ pass-range T (some w) x b r = (b w refl, r .1, r .2)
 pass-range T none x b r = (omega arith, r .1, r .2)
 
 pub pass-held : (f : Option ℕ) (x : Hub) → Held Resource x → Held Resource (hubAfter x (pass f x))
-unfolding Held holding hubAfter pass
+unfolding Held holding hubAfter pass stored
 pass-held (some w) x e = e
 pass-held none x e = e
 

@@ -16,11 +16,11 @@ use Rattle.rules.proofs.Settled.{Partners, caller-in, later-asked, leng
 use Rattle.rules.proofs.Standing.{first-waits, listed-waiting, listed-waits, none-waits, waiting-listed, waiting-used}
 use Rattle.rules.proofs.Valid.{GetWaits, Held, Listed, MayWait, PutWaits, Range, Ranges, Valid, Waits}
 use Rattle.rules.proofs.Verdicts.{Apart, Each, JoinLaw, across, after-kind, held-side, hubAfter, join-side, pass-held, pass-range, pass-wait, range-side, side-get, wait-side, waitersMet}
-use Rattle.rules.specs.Calls.{AddHub, AddTask, Blank, HubRequest, Resume, Service, Sleep, Start, Stop, Suspend, Tick, Unknown, Yield, addHub, blank, deactivate, grant, heir, mayStop, newHeld, newHub, passAll, serve, settle, stop, wait}
+use Rattle.rules.specs.Calls.{AddHub, AddTask, Blank, HubRequest, Resume, Service, Sleep, Start, Stop, Suspend, Tick, Unknown, Yield, addHub, blank, deactivate, grant, heir, mayStop, newHub, passAll, serve, settle, stop, wait}
 use Rattle.rules.specs.HubTable.{Verdict, fail, met, notNow, pass, verdict}
 use Rattle.rules.specs.Lists.{answer, firstWaiting, leave, queued, waits}
 use Rattle.rules.specs.Refusals.{goodHub, refusalFor}
-use Rattle.rules.specs.Table.{Board, Event, Fifo, Get, Hub, Kind, Memory, NoKind, NoSide, Port, Put, Resource, Semaphore, Side, State, Task, Wipe, hub, inactive, kindOf, owns, sideOf, task}
+use Rattle.rules.specs.Table.{Board, Event, Fifo, Get, Hub, Kind, Memory, NoKind, NoSide, Port, Put, Resource, Semaphore, Side, State, Task, Wipe, hub, inactive, kindOf, owns, sideOf, stored, task}
 use Rattle.rules.specs.WellFormed.{waitsFor, within}
 use Rattle.rules.specs.declared.Call.{Call}
 use borrow.Author.Tests.{eq-eqb, eqb-true, leb-true, lt-ltb, ltb-false, ltb-true}
@@ -84,14 +84,7 @@ range-move T = core-move (λ (y : Hub). Range (kindOf (y .kind)) T y) (λ y l. r
 
 held-queued : (k : Kind) (x : Hub) (l : List ℕ) → Held k x → Held k (queued l x)
 unfolding Held queued
-held-queued NoKind x l e = e
-held-queued Event x l e = e
-held-queued Semaphore x l e = e
-held-queued Port x l e = e
-held-queued Fifo x l e = e
-held-queued Resource x l e = e
-held-queued Board x l e = e
-held-queued Memory x l e = e
+held-queued k x l e = e
 
 held-move : (x x′ : Hub) → core x′ ≡ core x → Held (kindOf (x .kind)) x → Held (kindOf (x′ .kind)) x′
 unfolding queued
@@ -302,7 +295,7 @@ module _ (key : ℕ → ℕ) (s : State) (l : Listed s) (m : Waits s) (r : Range
 -- ---- a hub added
 
 new-range : (k : Kind) (c : Call) (T : ℕ) → kindOf (c .target) ≡ k → goodHub k (c .ticks) (c .word) ≡ true → Range k T (newHub c)
-unfolding Range goodHub newHeld newHub
+unfolding Range goodHub newHub stored
 new-range NoKind c T q e = absurd (false≢true e)
 new-range Event c T q e =
     let b : c .word ≡ 0 = eqb-true _ 0 (and-r (eqb (c .ticks) 1) _ e) in (omega (arith, b), eqb-true _ 1 (and-l _ _ e), b)
@@ -325,17 +318,10 @@ new-range Memory c T q e =
     let d : c .word ≡ c .ticks = eqb-true _ _ (and-r (within 1 8 (c .ticks)) _ e) in
     rw q (w .0, w .1, d, (λ b lt. rw (getD-replicate {A = ℕ} (c .ticks) b 0 0 lt) (omega arith)), d ∙ sym (occ-replicate 0 (c .ticks)))
 
--- it holds nothing: a FIFO's count is its start, and that is 0; a Memory hub a mark for each block
-new-held : (k : Kind) (c : Call) → kindOf (c .target) ≡ k → goodHub k (c .ticks) (c .word) ≡ true → Held k (newHub c)
-unfolding Held goodHub newHeld newHub
-new-held NoKind c q e = rw q refl
-new-held Event c q e = rw q refl
-new-held Semaphore c q e = rw q refl
-new-held Port c q e = rw q refl
-new-held Fifo c q e = rw q (eqb-true _ 0 (and-r (within 1 8 (c .ticks)) _ e))
-new-held Resource c q e = rw q refl
-new-held Board c q e = rw q (eqb-true _ 0 (and-r (eqb (c .ticks) 1) _ e))
-new-held Memory c q e = rw q (sym (length-replicate {A = ℕ} (c .ticks) 0))
+-- it holds as many messages as its record says, all 0
+new-held : (c : Call) → Held (kindOf (c .target)) (newHub c)
+unfolding Held newHub
+new-held c = sym (length-replicate {A = ℕ} (stored (kindOf (c .target)) (c .word) (c .ticks)) 0)
 
 -- ---- by service
 
@@ -481,7 +467,7 @@ good-addHub key s c g e = record {
   ranges = record {
     range = all (λ (y : Hub). Range (kindOf (y .kind)) (length (s′ .tasks)) y) (unfold newHub in new-range (kindOf (c .target)) c _ refl good)
         (unfold addHub in g .ranges .range);
-    held = all (λ (y : Hub). Held (kindOf (y .kind)) y) (unfold newHub in new-held (kindOf (c .target)) c refl good) (g .ranges .held);
+    held = all (λ (y : Hub). Held (kindOf (y .kind)) y) (unfold newHub in new-held c) (g .ranges .held);
   };
 }
   where

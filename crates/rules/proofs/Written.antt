@@ -9,10 +9,10 @@ use Rattle.lists.specs.Lists.{allZero, entries, numbers, packed}
 use Rattle.rules.proofs.Layouts.{Laid, answer-at, message-word, sized}
 use Rattle.rules.proofs.Reading.{length-tab, read-hub, read-hubs, read-tasks}
 use Rattle.rules.proofs.Rows.{rows-none}
-use Rattle.rules.proofs.Tests.{t-below-all, t-hubs}
-use Rattle.rules.proofs.Valid.{Fits, Held, Range}
-use Rattle.rules.specs.Table.{Board, Event, Fifo, Hub, Kind, Layout, Memory, NoKind, Port, Resource, Semaphore, Task, contents, heldIn, hub, hubAt, hubWordAt, hubWords, hubsAt, kindOf, part, read, readyAt, rows, size, storeFrom, storeOf, storePart, storeSize, storeWords, storesAt, tab, taskAt, taskFrom, taskSize, taskWords, tasksAt, waitPart, waitWords, waitsAt, words}
-use Rattle.rules.specs.WellFormed.{contentsRight, hubsRight, listsPacked, storeRight, storesRight, unusedZero, valid, written, zeroFrom}
+use Rattle.rules.proofs.Tests.{t-below-all}
+use Rattle.rules.proofs.Valid.{Fits, Held}
+use Rattle.rules.specs.Table.{Hub, Kind, Layout, Task, contents, heldIn, hub, hubAt, hubWordAt, hubWords, hubsAt, kindOf, part, read, readyAt, rows, size, storeFrom, storeOf, storePart, storeSize, storeWords, stored, storesAt, tab, taskAt, taskFrom, taskSize, taskWords, tasksAt, waitPart, waitWords, waitsAt, words}
+use Rattle.rules.specs.WellFormed.{contentsRight, listsPacked, storeRight, storesRight, unusedZero, written, zeroFrom}
 use borrow.Author.Tests.{eqb-true, leb-true, ltb-false, ltb-true}
 use lib.Dec.{ltb}
 use lib.ListN.{List·getD-eq-default, drop, getD, length, length-drop, length-take, replicate, take, take-append-drop}
@@ -209,21 +209,9 @@ module _ {ts : ℕ} {L : Layout} (y : Laid ts L) (t : List ℕ) (low : (k : ℕ)
       zeros : zeroFrom (0 + n * v) (0 + 8 * v) store ≡ true
       zeros = simp zero-add (rw (take-all (8 * v - n * v) (drop (n * v) store) (rw length-drop (omega (arith, length-store h lt)))) e)
 
-  none-words : (h : ℕ) → h < 16 → allZero (storePart L t h) ≡ true → storeWords L [] ≡ storePart L t h
-  none-words h lt e =
-      rows-none (L .width) (L .message) 8
-      ∙ sym (rw (length-store h lt) at (replicate-allZero (storePart L t h) e))
-
   store-words : (k : Kind) (n m h : ℕ) → h < 16 → storeRight L k n m (storePart L t h) ≡ true → storeWords L (heldIn L k n m (storePart L t h)) ≡ storePart L t h
   unfolding heldIn storeRight
-  store-words NoKind n m h lt e = none-words h lt e
-  store-words Event n m h lt e = none-words h lt e
-  store-words Semaphore n m h lt e = none-words h lt e
-  store-words Port n m h lt e = none-words h lt e
-  store-words Fifo n m h lt e = messages-words n h lt e
-  store-words Resource n m h lt e = none-words h lt e
-  store-words Board n m h lt e = messages-words n h lt e
-  store-words Memory n m h lt e = messages-words m h lt e
+  store-words k n m h lt e = messages-words (stored k n m) h lt e
 
   -- the six bodies, one after the other
   bodies : t ≡ take 8 t ++ (part tasksAt (16 * taskSize L) t ++ (part (hubsAt L) (16 * 4) t ++ (part (readyAt L) 16 t ++ (part (waitsAt L) (16 * 16) t ++ part (storesAt L) (16 * storeSize L) t))))
@@ -287,31 +275,22 @@ module _ {ts : ℕ} {L : Layout} (y : Laid ts L) (t : List ℕ) (low : (k : ℕ)
 pub words-read : {ts : ℕ} {L : Layout} → Laid ts L → (t : List ℕ) → ((k : ℕ) → getD t k 0 < 4294967296) → written L t ≡ true → t ≡ words L (read L t)
 words-read {L = L} y t low e = words-read-of y t low (written-says L t e)
 
--- ---- what the words say of the state: how many records, and that a FIFO's count is how many words it holds, a Memory hub's limit
--- how many marks
+-- ---- what the words say of the state: how many records, and that a hub holds as many messages as its record says
 
--- the kinds table keeps a FIFO's count within its store
-holds : (L : Layout) (k : Kind) (T : ℕ) (x : Hub) (l : List ℕ) → x .held ≡ heldIn L k (x .count) (x .limit) l → Range k T x → Held k x
-unfolding Held Range heldIn
-holds L NoKind T x l e r = e
-holds L Event T x l e r = e
-holds L Semaphore T x l e r = e
-holds L Port T x l e r = e
-holds L Fifo T x l e r = sym (ap length e ∙ length-tab (λ j. L .messageFrom (λ k. getD l (j * L .width + k) 0)) (x .count) 0)
-holds L Resource T x l e r = e
-holds L Board T x l e r = sym (ap length e ∙ length-tab (λ j. L .messageFrom (λ k. getD l (j * L .width + k) 0)) (x .count) 0)
-holds L Memory T x l e r = sym (ap length e ∙ length-tab (λ j. L .messageFrom (λ k. getD l (j * L .width + k) 0)) (x .limit) 0)
+holds : (L : Layout) (k : Kind) (x : Hub) (l : List ℕ) → x .held ≡ heldIn L k (x .count) (x .limit) l → Held k x
+unfolding Held heldIn
+holds L k x l e =
+    sym (ap length e ∙ length-tab (λ j. L .messageFrom (λ k. getD l (j * L .width + k) 0)) (stored k (x .count) (x .limit)) 0)
 
-pub read-fits : (L : Layout) (t : List ℕ) → written L t ≡ true → valid (read L t) ≡ true → Fits (read L t)
-unfolding hubAt valid
-read-fits L t e v =
+pub read-fits : (L : Layout) (t : List ℕ) → written L t ≡ true → Fits (read L t)
+unfolding hubAt
+read-fits L t e =
     let w = written-says L t e in
-    let ranges = t-hubs (read L t) .yes (and-eq-true-iff (hubsRight (read L t)) _ .0 v .0) in
     record {
       tasks = rw (read-tasks L t) (w .tasks);
       hubs = rw (read-hubs L t) (w .hubs);
       held = λ h used.
           let lt : h < getD t 2 0 = rw (read-hubs L t) at used in
           let held : hub (read L t) h .held ≡ heldIn L (kindOf (hub (read L t) h .kind)) (hub (read L t) h .count) (hub (read L t) h .limit) (storePart L t h) = rw (read-hub L t h lt) in
-          holds L (kindOf (hub (read L t) h .kind)) (length (read L t .tasks)) (hub (read L t) h) (storePart L t h) held (ranges h used);
+          holds L (kindOf (hub (read L t) h .kind)) (hub (read L t) h) (storePart L t h) held;
     }

@@ -3,7 +3,7 @@
 use Prim.Native.Nat.{suc, zero, ℕ}
 use Rattle.rules.specs.HubTable.{Meeting, Verdict, fail, message, met, notNow, pass, verdict}
 use Rattle.rules.specs.Lists.{answer, asleep, counted, firstWaiting, flagged, holding, joinHub, joinReady, leave, readied, waits, wake}
-use Rattle.rules.specs.Table.{Board, Event, Fifo, Hub, Kind, Memory, NoKind, Port, Resource, Semaphore, State, Task, hub, inactive, isInactive, isSuspended, kindOf, owns, setHub, setTask, task}
+use Rattle.rules.specs.Table.{Hub, State, Task, hub, inactive, isInactive, isSuspended, kindOf, owns, setHub, setTask, stored, task}
 use Rattle.rules.specs.WellFormed.{bearsWord, urgency, within}
 use Rattle.rules.specs.declared.Call.{Call}
 use lib.Dec.{eqb}
@@ -140,18 +140,8 @@ addTask p s = record { tasks = s .tasks ++ inactive p ∷ []; hubs = s .hubs; re
 unfoldable pub addStarted : ℕ → State → State
 addStarted p s = start (urgency (addTask p s)) (length (s .tasks)) (addTask p s)
 
--- what a new hub holds: nothing; of a Memory hub (M-107) a mark for each block, none of them out
-unfoldable pub newHeld : Kind → ℕ → List ℕ
-newHeld NoKind limit = []
-newHeld Event limit = []
-newHeld Semaphore limit = []
-newHeld Port limit = []
-newHeld Fifo limit = []
-newHeld Resource limit = []
-newHeld Board limit = []
-newHeld Memory limit = replicate limit 0
-
--- "target is kind, ticks the limit, word the start, count = start"
+-- "target is kind, ticks the limit, word the start, count = start"; its store is all 0: it holds nothing, and no block of a Memory
+-- hub (M-107) is out
 unfoldable pub newHub : Call → Hub
 newHub c = record {
   kind = c .target;
@@ -159,7 +149,7 @@ newHub c = record {
   limit = c .ticks;
   start = c .word;
   waiters = [];
-  held = newHeld (kindOf (c .target)) (c .ticks);
+  held = replicate (stored (kindOf (c .target)) (c .word) (c .ticks)) 0;
 }
 
 unfoldable pub addHub : Hub → State → State

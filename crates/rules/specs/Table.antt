@@ -252,17 +252,20 @@ storePart L t h = part (storesAt L + h * storeSize L) (storeSize L) t
 abbrev pub storeFrom : Layout → ℕ → List ℕ → List ℕ
 storeFrom L n store = tab n 0 (λ j. L .messageFrom (λ k. getD store (j * L .width + k) 0))
 
--- "A FIFO's store holds its words, oldest first": its count says how many. A Board's holds "the word in its store's first place"
--- when it is written, count 1. A Memory hub's (M-107) holds a mark for each block, as many as its limit. Other stores hold none.
+-- how many messages a store holds, by the kind, the count and the limit: of a FIFO, "words held"; of a Board, "the word in its
+-- store's first place" when it is written, count 1; of a Memory hub (M-107) a mark for each block. Other stores hold none.
+unfoldable pub stored : Kind → ℕ → ℕ → ℕ
+stored NoKind count limit = 0
+stored Event count limit = 0
+stored Semaphore count limit = 0
+stored Port count limit = 0
+stored Fifo count limit = count
+stored Resource count limit = 0
+stored Board count limit = count
+stored Memory count limit = limit
+
 unfoldable pub heldIn : Layout → Kind → ℕ → ℕ → List ℕ → List ℕ
-heldIn L NoKind count limit store = []
-heldIn L Event count limit store = []
-heldIn L Semaphore count limit store = []
-heldIn L Port count limit store = []
-heldIn L Fifo count limit store = storeFrom L count store
-heldIn L Resource count limit store = []
-heldIn L Board count limit store = storeFrom L count store
-heldIn L Memory count limit store = storeFrom L limit store
+heldIn L k count limit store = storeFrom L (stored k count limit) store
 
 unfoldable pub hubAt : Layout → List ℕ → ℕ → Hub
 hubAt L t h = record {

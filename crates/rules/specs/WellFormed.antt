@@ -4,7 +4,7 @@
 -- Not here: what each test says as a statement, and that calls keep it (proofs/).
 use Prim.Native.Nat.{_*_, _+_, _-_, pred, suc, zero, ℕ}
 use Rattle.lists.specs.Lists.{allZero, bit, occ, packed}
-use Rattle.rules.specs.Table.{Board, Event, Fifo, Get, Hub, Inactive, Kind, Layout, Memory, NoKind, NoSide, NoStage, Port, Put, Ready, Resource, Semaphore, Side, Sleeping, Stage, State, Task, Waiting, Wipe, editionOf, hub, hubWordAt, hubsAt, isInactive, isResource, kindOf, part, read, readyAt, sideOf, size, stageOf, storePart, storeSize, storesAt, task, taskSize, tasksAt, waitPart, waitsAt}
+use Rattle.rules.specs.Table.{Board, Event, Fifo, Get, Hub, Inactive, Kind, Layout, Memory, NoKind, NoSide, NoStage, Port, Put, Ready, Resource, Semaphore, Side, Sleeping, Stage, State, Task, Waiting, Wipe, editionOf, hub, hubWordAt, hubsAt, isInactive, isResource, kindOf, part, read, readyAt, sideOf, size, stageOf, storePart, storeSize, stored, storesAt, task, taskSize, tasksAt, waitPart, waitsAt}
 use lib.Dec.{eqb, leb, ltb}
 use lib.ListN.{drop, getD, length}
 use mathlib.Core.Bool.{Bool, _&&_, _||_, false, not, true}
@@ -54,14 +54,7 @@ listsPacked L t = packed (part (readyAt L) 16 t) && forAll (getD t 2 0) (λ h. p
 -- "A FIFO's store holds its words, oldest first, then zeros. Other stores are 0." A Board's: "the word in its store's first place,
 -- else count and store 0". A Memory hub's (M-107): the marks of its blocks, "the rest 0"
 unfoldable pub storeRight : Layout → Kind → ℕ → ℕ → List ℕ → Bool
-storeRight L NoKind count limit store = allZero store
-storeRight L Event count limit store = allZero store
-storeRight L Semaphore count limit store = allZero store
-storeRight L Port count limit store = allZero store
-storeRight L Fifo count limit store = allZero (drop (count * L .width) store)
-storeRight L Resource count limit store = allZero store
-storeRight L Board count limit store = allZero (drop (count * L .width) store)
-storeRight L Memory count limit store = allZero (drop (limit * L .width) store)
+storeRight L k count limit store = allZero (drop (stored k count limit * L .width) store)
 
 unfoldable pub storesRight : Layout → List ℕ → Bool
 storesRight L t =

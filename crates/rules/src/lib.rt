@@ -1,6 +1,7 @@
 // What a call hands over and what it gives back, and the paper's numbers by name. The rules themselves are in specs/, in the
 // order of document 01. Not here: the places and sizes of the table (crate records).
 ghost use Rattle.rules.specs.Reply.{answerNumber, refusalNumber};
+ghost use Rattle.rules.specs.Table.{kindOf, stored};
 ghost use mathlib.Core.Path.{_≡_};
 
 // The services.
@@ -170,5 +171,16 @@ pub fn answer_number(a: Answer) -> u32
             Outcome::Fail => FAIL,
         },
         Answer::Refused(_) => 0,
+    }
+}
+
+// How many messages a hub's store holds, by its record: words of a FIFO or a Board, marks of a Memory hub.
+pub fn stored(kind: u32, count: u32, limit: u32) -> u32
+    ensures { λ r. ⌜ r ≡ stored (kindOf kind) count limit ⌝ }
+{
+    match kind {
+        FIFO | BOARD => count,
+        MEMORY => limit,
+        _ => 0,
     }
 }

@@ -181,7 +181,7 @@ module _ (L : Layout) (t : List ℕ) (e : wellFormedIn L t ≡ true) where
 
   state : Valid (read L t)
   unfolding wellFormedIn
-  state = let v = and-r (written L t) _ e in tested (read L t) (read-fits L t wrote v) v
+  state = let v = and-r (written L t) _ e in tested (read L t) (read-fits L t wrote) v
 
   contents-pass : contentsRight L t ≡ true
   unfolding written
