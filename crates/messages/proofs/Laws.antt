@@ -1,4 +1,5 @@
--- A message in words: how many words, each of 32 bits; read again it is the same; zeros are the message 0. Assumes nothing.
+-- A message in words: how many words, each of 32 bits; read again it is the same; zeros are the message 0; the same words hold the
+-- same message. Assumes nothing.
 use Prim.Native.Nat.{_%_, _*_, _+_, _/_, _<_, _≤_, suc, zero, ℕ}
 use Rattle.lists.proofs.Laws.{boolCase}
 use Rattle.messages.specs.Messages.{messageAt, messageWords, messages}
@@ -6,7 +7,7 @@ use borrow.Author.Tests.{le-ltb, lt-ltb, ltb-false, ltb-true}
 use lib.Dec.{ltb}
 use lib.ListN.{getD, length}
 use mathlib.Core.List.{List, [], _∷_}
-use mathlib.Core.Path.{_∙_, _≡_}
+use mathlib.Core.Path.{_∙_, _≡_, sym}
 use native.Mathlib.Nat.{add-zero, div-add-mod, div-lt-iff-lt-mul, mod-eq-of-lt, mod-lt}
 use native.Mathlib.Omega.{arith}
 
@@ -70,3 +71,12 @@ message-none w t p some few none =
     boolCase (ltb 1 w)
     (λ b. let h = ltb-true 1 w b in at-two w h t p ∙ omega (arith, first, none 1 h))
     (λ b. at-one w (ltb-false 1 w b) t p ∙ first)
+
+-- ---- the same words hold the same message
+
+pub message-same : (w : ℕ) (t u : List ℕ) (p q : ℕ) → ((k : ℕ) → k < w → getD t (p + k) 0 ≡ getD u (q + k) 0) → 1 ≤ w → messageAt w t p ≡ messageAt w u q
+message-same w t u p q same some =
+    let first : getD t p 0 ≡ getD u q 0 = rw (add-zero p, add-zero q) at (same 0 (omega arith)) in
+    boolCase (ltb 1 w)
+    (λ b. let h = ltb-true 1 w b in at-two w h t p ∙ rw (first, same 1 h) (sym (at-two w h u q)))
+    (λ b. let h = ltb-false 1 w b in at-one w h t p ∙ first ∙ sym (at-one w h u q))

@@ -14,7 +14,7 @@ use lib.ListN.{List·getD-eq-default, getD, length, length-set, set}
 use lib.Seq.{getD-set-other, getD-set-same, set-out}
 use mathlib.Core.Bool.{false, true}
 use mathlib.Core.List.{List}
-use mathlib.Core.Path.{_∙_, _≡_, ap, sym}
+use mathlib.Core.Path.{_≡_, ap}
 use native.Mathlib.Omega.{arith}
 
 -- ---- a mark written

@@ -3,21 +3,24 @@
 -- Not here: any other table (Written.antt), and the tests on the state itself (Tests.antt). Assumes nothing.
 use Prim.Native.Nat.{_*_, _+_, _<_, _≤_, suc, suc-le-suc, zero, ℕ}
 use Rattle.lists.proofs.Laws.{numbers-entries}
-use Rattle.lists.proofs.Padding.{allZero-replicate, packed-entries}
-use Rattle.lists.specs.Lists.{allZero, numbers, packed}
+use Rattle.lists.proofs.Padding.{packed-entries}
+use Rattle.lists.specs.Lists.{numbers, packed}
+use Rattle.messages.proofs.Laws.{message-same}
+use Rattle.messages.specs.Messages.{messageAt}
 use Rattle.rules.proofs.Layouts.{Laid, answer-at, message-word, sized}
 use Rattle.rules.proofs.Places.{hub-word, hubs-word, length-words, ready-part, store-part, task-word, tasks-word, unused-zero, wait-part}
-use Rattle.rules.proofs.Rows.{row-word, rows-behind, rows-none}
+use Rattle.rules.proofs.Rows.{row-word, rows-behind}
 use Rattle.rules.proofs.Tests.{t-below-all}
 use Rattle.rules.proofs.Valid.{Held, Room}
 use Rattle.rules.specs.Table.{Hub, Kind, Layout, State, Task, contents, heldIn, hub, hubAt, hubWordAt, hubsAt, inactive, kindOf, noHub, part, read, readyAt, size, storeFrom, storeOf, storePart, storeSize, storeWords, storesAt, tab, task, taskAt, taskFrom, taskSize, taskWords, tasksAt, waitPart, waitsAt, words}
 use Rattle.rules.specs.WellFormed.{contentsRight, listsPacked, storeRight, storesRight, written}
 use borrow.Author.Tests.{eq-eqb, le-leb}
-use lib.ListN.{getD, length}
+use lib.ListN.{drop, getD, length}
+use lib.Seq.{getD-drop, getD-take}
 use mathlib.Core.Bool.{true}
 use mathlib.Core.List.{List, [], _∷_}
 use mathlib.Core.Path.{_∙_, _≡_, ap, ap₂, refl, sym}
-use native.Mathlib.Nat.{add-zero, le-of-suc-le-suc, not-suc-le-zero, zero-add}
+use native.Mathlib.Nat.{add-assoc, add-zero, le-of-suc-le-suc, mul-le-mul-right, not-suc-le-zero, suc-mul, zero-add}
 use native.Mathlib.Omega.{arith}
 
 -- ---- the records that are read
@@ -28,7 +31,7 @@ module _ {A : Type 0} (f : ℕ → A) where
   length-tab zero i = refl
   length-tab (suc n) i = ap suc (length-tab n (suc i))
 
-  getD-tab : (d : A) (n i k : ℕ) → k < n → getD (tab n i f) k d ≡ f (i + k)
+  pub getD-tab : (d : A) (n i k : ℕ) → k < n → getD (tab n i f) k d ≡ f (i + k)
   unfolding tab
   getD-tab d zero i k h = absurd (not-suc-le-zero h)
   getD-tab d (suc n) i zero h = rw add-zero
@@ -62,6 +65,22 @@ module _ (L : Layout) (t : List ℕ) where
   pub read-hub : (h : ℕ) → h < getD t 2 0 → hub (read L t) h ≡ hubAt L t h
   unfolding read
   read-hub h used = getD-tab (hubAt L t) noHub (getD t 2 0) 0 h used ∙ ap (hubAt L t) (zero-add h)
+
+-- ---- message b of the n that a store holds, by the table's words
+
+pub stored-word : {ts : ℕ} (L : Layout) → Laid ts L → (t : List ℕ) (h n b : ℕ) → 8 ≤ ts → b < n → n ≤ 8
+    → getD (storeFrom L n (storePart L t h)) b 0 ≡ messageAt (L .width) t (storesAt L + h * storeSize L + b * L .width)
+stored-word L y t h n b some lt few =
+    let store = storePart L t h in
+    let w = L .width in
+    getD-tab (λ j. L .messageFrom (λ k. getD store (j * w + k) 0)) 0 n 0 b lt
+    ∙ rw (zero-add b) (y .reads store (b * w))
+    ∙ message-same w store t (b * w) (storesAt L + h * storeSize L + b * w)
+    (λ k hk. getD-take (storeSize L) (drop (storesAt L + h * storeSize L) t) (b * w + k) 0 (inside k hk) ∙ getD-drop (storesAt L + h * storeSize L) t (b * w + k) 0 ∙ ap (λ (i : ℕ). getD t i 0) (sym (add-assoc (storesAt L + h * storeSize L) (b * w) k)))
+    (omega (arith, y .size))
+  where
+    inside : (k : ℕ) → k < L .width → b * L .width + k < storeSize L
+    inside k hk = let eighth : suc b ≤ 8 = omega arith in omega (arith, suc-mul b (L .width), mul-le-mul-right (L .width) eighth)
 
 -- ---- a record and a store of any layout, read
 

@@ -36,16 +36,21 @@ module _ (s : State) (l : Listed s) where
 
 -- ---- the parts of a valid state
 
+-- how many messages a hub holds, by its record
+pub stored-le : (k : Kind) (T : ℕ) (h : Hub) → Range k T h → stored k (h .count) (h .limit) ≤ 8
+unfolding Range stored
+stored-le NoKind T h r = absurd r
+stored-le Event T h r = omega arith
+stored-le Semaphore T h r = omega arith
+stored-le Port T h r = omega arith
+stored-le Fifo T h r = omega (arith, r .0, r .2)
+stored-le Resource T h r = omega arith
+stored-le Board T h r = omega (arith, r .0)
+stored-le Memory T h r = r .1
+
 pub store-le : (k : Kind) (T : ℕ) (h : Hub) → Range k T h → Held k h → length (h .held) ≤ 8
-unfolding Held Range stored
-store-le NoKind T h r e = absurd r
-store-le Event T h r e = omega (arith, e)
-store-le Semaphore T h r e = omega (arith, e)
-store-le Port T h r e = omega (arith, e)
-store-le Fifo T h r e = omega (arith, e, r .0, r .2)
-store-le Resource T h r e = omega (arith, e)
-store-le Board T h r e = omega (arith, e, r .0)
-store-le Memory T h r e = omega (arith, e, r .1)
+unfolding Held
+store-le k T h r e = omega (arith, stored-le k T h r, e)
 
 pub valid-room : (s : State) → Valid s → Room s
 valid-room s g = record {

@@ -2,18 +2,20 @@
 -- h, with the marks so far; and all hubs.
 -- Not here: the walk of a list (Turns.antt). Assumes nothing.
 use Prim.Native.Nat.{_*_, _+_, _-_, _<_, _≤_, pred, suc, zero, zero-le, ℕ}
+use Rattle.lists.proofs.Counting.{occ-most}
 use Rattle.lists.proofs.Laws.{boolCase, length-numbers}
 use Rattle.lists.specs.Lists.{allZero, numbers, occ}
 use Rattle.rules.proofs.Layouts.{Laid}
 use Rattle.rules.proofs.Numbers.{resource-number}
 use Rattle.rules.proofs.Reading.{read-hub, read-tasks}
+use Rattle.rules.proofs.Room.{stored-le}
 use Rattle.rules.proofs.Tests.{t-kind}
 use Rattle.rules.proofs.Valid.{Range}
-use Rattle.rules.specs.Table.{Board, Fifo, Hub, Layout, hub, hubAt, hubsAt, inactive, kindOf, read, storePart, storeSize, storesAt, task, waitPart, waitsAt}
-use Rattle.rules.specs.WellFormed.{forAll, kindRight, ownerRight, storeRight}
+use Rattle.rules.specs.Table.{Board, Fifo, Hub, Layout, heldIn, hub, hubAt, hubsAt, inactive, kindOf, read, storePart, storeSize, stored, storesAt, task, waitPart, waitsAt}
+use Rattle.rules.specs.WellFormed.{forAll, kindRight, ownerRight, storeRight, within}
 use Rattle.wellformed.proofs.Parts.{so-many}
-use Rattle.wellformed.proofs.Turns.{entry-side, entry-state, forAll-both, forAll-fail, forAll-none, forAll-step, numbers-end, occ-le}
-use Rattle.wellformed.specs.Walks.{Marked, Marks, Used, bodyTest, hubRight, kindTest, may, metAt, ownerOf, ownerTest, queueRight, queueTest, storeTest, waitsOf, walks}
+use Rattle.wellformed.proofs.Turns.{entry-side, entry-state, forAll-both, forAll-fail, forAll-none, forAll-step, numbers-end}
+use Rattle.wellformed.specs.Walks.{Marked, Marks, Used, bodyTest, hubRight, kindTest, marksOf, marksTest, may, metAt, ownerOf, ownerTest, queueRight, queueTest, storeTest, waitsOf, walks}
 use borrow.Author.Tests.{eq-eqb, eqb-true, le-leb, lt-leb, ne-eqb}
 use lib.Dec.{eqb, eqb·suc-zero}
 use lib.ListN.{List·getD-eq-default, drop, getD, length, length-take, take}
@@ -39,31 +41,8 @@ module _ {test : Bool} {met : ℕ → ℕ} {m : List ℕ} where
   marked-as : {other : Bool} {with : ℕ → ℕ} {r : Bool} {n : List ℕ} → other ≡ test → ((j : ℕ) → with j ≡ met j) → Marked r other with m n → Marked r test met m n
   marked-as e q w = record { right = w .right ∙ e; long = w .long; marks = λ f j. rw (q j) at (w .marks f j) }
 
--- ---- a store by the number of its hub's kind: a FIFO's or a Board's, and any other
+-- ---- a blank store is right at every kind
 
-abbrev stores : ℕ → Bool
-stores n = eqb n 4 || eqb n 6
-
-module _ (L : Layout) where
-  store-by : (n count : ℕ) (store : List ℕ) → storeRight L (kindOf n) count store ≡ cond (stores n) (allZero (drop (count * L .width) store)) (allZero store)
-  unfolding kindOf storeRight
-  store-by zero count store = refl
-  store-by (suc zero) count store = refl
-  store-by (suc (suc zero)) count store = refl
-  store-by (suc (suc (suc zero))) count store = refl
-  store-by (suc (suc (suc (suc zero)))) count store = refl
-  store-by (suc (suc (suc (suc (suc zero))))) count store = refl
-  store-by (suc (suc (suc (suc (suc (suc zero)))))) count store = refl
-  store-by (suc (suc (suc (suc (suc (suc (suc n))))))) count store =
-      let m : ℕ = suc (suc (suc (suc (suc (suc (suc n)))))) in rw (ne-eqb m 4 (λ e. omega arith), ne-eqb m 6 (λ e. omega arith))
-
-  pub store-held : (n count w : ℕ) (store : List ℕ) → stores n ≡ true → w ≡ L .width → storeRight L (kindOf n) count store ≡ allZero (drop (count * w) store)
-  store-held n count w store e f = store-by n count store ∙ rw (e, f)
-
-  pub store-other : (n count : ℕ) (store : List ℕ) → stores n ≡ false → storeRight L (kindOf n) count store ≡ allZero store
-  store-other n count store e = store-by n count store ∙ rw e
-
--- a blank one is right at every kind
 zero-drop : (k : ℕ) (l : List ℕ) → allZero l ≡ true → allZero (drop k l) ≡ true
 unfolding allZero
 zero-drop zero l e = e
@@ -75,11 +54,8 @@ pub store-part : (L : Layout) (t : List ℕ) (h a n : ℕ) → a ≡ storesAt L 
 store-part L t h a n place long = rw (so-many a n t, place, long)
 
 pub store-none : (L : Layout) (t : List ℕ) (h : ℕ) → allZero (storePart L t h) ≡ true → storeTest L t h ≡ true
-unfolding storeTest
-store-none L t h e =
-    let x = hub (read L t) h in
-    store-by L (x .kind) (x .count) (storePart L t h)
-    ∙ boolCase (stores (x .kind)) (λ b. rw (b, zero-drop (x .count * L .width) (storePart L t h) e)) (λ b. rw (b, e))
+unfolding storeRight storeTest
+store-none L t h e = let x = hub (read L t) h in zero-drop (stored (kindOf (x .kind)) (x .count) (x .limit) * L .width) (storePart L t h) e
 
 module _ (L : Layout) (t : List ℕ) (h : ℕ) (u : h < getD t 2 0) where
   pub wait-words : hub (read L t) h .waiters ≡ numbers (waitPart L t h)
@@ -110,16 +86,26 @@ module _ (L : Layout) (t : List ℕ) (h : ℕ) (u : h < getD t 2 0) where
 
     -- ---- its store, which starts at word a
 
-    pub held-fits : kindTest L t h ≡ true → stores (getD t b 0) ≡ true → getD t (b + 1) 0 ≤ 8
-    unfolding Range kindOf
-    held-fits a e =
-        boolCase (eqb (getD t b 0) 4)
-        (λ f. let q = t-kind Fifo (getD t 1 0) here .yes (sym (kind-arm 4 (eqb-true _ 4 f)) ∙ a) in omega (arith, q .0, q .2))
-        (λ f. let q = t-kind Board (getD t 1 0) here .yes (sym (kind-arm 6 (eqb-true _ 6 (rw f at e))) ∙ a) in omega (arith, q .0))
+    -- how many messages it holds
+    abbrev holds : ℕ
+    holds = stored (kindOf (getD t b 0)) (getD t (b + 1) 0) (getD t (b + 2) 0)
 
-    pub store-as : (a n : ℕ) → a ≡ storesAt L + h * storeSize L → n ≡ storeSize L → storeTest L t h ≡ storeRight L (kindOf (getD t b 0)) (getD t (b + 1) 0) (take (a + n - a) (drop a t))
-    unfolding storeTest
+    pub held-fits : kindTest L t h ≡ true → holds ≤ 8
+    held-fits a = stored-le (kindOf (getD t b 0)) (getD t 1 0) here (t-kind (kindOf (getD t b 0)) (getD t 1 0) here .yes (sym (kind-arm (getD t b 0) refl) ∙ a))
+
+    pub store-as : (a n : ℕ) → a ≡ storesAt L + h * storeSize L → n ≡ storeSize L
+        → storeTest L t h ≡ allZero (drop (holds * L .width) (take (a + n - a) (drop a t)))
+    unfolding storeRight storeTest
     store-as a n place long = rw (so-many a n t, place, long, hub-here)
+
+    -- ---- the marks of a Memory hub's blocks
+
+    pub memory-arm : getD t b 0 ≡ 7
+        → kindTest L t h ≡ (within 1 8 (getD t (b + 2) 0) && (eqb (getD t (b + 3) 0) (getD t (b + 2) 0) && marksTest L t h (getD t (b + 1) 0) (getD t (b + 2) 0)))
+    unfolding heldIn hubAt kindOf kindRight marksTest stored
+    memory-arm q =
+        let held : hubAt L t h .held ≡ marksOf L t h (getD t (b + 2) 0) = rw (← at) (rw (add-zero b, q) refl) in
+        kind-arm 7 q ∙ rw held refl
 
     -- ---- its owner, plus 1, or 0: a Resource's count
 
@@ -215,7 +201,7 @@ module _ (L : Layout) (t m₀ : List ℕ) where
   unfolding metAt
   met-le zero u j = zero-le
   met-le (suc h) u j =
-      let a : occ j (hub (read L t) h .waiters) ≤ 16 = rw (wait-words L t h u) (omega (arith, occ-le j (numbers (waitPart L t h)), length-numbers (waitPart L t h), length-take 16 (drop (waitsAt L + h * 16) t))) in
+      let a : occ j (hub (read L t) h .waiters) ≤ 16 = rw (wait-words L t h u) (omega (arith, occ-most j (numbers (waitPart L t h)), length-numbers (waitPart L t h), length-take 16 (drop (waitsAt L + h * 16) t))) in
       omega (arith, met-le h (omega arith) j)
 
   pub passing-begin : Passing L t m₀ m₀ 0

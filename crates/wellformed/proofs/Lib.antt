@@ -1,3 +1,4 @@
+pub mod Blocks
 pub mod Editions
 pub mod Hubs
 pub mod Marks

@@ -99,7 +99,8 @@ may-wait (suc zero) (suc (suc (suc zero))) T i h r = rw (r .0, r .1, eqb·suc-ze
 may-wait (suc zero) (suc (suc (suc (suc zero)))) T i h r = simp (eqb·suc-zero, or-false, and-true)
 may-wait (suc zero) (suc (suc (suc (suc (suc zero))))) T i h r = refl
 may-wait (suc zero) (suc (suc (suc (suc (suc (suc zero)))))) T i h r = refl
-may-wait (suc zero) (suc (suc (suc (suc (suc (suc (suc k))))))) T i h r = absurd r
+may-wait (suc zero) (suc (suc (suc (suc (suc (suc (suc zero))))))) T i h r = refl
+may-wait (suc zero) (suc (suc (suc (suc (suc (suc (suc (suc k)))))))) T i h r = absurd r
 may-wait (suc (suc zero)) zero T i h r = absurd r
 may-wait (suc (suc zero)) (suc zero) T i h r = simp (eqb·suc-zero, and-true)
 may-wait (suc (suc zero)) (suc (suc zero)) T i h r = simp (eqb·suc-zero, and-true)
@@ -107,7 +108,8 @@ may-wait (suc (suc zero)) (suc (suc (suc zero))) T i h r = rw (r .0, eqb·suc-ze
 may-wait (suc (suc zero)) (suc (suc (suc (suc zero)))) T i h r = simp (eqb·suc-zero, and-true)
 may-wait (suc (suc zero)) (suc (suc (suc (suc (suc zero))))) T i h r = rw (eqb-swap (suc i) (h .count), or-false)
 may-wait (suc (suc zero)) (suc (suc (suc (suc (suc (suc zero)))))) T i h r = simp (eqb·suc-zero, and-true)
-may-wait (suc (suc zero)) (suc (suc (suc (suc (suc (suc (suc k))))))) T i h r = absurd r
+may-wait (suc (suc zero)) (suc (suc (suc (suc (suc (suc (suc zero))))))) T i h r = simp (eqb·suc-zero, and-true)
+may-wait (suc (suc zero)) (suc (suc (suc (suc (suc (suc (suc (suc k)))))))) T i h r = absurd r
 
 -- ---- a hub's list
 

@@ -2,6 +2,7 @@
 -- words; a task's record by its words and by its state; the marks; a walk of 16 words (`Walking`); a test of every number.
 -- Not here: laws of `packed`, `allZero` and `numbers` alone (crate lists); the hubs (Hubs.antt). Assumes nothing.
 use Prim.Native.Nat.{_*_, _+_, _-_, _<_, _≤_, pred, suc, zero, zero-le, ℕ}
+use Rattle.lists.proofs.Counting.{occ-most}
 use Rattle.lists.proofs.Laws.{boolCase, length-numbers}
 use Rattle.lists.specs.Lists.{allZero, bit, numbers, occ}
 use Rattle.messages.proofs.Laws.{at-one, at-two}
@@ -281,11 +282,6 @@ mark-step m i j h =
     (λ b. rw (b, ← eqb-true i j b) (getD-set-same m i (getD m i 0 + 1) 0 h))
     (λ b. rw b (rw add-zero (getD-set-other m i j (getD m i 0 + 1) 0 (λ e. eqb-false i j b (sym e)))))
 
-pub occ-le : (j : ℕ) (l : List ℕ) → occ j l ≤ length l
-unfolding occ
-occ-le j [] = zero-le
-occ-le j (x ∷ xs) = boolCase (eqb x j) (λ b. rw b (omega (arith, occ-le j xs))) (λ b. rw b (omega (arith, occ-le j xs)))
-
 -- ---- a walk of a list of 16 words
 
 -- what it gives back
@@ -306,7 +302,7 @@ module _ (L : Layout) (t l : List ℕ) (a d owner : ℕ) (m₀ : List ℕ) where
 
   module _ (m : List ℕ) (p k : ℕ) (w : Walking L t l a d owner m₀ m p k) (n : length l ≡ 16) where
     pub walking-low : {b : ℕ} → Marks b m₀ → (j : ℕ) → getD m j 0 ≤ b + 16
-    walking-low ok j = omega (arith, w .met j, ok .low j, occ-le j (numbers l), length-numbers l)
+    walking-low ok j = omega (arith, w .met j, ok .low j, occ-most j (numbers l), length-numbers l)
 
     refused : walks (read L t) a d owner p (drop k l) ≡ false → Walked L t l a d owner m₀ false m
     refused e = record { right = sym (w .rest ∙ e); long = w .long; marks = λ f. absurd (false≢true f) }

@@ -1,6 +1,7 @@
 -- The tests of this crate, taken together, are `wellFormedIn`, in any layout: `passed-well` and `well-passed`.
 -- Not here: what a walk of a list says (Queues.antt), exact lists by marks (Marks.antt). Assumes nothing.
 use Prim.Native.Nat.{_+_, _<_, _≤_, pred, suc, zero, ℕ}
+use Rattle.lists.proofs.Counting.{occ-most}
 use Rattle.lists.proofs.Laws.{boolCase, length-numbers}
 use Rattle.lists.specs.Lists.{numbers, occ, packed}
 use Rattle.records.specs.Records.{tableSize}
@@ -15,7 +16,6 @@ use Rattle.rules.specs.WellFormed.{contentsRight, fieldsRight, forAll, hubsRigh
 use Rattle.wellformed.proofs.Hubs.{wait-words}
 use Rattle.wellformed.proofs.Marks.{Placed, exact-marks, marks-exact, ready-shape}
 use Rattle.wellformed.proofs.Queues.{Entry, Line, Queue, first-in, first-none, low-zero, may-wait, queue-holds, queue-says, walks-holds, walks-says}
-use Rattle.wellformed.proofs.Turns.{occ-le}
 use Rattle.wellformed.specs.Walks.{Marked, Marks, Used, hubRight, kindTest, listed, may, metAt, ownerOf, ownerTest, queueTest, recordRight, storeTest, taskRight, walks}
 use borrow.Author.Tests.{eq-eqb, eqb-false, eqb-true, leb-true, ltb-false, ltb-true, ne-eqb, not-true}
 use lib.Dec.{eqb, leb, ltb}
@@ -74,7 +74,7 @@ module _ (L : Layout) (t : List ℕ) (p : Passed L t) where
     unfolding hubRight kindTest
     kind-passed = rw (read-tasks L t) (and-l (kindTest L t h) _ right)
 
-    store-passed : storeRight L (kindOf (hubWordAt L t h 0)) (hubWordAt L t h 1) (storePart L t h) ≡ true
+    store-passed : storeRight L (kindOf (hubWordAt L t h 0)) (hubWordAt L t h 1) (hubWordAt L t h 2) (storePart L t h) ≡ true
     unfolding hubAt hubRight storeTest
     store-passed = rw (read-hub L t h u) at (and-l (storeTest L t h) _ (and-r (kindTest L t h) _ right))
 
@@ -206,7 +206,7 @@ module _ (L : Layout) (t : List ℕ) (e : wellFormedIn L t ≡ true) where
     kind-pass : kindRight (kindOf (x .kind)) (length (read L t .tasks)) x ≡ true
     kind-pass = t-kind (kindOf (x .kind)) (length (read L t .tasks)) x .conv (state .ranges .range h (rw (read-hubs L t) u))
 
-    store-pass : storeRight L (kindOf (x .kind)) (x .count) (storePart L t h) ≡ true
+    store-pass : storeRight L (kindOf (x .kind)) (x .count) (x .limit) (storePart L t h) ≡ true
     unfolding hubAt
     store-pass = rw (read-hub L t h u) (says .stores h u)
 
@@ -295,7 +295,7 @@ no-marks (suc n) (suc j) = no-marks n j
 pub ready-marks : {r test : Bool} {m : List ℕ} (l : List ℕ) → Marked r test (λ j. occ j (numbers l)) (replicate 16 0) m → r ≡ true → length l ≡ 16 → Marks 16 m
 ready-marks l g e n = record {
   long = g .long;
-  low = λ j. omega (arith, g .marks e j, no-marks 16 j, occ-le j (numbers l), length-numbers l);
+  low = λ j. omega (arith, g .marks e j, no-marks 16 j, occ-most j (numbers l), length-numbers l);
 }
 
 -- all tests but the last have passed, and the last is of the marks that they left

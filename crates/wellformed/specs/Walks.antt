@@ -3,8 +3,8 @@
 use Prim.Native.Nat.{_+_, _≤_, pred, suc, zero, ℕ}
 use Rattle.lists.specs.Lists.{allZero, bit, occ}
 use Rattle.records.specs.Records.{tableSize}
-use Rattle.rules.specs.Table.{Hub, Layout, Stage, State, Task, hub, kindOf, read, stageOf, storePart, task, taskFrom, waitPart}
-use Rattle.rules.specs.WellFormed.{fieldsRight, kindRight, ownerRight, stageRight, storeRight}
+use Rattle.rules.specs.Table.{Hub, Layout, Stage, State, Task, hub, kindOf, read, stageOf, storeFrom, storePart, task, taskFrom, waitPart}
+use Rattle.rules.specs.WellFormed.{fieldsRight, forAll, kindRight, ownerRight, stageRight, storeRight}
 use lib.Dec.{eqb, leb}
 use lib.ListN.{getD, length}
 use mathlib.Core.Bool.{Bool, _&&_, _||_, cond, not, true}
@@ -48,10 +48,10 @@ pub record Marked (r test : Bool) (met : ℕ → ℕ) (before after : List ℕ) 
 -- ---- a hub
 
 -- who may wait, but for a Resource's owner, where the hub's ranges are right: a Port's count and limit are 0. At a Board only
--- readers, and only while it is unwritten.
+-- readers, and only while it is unwritten; at a Memory hub only getters, at count 0.
 abbrev pub may : ℕ → ℕ → ℕ → ℕ → Bool
 may side kind count limit =
-    (eqb side 1 && ((not (eqb kind 5) && not (eqb kind 6)) && eqb count limit))
+    (eqb side 1 && ((not (eqb kind 5) && (not (eqb kind 6) && not (eqb kind 7))) && eqb count limit))
     || (eqb side 2 && ((eqb kind 5 && not (eqb count 0)) || (not (eqb kind 5) && eqb count 0)))
 
 -- a Resource's owner plus 1, else 0
@@ -66,12 +66,21 @@ queueRight s h x l =
     && (may (task s (pred (getD l 0 0)) .side) (x .kind) (x .count) (x .limit)
     && walks s (suc h) (task s (pred (getD l 0 0)) .side) (ownerOf (x .kind) (x .count)) 0 l))
 
+-- the marks of a Memory hub's blocks, as many as its limit, and how many are free
+abbrev pub marksOf : Layout → List ℕ → ℕ → ℕ → List ℕ
+marksOf L t h limit = storeFrom L limit (storePart L t h)
+
+unfoldable pub marksTest : Layout → List ℕ → ℕ → ℕ → ℕ → Bool
+marksTest L t h count limit =
+    forAll limit (λ b. leb (getD (marksOf L t h limit) b 0) 1) && eqb count (occ 0 (marksOf L t h limit))
+
 -- a hub of the table: its record, its store, its owner, its list; all but its list, and all four
 unfoldable pub kindTest : Layout → List ℕ → ℕ → Bool
 kindTest L t h = kindRight (kindOf (hub (read L t) h .kind)) (getD t 1 0) (hub (read L t) h)
 
 unfoldable pub storeTest : Layout → List ℕ → ℕ → Bool
-storeTest L t h = storeRight L (kindOf (hub (read L t) h .kind)) (hub (read L t) h .count) (storePart L t h)
+storeTest L t h =
+    storeRight L (kindOf (hub (read L t) h .kind)) (hub (read L t) h .count) (hub (read L t) h .limit) (storePart L t h)
 
 unfoldable pub ownerTest : Layout → List ℕ → ℕ → Bool
 ownerTest L t h = ownerRight (read L t) (hub (read L t) h)

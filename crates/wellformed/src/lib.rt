@@ -25,8 +25,8 @@ ghost use Rattle.lists.specs.Lists.{allZero, numbers, occ};
 ghost use Rattle.records.specs.Records.{Table};
 ghost use Rattle.rules.proofs.Layouts.{Laid};
 ghost use Rattle.rules.specs.Table.{Layout, Ready, State, Task, Waiting, read, storePart};
-ghost use Rattle.rules.specs.WellFormed.{contentsRight, forAll, stageRight, unusedZero, wellFormedIn, zeroFrom};
-ghost use Rattle.wellformed.specs.Walks.{Marked, Marks, Row, Used, bodyTest, hubRight, kindTest, may, meets, metAt, ownerOf, ownerTest, queueTest, recordOf, recordRight, restRight, storeTest, taskRight, waitsOf, walks};
+ghost use Rattle.rules.specs.WellFormed.{contentsRight, forAll, stageRight, unusedZero, wellFormedIn, within, zeroFrom};
+ghost use Rattle.wellformed.specs.Walks.{Marked, Marks, Row, Used, bodyTest, hubRight, kindTest, marksTest, may, meets, metAt, ownerOf, ownerTest, queueTest, recordOf, recordRight, restRight, storeTest, taskRight, waitsOf, walks};
 ghost use lib.Dec.{eqb, leb};
 ghost use lib.ListN.{getD, length};
 ghost use mathlib.Core.Bool.{_&&_, true};
@@ -124,6 +124,44 @@ fn walk(
     true
 }
 
+// The marks of hub h's blocks, as many as its limit: each 0 or 1, and count of them 0.
+fn marks_right(t: &[u32], ts: usize, h: usize, count: u32, limit: u32) -> bool
+    requires { ⌜ Used ts (now t) ⌝ }
+    requires { ⌜ h < getD (now t) 2 0 ⌝ }
+    requires { ⌜ limit ≤ 8 ⌝ }
+    ensures { λ r. ⌜ ((L : Layout) → Laid ts L → r ≡ marksTest L (now (t .entry)) h count limit) ⌝ }
+{
+    let v = records::width_of(ts);
+    let at = records::store_at(ts, HubNo(h));
+    let n = limit as usize;
+    let mut free = 0;
+    let mut b = 0;
+    while b < n {
+        let m = messages::message(t, at + b * v, v);
+        if 1 < m {
+            return false;
+        }
+        free = free + (1 - m);
+        b += 1;
+    }
+    count as u64 == free
+}
+
+// Memory: "limit 1 to 8 blocks numbered from 0, start = limit, count = free blocks".
+fn memory_right(t: &[u32], ts: usize, h: usize, count: u32, limit: u32, start: u32) -> bool
+    requires { ⌜ Used ts (now t) ⌝ }
+    requires { ⌜ h < getD (now t) 2 0 ⌝ }
+    ensures { λ r. ⌜ ((L : Layout) → Laid ts L
+        → r ≡ (within 1 8 limit && (eqb start limit && marksTest L (now (t .entry)) h count limit))) ⌝ }
+{
+    if (1 <= limit) & (limit <= rules::MOST_HELD) {
+        if start == limit {
+            return marks_right(t, ts, h, count, limit);
+        }
+    }
+    false
+}
+
 // The kinds table: count, limit and start of hub h.
 fn kind_right(t: &[u32], ts: usize, h: usize) -> bool
     requires { ⌜ Used ts (now t) ⌝ }
@@ -143,12 +181,13 @@ fn kind_right(t: &[u32], ts: usize, h: usize) -> bool
             & (((1 <= limit) & (limit <= rules::MOST_HELD)) & (start == 0)),
         rules::RESOURCE => (count <= t[TASKS]) & ((limit == 1) & (start == 0)),
         rules::BOARD => (count <= 1) & ((limit == 1) & (start == 0)),
+        rules::MEMORY => memory_right(t, ts, h, count, limit, start),
         _ => false,
     }
 }
 
 // "A FIFO's store holds its words, oldest first, then zeros. Other stores are 0." A Board's: "the word in its store's first
-// place", else 0.
+// place", else 0. A Memory hub's: its marks, "the rest 0". So each is 0 behind the messages that it holds.
 fn store_right(t: &[u32], ts: usize, h: usize) -> bool
     requires { ⌜ Used ts (now t) ⌝ }
     requires { ⌜ h < getD (now t) 2 0 ⌝ }
@@ -158,13 +197,8 @@ fn store_right(t: &[u32], ts: usize, h: usize) -> bool
     let at = records::store_at(ts, HubNo(h));
     let store = &t[at..at + records::store_size(ts)];
     let b = records::hubs_at(ts) + h * HUB_SIZE;
-    let kind = t[b];
-    if (kind == rules::FIFO) | (kind == rules::BOARD) {
-        let n = t[b + COUNT] as usize;
-        lists::zeros(&store[n * records::width_of(ts)..])
-    } else {
-        lists::zeros(store)
-    }
+    let n = rules::stored(t[b], t[b + COUNT], t[b + LIMIT]) as usize;
+    lists::zeros(&store[n * records::width_of(ts)..])
 }
 
 // Hub h's store is nothing but zeros.
@@ -191,12 +225,13 @@ fn store_sound(t: &[u32], ts: usize, h: usize) -> bool
 }
 
 // Who may wait on a side of a hub, but for a Resource's owner. A Port's count and limit are 0, so either side may. Only
-// readers wait at a Board, and only while it is unwritten.
+// readers wait at a Board, and only while it is unwritten; only getters at a Memory hub, at count 0.
 fn may_wait(side: u32, kind: u32, count: u32, limit: u32) -> bool
     ensures { λ r. ⌜ r ≡ may side kind count limit ⌝ }
 {
     ((side == rules::PUT)
-        & (((kind != rules::RESOURCE) & (kind != rules::BOARD)) & (count == limit)))
+        & (((kind != rules::RESOURCE) & ((kind != rules::BOARD) & (kind != rules::MEMORY)))
+            & (count == limit)))
         | ((side == rules::GET)
             & (((kind == rules::RESOURCE) & (count != 0))
                 | ((kind != rules::RESOURCE) & (count == 0))))
@@ -347,8 +382,8 @@ fn sleeping_right(hub: u32, ticks: u32, side: u32, word: u64, answer: u32) -> bo
     (hub == 0) & ((side == 0) & ((word == 0) & ((answer == 0) & (1 <= ticks))))
 }
 
-// "Waiting: hub in use, side 1 or 2, answer 0, word 0 unless it puts to a Port or FIFO." A put to a Board bears a word too,
-// but its list refuses it: nobody waits to put there.
+// "Waiting: hub in use, side 1 or 2, answer 0, word 0 unless it puts to a Port or FIFO." A put to a Board or a Memory hub bears a
+// word too, but its list refuses it: nobody waits to put there.
 fn waiting_right(t: &[u32], ts: usize, hub: u32, side: u32, word: u64, answer: u32) -> bool
     requires { ⌜ Used ts (now t) ⌝ }
     ensures { λ r. ⌜ ((L : Layout) (x : Task) → Laid ts L
@@ -366,7 +401,8 @@ fn waiting_right(t: &[u32], ts: usize, hub: u32, side: u32, word: u64, answer: u
     ((rules::PUT <= side) & (side <= rules::GET))
         & ((answer == 0)
             & (((side == rules::PUT)
-                & ((kind == rules::PORT) | ((kind == rules::FIFO) | (kind == rules::BOARD))))
+                & ((kind == rules::PORT)
+                    | ((kind == rules::FIFO) | ((kind == rules::BOARD) | (kind == rules::MEMORY)))))
                 | (word == 0)))
 }
 

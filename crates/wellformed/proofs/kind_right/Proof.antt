@@ -1,9 +1,9 @@
 -- `wellformed::kind_right` meets its contract: an arm for each kind of the kinds table. Assumes nothing.
 use Prim.Native.Nat.{_*_, _+_}
-use Rattle.rules.proofs.Numbers.{no-kind}
+use Rattle.rules.proofs.Numbers.{no-kind, past-kinds}
 use Rattle.rules.specs.Table.{kindOf}
 use Rattle.rules.specs.WellFormed.{kindRight}
-use Rattle.wellformed.proofs.Hubs.{kind-arm}
+use Rattle.wellformed.proofs.Hubs.{kind-arm, memory-arm}
 use Rattle.wellformed.proofs.kind_right.Statement.{statement}
 use Rattle.wellformed.proofs.kind_right.Tie as tie
 use borrow.Author.Needs.{needs}
@@ -56,6 +56,9 @@ shared-slice-read-match c = search needs
 shared-slice-read-result : tie.Need-shared-slice-read-result
 shared-slice-read-result c = search needs
 
+memory-right-requires : tie.Need-memory-right-requires
+memory-right-requires c κs = search needs
+
 returns : tie.Need-returns
 unfolding kindOf kindRight
 returns c L y =
@@ -99,13 +102,20 @@ returns-6 c L y =
     sym (kind-arm L (b .args .t .now) (b .args .h) (b .pre .1) (p .result + b .args .h * 4) (omega arith) 6 (c .match .keys6))
 
 returns-7 : tie.Need-returns-7
-unfolding kindRight
 returns-7 c L y =
+    let b = c .before .before .before .before .before .before .before .before in
+    let p = c .before .before .before .before .before .before .hubs-at in
+    c .memory-right .ensures L y
+    ∙ sym (memory-arm L (b .args .t .now) (b .args .h) (b .pre .1) (p .result + b .args .h * 4) (omega arith) (c .before .match .keys7))
+
+returns-8 : tie.Need-returns-8
+unfolding kindRight
+returns-8 c L y =
     let b = c .before .before .before .before .before .before .before in
     let p = c .before .before .before .before .before .hubs-at in
     let n = c .match .rest in
     sym (kind-arm L (b .args .t .now) (b .args .h) (b .pre .1) (p .result + b .args .h * 4) (omega (arith, p .ensures)) _ refl
-    ∙ rw (no-kind (getD (b .args .t .now) (p .result + b .args .h * 4) 0) (λ h. omega (arith, n .0 .0 .0 .0 .0 .1, n .0 .0 .0 .0 .1, n .0 .0 .0 .1, n .0 .0 .1, n .0 .1, n .1))))
+    ∙ rw (no-kind (getD (b .args .t .now) (p .result + b .args .h * 4) 0) (λ h. past-kinds _ h (n .0 .0 .0 .0 .0 .0 .1) (n .0 .0 .0 .0 .0 .1) (n .0 .0 .0 .0 .1) (n .0 .0 .0 .1) (n .0 .0 .1) (n .0 .1) (n .1))))
 
 pub kind-right-spec : {M : Type 1} → statement M
 kind-right-spec =
@@ -126,10 +136,12 @@ kind-right-spec =
     mul-match
     shared-slice-read-match
     shared-slice-read-result
+    memory-right-requires
     returns
     returns-2
     returns-3
     returns-4
     returns-5
     returns-6
-    returns-7)
+    returns-7
+    returns-8)

@@ -1,14 +1,13 @@
--- `wellformed::store_right` meets its contract: the store of a FIFO or a Board from behind its messages on, and other stores
--- whole. Assumes nothing.
+-- `wellformed::store_right` meets its contract: the store from behind the messages that it holds on. Assumes nothing.
 use Prim.Native.Nat.{_*_, _+_, _-_, _≤_, ℕ}
 use Rattle.lists.specs.Lists.{allZero}
 use Rattle.rules.proofs.Layouts.{in-some, store-place, wide}
-use Rattle.wellformed.proofs.Hubs.{held-fits, store-as, store-held, store-other}
+use Rattle.wellformed.proofs.Hubs.{held-fits, store-as}
 use Rattle.wellformed.proofs.Parts.{lent-long, to-end}
 use Rattle.wellformed.proofs.store_right.Statement.{statement}
 use Rattle.wellformed.proofs.store_right.Tie as tie
 use borrow.Author.Needs.{needs}
-use lib.ListN.{drop, getD, length, take}
+use lib.ListN.{drop, length, take}
 use mathlib.Core.List.{List}
 use mathlib.Core.Path.{_∙_, ap, sym}
 use native.Mathlib.Nat.{mul-le-mul-right}
@@ -44,47 +43,59 @@ mul-b c = search needs
 add-b : tie.Need-add-b
 add-b c = search needs
 
-mul-kind : tie.Need-mul-kind
-mul-kind c = search needs
+mul-stored : tie.Need-mul-stored
+mul-stored c = search needs
 
-shared-slice-read-kind : tie.Need-shared-slice-read-kind
-shared-slice-read-kind c = search needs
+shared-slice-read-stored : tie.Need-shared-slice-read-stored
+shared-slice-read-stored c = search needs
 
-add-n : tie.Need-add-n
-add-n c = search needs
+add-stored : tie.Need-add-stored
+add-stored c = search needs
 
-mul-n : tie.Need-mul-n
-mul-n c = search needs
+mul-stored-2 : tie.Need-mul-stored-2
+mul-stored-2 c = search needs
 
-shared-slice-read-n : tie.Need-shared-slice-read-n
-shared-slice-read-n c = search needs
+shared-slice-read-stored-2 : tie.Need-shared-slice-read-stored-2
+shared-slice-read-stored-2 c = search needs
 
--- a FIFO holds 8 messages at most, a Board 1
-few : (c : tie.After-shared-slice-known3) → getD (c .before .before .before .before .before .before .before .before .args .t .now) (c .before .before .before .hubs-at .result + c .before .before .before .before .before .before .before .before .args .h * 4 + 1) 0 ≤ 8
-few c =
-    let b = c .before .before .before .before .before .before .before .before in
-    let p = c .before .before .before .hubs-at in
-    in-some (b .args .ts) (b .pre .0 .low) (b .pre .0 .high)
-    (λ L y. held-fits L (b .args .t .now) (b .args .h) (b .pre .1 .0) (p .result + b .args .h * 4) (omega arith) (b .pre .1 .1 L y) (c .before .if1 .taken))
+add-stored-2 : tie.Need-add-stored-2
+add-stored-2 c = search needs
+
+mul-stored-3 : tie.Need-mul-stored-3
+mul-stored-3 c = search needs
+
+shared-slice-read-stored-3 : tie.Need-shared-slice-read-stored-3
+shared-slice-read-stored-3 c = search needs
+
+stored-requires : tie.Need-stored-requires
+stored-requires c κs = search needs
 
 cast-n : tie.Need-cast-n
-cast-n c = omega (arith, few c)
+cast-n c = search needs
 
 width-of-requires : tie.Need-width-of-requires
 width-of-requires c κs = search needs
 
+-- it holds 8 messages at most
+few : (c : tie.After-width-of) → c .before .stored .result ≤ 8
+few c =
+    let b = c .before .before .before .before .before .before .before .before .before .before in
+    let p = c .before .before .before .before .before .hubs-at in
+    in-some (b .args .ts) (b .pre .0 .low) (b .pre .0 .high)
+    (λ L y. rw (c .before .stored .ensures) (held-fits L (b .args .t .now) (b .args .h) (b .pre .1 .0) (p .result + b .args .h * 4) (omega arith) (b .pre .1 .1 L y)))
+
 -- the store, and how many of its words they take
 abbrev store : tie.After-width-of → List ℕ
-store c = take (c .before .before .before .before .before .before .before .store-at .result + c .before .before .before .before .before .before .store-size .result - c .before .before .before .before .before .before .before .store-at .result) (drop (c .before .before .before .before .before .before .before .store-at .result) (c .before .before .before .before .before .before .before .before .before .args .t .now))
+store c = take (c .before .before .before .before .before .before .before .before .store-at .result + c .before .before .before .before .before .before .before .store-size .result - c .before .before .before .before .before .before .before .before .store-at .result) (drop (c .before .before .before .before .before .before .before .before .store-at .result) (c .before .before .before .before .before .before .before .before .before .before .args .t .now))
 
 abbrev held : tie.After-width-of → ℕ
-held c = getD (c .before .before .before .before .before .before .before .before .before .args .t .now) (c .before .before .before .before .hubs-at .result + c .before .before .before .before .before .before .before .before .before .args .h * 4 + 1) 0 * c .width-of .result
+held c = c .before .stored .result * c .width-of .result
 
 eight : (c : tie.After-width-of) → held c ≤ 8 * c .width-of .result
-eight c = mul-le-mul-right (c .width-of .result) (few (c .before))
+eight c = mul-le-mul-right (c .width-of .result) (few c)
 
 inside : (c : tie.After-width-of) → held c ≤ length (store c)
-inside c = omega (arith, eight c, lent-long (c .before .before .before .before .before .before .before .before .before .args .t .now) (c .before .before .before .before .before .before .before .store-at .result) (c .before .before .before .before .before .before .store-size .result) (omega arith))
+inside c = omega (arith, eight c, lent-long (c .before .before .before .before .before .before .before .before .before .before .args .t .now) (c .before .before .before .before .before .before .before .before .store-at .result) (c .before .before .before .before .before .before .before .store-size .result) (omega arith))
 
 mul-zeros : tie.Need-mul-zeros
 mul-zeros c = omega (arith, eight c)
@@ -104,26 +115,15 @@ part-zeros-end c = search needs
 zeros-requires : tie.Need-zeros-requires
 zeros-requires c κs = search needs
 
-zeros-requires-2 : tie.Need-zeros-requires-2
-zeros-requires-2 c κs = search needs
-
 returns : tie.Need-returns
 returns c L y =
-    let b = c .before .before .before .before .before .before .before .before .before .before .before in
-    let p = c .before .before .before .before .before .before .hubs-at in
-    let s = c .before .before .before .before .before .before .before .before .before .store-at in
-    let n = c .before .before .before .before .before .before .before .before .store-size in
+    let b = c .before .before .before .before .before .before .before .before .before .before .before .before in
+    let p = c .before .before .before .before .before .before .before .hubs-at in
+    let s = c .before .before .before .before .before .before .before .before .before .before .store-at in
+    let n = c .before .before .before .before .before .before .before .before .before .store-size in
     c .zeros .ensures ∙ ap allZero (to-end (held (c .before .before)) (store (c .before .before)))
-    ∙ sym (store-as L (b .args .t .now) (b .args .h) (b .pre .1 .0) (p .result + b .args .h * 4) (omega arith) (s .result) (n .result) (s .ensures .place ∙ store-place y (b .args .h)) (omega arith) ∙ store-held L _ _ _ _ (c .before .before .before .before .if1 .taken) (c .before .before .width-of .ensures ∙ wide y))
-
-returns-2 : tie.Need-returns-2
-returns-2 c L y =
-    let b = c .before .before .before .before .before .before .before .before in
-    let p = c .before .before .before .hubs-at in
-    let s = c .before .before .before .before .before .before .store-at in
-    let n = c .before .before .before .before .before .store-size in
-    c .zeros2 .ensures
-    ∙ sym (store-as L (b .args .t .now) (b .args .h) (b .pre .1 .0) (p .result + b .args .h * 4) (omega arith) (s .result) (n .result) (s .ensures .place ∙ store-place y (b .args .h)) (omega arith) ∙ store-other L _ _ _ (c .before .if1 .left))
+    ∙ rw (c .before .before .before .stored .ensures, c .before .before .width-of .ensures ∙ wide y)
+    (sym (store-as L (b .args .t .now) (b .args .h) (b .pre .1 .0) (p .result + b .args .h * 4) (omega arith) (s .result) (n .result) (s .ensures .place ∙ store-place y (b .args .h)) (omega arith)))
 
 pub store-right-spec : {M : Type 1} → statement M
 store-right-spec =
@@ -139,11 +139,15 @@ store-right-spec =
     hubs-at-requires
     mul-b
     add-b
-    mul-kind
-    shared-slice-read-kind
-    add-n
-    mul-n
-    shared-slice-read-n
+    mul-stored
+    shared-slice-read-stored
+    add-stored
+    mul-stored-2
+    shared-slice-read-stored-2
+    add-stored-2
+    mul-stored-3
+    shared-slice-read-stored-3
+    stored-requires
     cast-n
     width-of-requires
     mul-zeros
@@ -152,6 +156,4 @@ store-right-spec =
     part-zeros-start
     part-zeros-end
     zeros-requires
-    zeros-requires-2
-    returns
-    returns-2)
+    returns)
