@@ -11,7 +11,7 @@ use Rattle.messages.proofs.Laws.{length-message}
 use Rattle.messages.specs.Messages.{messageAt, messageWords, messages}
 use Rattle.records.specs.Records.{hubsAt as hubsFor, readyAt as readyFor, storesAt as storesFor, taskAt, taskWords as recordWords, waitsAt as waitsFor, width}
 use Rattle.records.specs.declared.TaskRecord.{TaskRecord}
-use Rattle.rules.proofs.Layouts.{Laid, answer-at, message-word, message-written, sized, wide}
+use Rattle.rules.proofs.Layouts.{Laid, answer-at, message-at, message-word, message-written, message-zero, sized, wide}
 use Rattle.rules.proofs.Places.{hubs-word, length-words, tasks-word}
 use Rattle.rules.proofs.Rows.{length-rows}
 use Rattle.rules.specs.Table.{Hub, Layout, State, Task, contents, hubWords, hubsAt, inactive, part, rows, size, storeOf, storeSize, storesAt, task, taskSize, taskWords, tasksAt, waitWords, words}
@@ -47,28 +47,12 @@ placed-word s i =
     let out : length (s .tasks) ≤ i = ltb-false i _ b in
     rw (List·getD-eq-default (s .tasks) none out, List·getD-eq-default (s .tasks) (inactive 0) out) (unfold inactive in refl))
 
-read-none : (w : ℕ) → messageAt w [] 0 ≡ 0
-unfolding messageAt
-read-none w = boolCase (ltb 1 w) (λ b. rw b) (λ b. rw b)
-
 module _ {ts : ℕ} (L : Layout) (y : Laid ts L) where
-  message-zero : L .message 0 ≡ replicate (L .width) 0
-  message-zero =
-      let from : L .messageFrom (λ k. 0) ≡ 0 = y .reads [] 0 ∙ read-none (L .width) in
-      ext-getD 0 (L .message 0) (replicate (L .width) 0) (y .long 0 ∙ sym (length-replicate (L .width) 0))
-      (λ k h.
-      let lt : k < L .width = omega (arith, y .long 0) in
-      ap (λ (m : ℕ). getD (L .message m) k 0) (sym from) ∙ y .again (λ k. 0) (λ k. omega arith) k lt ∙ sym (getD-replicate (L .width) k 0 0 lt))
-
   none-words : taskWords L none ≡ replicate (taskSize L) 0
   none-words =
       let n : 6 + (L .width + 1) ≡ taskSize L = omega arith in
-      rw (message-zero, replicate-append-replicate {A = ℕ} (L .width) 1 0)
+      rw (message-zero L y, replicate-append-replicate {A = ℕ} (L .width) 1 0)
       (replicate-append-replicate {A = ℕ} 6 (L .width + 1) 0 ∙ ap (λ (k : ℕ). replicate {A = ℕ} k 0) n)
-
-  -- a message, by its words
-  message-at : (t : List ℕ) (p m : ℕ) → ((k : ℕ) → k < L .width → getD t (p + k) 0 ≡ getD (L .message m) k 0) → messageAt (width ts) t p ≡ m
-  message-at t p m e = rw (wide y) (sym (y .reads t p) ∙ y .back m (λ k. getD t (p + k) 0) e)
 
 -- ---- the bodies
 

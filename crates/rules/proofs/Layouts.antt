@@ -7,11 +7,11 @@ use Rattle.lists.proofs.Laws.{boolCase}
 use Rattle.lists.specs.Lists.{padded}
 use Rattle.messages.proofs.Laws.{length-message, message-back, words-low}
 use Rattle.messages.specs.Messages.{messageAt, messageWords, messages}
-use Rattle.rules.proofs.Rows.{length-rows}
+use Rattle.rules.proofs.Rows.{length-rows, rows-zeros}
 use Rattle.rules.specs.Table.{Layout, Task, editionOf, one, rows, size, storeSize, storeWords, storesAt, taskSize, taskWords, two}
 use borrow.Author.Tests.{eq-eqb, eqb-false, eqb-true, ne-eqb}
-use lib.Dec.{eqb}
-use lib.ListN.{List·getD-append, getD, length, length-append}
+use lib.Dec.{eqb, ltb}
+use lib.ListN.{List·getD-append, getD, getD-replicate, length, length-append, length-replicate, replicate}
 use lib.Seq.{ext-getD, getD-append-add}
 use mathlib.Core.List.{List, [], _++_, _∷_}
 use mathlib.Core.Path.{_∙_, _≡_, ap, refl, sym}
@@ -62,6 +62,28 @@ module _ {ts : ℕ} {L : Layout} (y : Laid ts L) where
       let long : length ws ≡ w = length-message w m (omega arith) few in
       ext-getD 0 ws (L .message m) (long ∙ wide ∙ sym (y .long m))
       (λ k h. sym (ap (λ (x : ℕ). getD (L .message x) k 0) (sym same) ∙ y .again (λ j. getD ws (0 + j) 0) (λ j. words-low w m few fits (0 + j)) k (omega (arith, wide)) ∙ ap (λ (j : ℕ). getD ws j 0) (zero-add k)))
+
+-- ---- a message by its words, and the message 0
+
+read-none : (w : ℕ) → messageAt w [] 0 ≡ 0
+unfolding messageAt
+read-none w = boolCase (ltb 1 w) (λ b. rw b) (λ b. rw b)
+
+module _ {ts : ℕ} (L : Layout) (y : Laid ts L) where
+  pub message-zero : L .message 0 ≡ replicate (L .width) 0
+  message-zero =
+      let from : L .messageFrom (λ k. 0) ≡ 0 = y .reads [] 0 ∙ read-none (L .width) in
+      ext-getD 0 (L .message 0) (replicate (L .width) 0) (y .long 0 ∙ sym (length-replicate (L .width) 0))
+      (λ k h.
+      let lt : k < L .width = omega (arith, y .long 0) in
+      ap (λ (m : ℕ). getD (L .message m) k 0) (sym from) ∙ y .again (λ k. 0) (λ k. omega arith) k lt ∙ sym (getD-replicate (L .width) k 0 0 lt))
+
+  pub message-at : (t : List ℕ) (p m : ℕ) → ((k : ℕ) → k < L .width → getD t (p + k) 0 ≡ getD (L .message m) k 0) → messageAt (ts - 7) t p ≡ m
+  message-at t p m e = rw (wide y) (sym (y .reads t p) ∙ y .back m (λ k. getD t (p + k) 0) e)
+
+  -- a store of zeros
+  pub store-zero : (n : ℕ) → storeWords L (replicate n 0) ≡ replicate (storeSize L) 0
+  store-zero n = rows-zeros (L .width) (L .message) 0 message-zero 8 n
 
 -- ---- a task record's words, read
 

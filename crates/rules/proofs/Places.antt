@@ -290,16 +290,16 @@ module _ (L : Layout) (z : Sized L) (s : State) where
       next =
           cut-within (contents L s) rest tasksAt (length (s .tasks) * taskSize L) refl (λ o. refl) (cut-next (taskSize L) (taskWords L) (z .task) 16 (s .tasks) h)
 
-  -- a hub that has no waiter and holds nothing: its list and its store are zeros already
-  pub add-hub : storeWords L [] ≡ replicate (storeSize L) 0 → (y : Hub) → y .waiters ≡ [] → y .held ≡ [] → length (s .hubs) < 16 → set (sets (words L s) (hubsAt L + length (s .hubs) * 4) (hubWords y)) 2 (suc (length (s .hubs))) ≡ words L (addHub y s)
+  -- a hub that has no waiter and holds nothing but zeros: its list and its store are zeros already
+  pub add-hub : (y : Hub) → y .waiters ≡ [] → storeOf L y ≡ replicate (storeSize L) 0 → length (s .hubs) < 16 → set (sets (words L s) (hubsAt L + length (s .hubs) * 4) (hubWords y)) 2 (suc (length (s .hubs))) ≡ words L (addHub y s)
   unfolding addHub contents entries words
-  add-hub empty y noWaiter noWord h =
+  add-hub y noWaiter empty h =
       ap (λ (l : List ℕ). set l 2 (suc (length (s .hubs)))) (cut-sets next none (some y) refl)
       ∙ rw (
         length-append (s .hubs) (y ∷ []),
         add-one,
         rows-empty 16 waitWords 16 (s .hubs) y zeros,
-        rows-empty (storeSize L) (storeOf L) 16 (s .hubs) y (ap (storeWords L) noWord ∙ empty),
+        rows-empty (storeSize L) (storeOf L) 16 (s .hubs) y empty,
       )
     where
       zeros : waitWords y ≡ replicate 16 0

@@ -4,13 +4,13 @@
 -- Not here: which rows a table has (Places.antt). Assumes nothing.
 use Prim.Native.Nat.{_*_, _+_, _-_, _<_, _≤_, suc, zero, ℕ}
 use Rattle.lists.proofs.Laws.{removeFirst-row}
-use Rattle.lists.proofs.Padding.{allZero-replicate}
+use Rattle.lists.proofs.Padding.{allZero-at, allZero-replicate}
 use Rattle.lists.specs.Lists.{allZero, removeFirst}
 use Rattle.rules.proofs.Cut.{Cut, cut-get, cut-here, cut-move, cut-part, cut-within}
 use Rattle.rules.specs.Table.{rows}
 use Rattle.rules.specs.WellFormed.{zeroFrom}
 use lib.ListN.{drop, getD, length, length-append, length-replicate, replicate, replicate-append-replicate, set}
-use lib.Seq.{drop-at, set-getD}
+use lib.Seq.{drop-at, getD-append-add, set-getD}
 use mathlib.Core.Bool.{true}
 use mathlib.Core.List.{List, [], _++_, _∷_, append-assoc, append-nil}
 use mathlib.Core.Option.{Option, none, some}
@@ -41,6 +41,17 @@ unfolding rows
 rows-empty w f zero xs y e = refl
 rows-empty w f (suc n) [] y e = rw e
 rows-empty w f (suc n) (x ∷ xs) y e = rw (rows-empty w f n xs y e)
+
+-- a word of nothing but zeros
+no-word : (n j : ℕ) → getD (replicate {A = ℕ} n 0) j 0 ≡ 0
+no-word n j = allZero-at (replicate n 0) j (allZero-replicate n)
+
+-- nothing but entries written as zeros
+pub rows-zeros : {A : Type 0} (w : ℕ) (f : A → List ℕ) (y : A) → f y ≡ replicate w 0 → (n m : ℕ) → rows w f n (replicate m y) ≡ replicate (n * w) 0
+unfolding rows
+rows-zeros w f y e zero m = rw zero-mul
+rows-zeros w f y e (suc n) zero = rows-none w f (suc n)
+rows-zeros w f y e (suc n) (suc m) = rw (e, rows-zeros w f y e n m) (sym (ap (λ (r : List ℕ). replicate w 0 ++ r) (rows-none w f n)) ∙ rows-none w f (suc n))
 
 -- the entries, and one more or none
 abbrev pub more : {A : Type 0} → List A → Option A → List A
@@ -96,6 +107,16 @@ module _ {A : Type 0} (w : ℕ) (f : A → List ℕ) (wide : (a : A) → length 
   row-word n xs i k d hn hx hk =
       ap (λ (l : List A). getD (rows w f n l) (i * w + k) 0) (sym (set-getD xs i d))
       ∙ cut-get (cut-row n xs i hn hx) (getD xs i d) k (rw (wide (getD xs i d)) hk)
+
+  -- in use or not, where d is written as zeros
+  pub row-any : (d : A) → f d ≡ replicate w 0 → (n : ℕ) (xs : List A) (i k : ℕ) → i < n → k < w → getD (rows w f n xs) (i * w + k) 0 ≡ getD (f (getD xs i d)) k 0
+  unfolding rows
+  row-any d e zero xs i k hn hk = absurd (not-suc-le-zero hn)
+  row-any d e (suc n) [] i k hn hk = rw (rows-none w f (suc n), e) (no-word (suc n * w) (i * w + k) ∙ sym (no-word w k))
+  row-any d e (suc n) (x ∷ xs) zero k hn hk = row-word (suc n) (x ∷ xs) 0 k d hn (omega arith) hk
+  row-any d e (suc n) (x ∷ xs) (suc i) k hn hk =
+      let q : suc i * w + k ≡ length (f x) + (i * w + k) = omega (arith, suc-mul i w, wide x) in
+      rw q (getD-append-add (f x) (rows w f n xs) (i * w + k) 0 ∙ row-any d e n xs i k (le-of-suc-le-suc hn) hk)
 
   -- behind the rows in use
   rows-rest : (n : ℕ) (xs : List A) → length xs ≤ n → rows w f n xs ≡ rows w f (length xs) xs ++ replicate ((n - length xs) * w) 0

@@ -4,7 +4,7 @@ ghost use Prim.Native.Nat.{_<_, _≤_, ℕ};
 ghost use Rattle.records.specs.Records.{Table};
 ghost use Rattle.rules.proofs.Layouts.{Laid};
 ghost use Rattle.rules.specs.Calls.{addHub, addTask, blank};
-ghost use Rattle.rules.specs.Table.{Layout, State, words};
+ghost use Rattle.rules.specs.Table.{Layout, State, kindOf, stored, words};
 ghost use Rattle.rules.specs.WellFormed.{urgency};
 ghost use lib.ListN.{getD, length, replicate};
 ghost use mathlib.Core.List.{[]};
@@ -64,13 +64,19 @@ pub fn add_task(t: &mut [u32], ts: usize, priority: u32)
     t[records::TASKS] = (n + 1) as u32;
 }
 
-// "target is kind, ticks the limit, word the start, count = start"
+// "target is kind, ticks the limit, word the start, count = start"; its store is 0 already
 pub fn add_hub(t: &mut [u32], ts: usize, kind: u32, limit: u32, start: u32)
     requires { ⌜ Table ts (now t) ⌝ }
     requires { ⌜ getD (now t) 2 0 < 16 ⌝ }
     ensures { λ _. ⌜ ((L : Layout) (s : State) → Laid ts L → length (s .hubs) < 16 → now (t .entry) ≡ words L s
-        → now (t .exit)
-        ≡ words L (addHub record { kind = kind; count = start; limit = limit; start = start; waiters = []; held = [] } s)) ⌝ }
+        → now (t .exit) ≡ words L (addHub record {
+          kind = kind;
+          count = start;
+          limit = limit;
+          start = start;
+          waiters = [];
+          held = replicate (stored (kindOf kind) start limit) 0;
+        } s)) ⌝ }
 {
     let n = t[records::HUBS] as usize;
     records::set_hub(

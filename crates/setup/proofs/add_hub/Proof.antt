@@ -1,9 +1,9 @@
 -- `setup::add_hub` meets its contract: one more record behind those in use, and their number. Assumes nothing.
 use Prim.Native.Nat.{ℕ}
 use Rattle.records.specs.Records.{hubWords}
-use Rattle.rules.proofs.Layouts.{sized}
+use Rattle.rules.proofs.Layouts.{sized, store-zero}
 use Rattle.rules.proofs.Places.{add-hub, hubs-word}
-use Rattle.rules.proofs.Rows.{rows-none}
+use Rattle.rules.specs.Table.{kindOf, stored}
 use Rattle.setup.proofs.add_hub.Statement.{statement}
 use Rattle.setup.proofs.add_hub.Tie as tie
 use borrow.Author.Needs.{needs}
@@ -39,10 +39,11 @@ same-length c = search needs
 returns : tie.Need-returns
 unfolding hubWords
 returns c L s y h e =
+    let a = c .before .before .before .before .before .before .before .args in
     let number = ap (λ (l : List ℕ). getD l 2 0) e ∙ hubs-word L s in
     rw
     (c .before .before .set-hub .ensures, c .before .before .before .hubs-at .ensures, number, e, add-one, y .size)
-    (add-hub L (sized y) s (rows-none (L .width) (L .message) 8) _ refl refl h)
+    (add-hub L (sized y) s _ refl (store-zero L y (stored (kindOf (a .kind)) (a .start) (a .limit))) h)
 
 pub add-hub-spec : {M : Type 1} → statement M
 add-hub-spec =
