@@ -17,8 +17,8 @@ use Rattle.rules.proofs.Rows.{length-rows}
 use Rattle.rules.specs.Table.{Hub, Layout, State, Task, contents, hubWords, hubsAt, inactive, part, rows, size, storeOf, storeSize, storesAt, task, taskSize, taskWords, tasksAt, waitWords, words}
 use borrow.Author.Tests.{ltb-false, ltb-true}
 use lib.Dec.{ltb}
-use lib.ListN.{List·getD-eq-default, getD, getD-replicate, length, length-append, length-replicate, replicate, replicate-append-replicate}
-use lib.Seq.{drop-at, ext-getD, sets, take-at}
+use lib.ListN.{List·getD-eq-default, getD, length, length-append, replicate, replicate-append-replicate}
+use lib.Seq.{drop-at, sets, take-at}
 use mathlib.Core.List.{List, [], _++_, _∷_, append-assoc, append-nil}
 use mathlib.Core.Path.{_∙_, _≡_, ap, refl, sym}
 use native.Mathlib.Nat.{add-zero}

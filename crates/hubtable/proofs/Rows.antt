@@ -6,7 +6,7 @@ use Rattle.hubtable.specs.Says.{metWith}
 use Rattle.records.specs.Records.{first}
 use Rattle.rules.proofs.Valid.{Held, Range}
 use Rattle.rules.specs.HubTable.{fail, getBoard, getEvent, getFifo, getSemaphore, met, notNow, onGet, onPut, onWipe, pass, putEvent, putSemaphore}
-use Rattle.rules.specs.Table.{Board, Event, Fifo, Hub, Memory, NoKind, Port, Resource, Semaphore, State, kindOf, task}
+use Rattle.rules.specs.Table.{Board, Event, Fifo, Hub, Memory, NoKind, Port, Resource, Semaphore, State, kindOf, stored, task}
 use lib.Dec.{eqb, eqb·suc-suc}
 use lib.ListN.{List·getD-eq-default, drop, getD, length}
 use mathlib.Core.List.{List, [], _++_, _∷_}
@@ -70,7 +70,7 @@ no-wipe (suc (suc (suc (suc (suc (suc (suc (suc n)))))))) h = refl
 -- ---- a Board, by the words held
 
 pub board-one : (x : Hub) (T : ℕ) → Range Board T x → Held Board x → length (x .held) ≤ 1
-unfolding Held Range
+unfolding Held Range stored
 board-one x T r e = omega (arith, r .0, e)
 
 -- of at most one word nothing is left when the oldest goes

@@ -23,7 +23,7 @@ use Rattle.rules.specs.Calls.{HubRequest, hold, meetAll, serve, settle}
 use Rattle.rules.specs.HubTable.{message, onPut, onSide, putBoard, readers, verdict}
 use Rattle.rules.specs.Lists.{answer, holding, queued, unqueue, wake}
 use Rattle.rules.specs.Refusals.{refusalFor}
-use Rattle.rules.specs.Table.{Board, Get, Hub, NoSide, Put, Side, State, Wipe, hub, kindOf, setTask, sideOf, task}
+use Rattle.rules.specs.Table.{Board, Get, Hub, NoSide, Put, Side, State, Wipe, hub, kindOf, setTask, sideOf, stored, task}
 use Rattle.rules.specs.declared.Call.{Call}
 use borrow.Author.Tests.{eq-eqb}
 use lib.ListN.{drop, getD, length}
@@ -130,24 +130,24 @@ module _ (s : State) (g : Valid s) (c : Call) (a : refusalFor HubRequest s c ≡
   unfolding kindOf
   is-board = rw b refl
 
-  one-held : (hub s (c .target) .count ≡ length (hub s (c .target) .held)) × (length (hub s (c .target) .held) ≤ 1)
-  unfolding Held Range
+  one-held : length (hub s (c .target) .held) ≤ 1
+  unfolding Held Range stored
   one-held =
       let h : Held Board (hub s (c .target)) = rw is-board at (held s g c a) in
       let r : Range Board (length (s .tasks)) (hub s (c .target)) = rw is-board at (range s g c a) in
-      (h, omega (arith, h, r .0))
+      omega (arith, h, r .0)
 
   -- the word before goes out, if there is one, and the new one in
   abbrev pub written : Store
   written = TakeAppend (message c)
 
-  pub update-fits : StoreFits written (hub s (c .target) .count) (hub s (c .target) .held)
+  pub update-fits : StoreFits written (hub s (c .target) .held)
   unfolding StoreFits
-  update-fits = (one-held .0, omega (arith, one-held .1))
+  update-fits = omega (arith, one-held)
 
   holds-it : storeAfter written (hub s (c .target) .held) ≡ message c ∷ []
   unfolding storeAfter
-  holds-it = by (hub s (c .target) .held) (one-held .1)
+  holds-it = by (hub s (c .target) .held) one-held
     where
       by : (l : List ℕ) → length l ≤ 1 → drop 1 l ++ message c ∷ [] ≡ message c ∷ []
       by [] n = refl

@@ -5,7 +5,7 @@
 use Prim.Native.Nat.{_*_, _+_, _<_, _≤_, ℕ}
 use Rattle.hubtable.specs.Says.{RecordOf, metWith, says, storeAfter}
 use Rattle.hubtable.specs.declared.Meeting.{Meeting}
-use Rattle.hubtable.specs.declared.Store.the-variants.{Append, Keep, Take, TakeAppend}
+use Rattle.hubtable.specs.declared.Store.the-variants.{Append, Back, Keep, Out, Take, TakeAppend}
 use Rattle.hubtable.specs.declared.Store.{Store}
 use Rattle.hubtable.specs.declared.Verdict.the-variants.{Met}
 use Rattle.lists.proofs.Counting.{length-without}
@@ -21,7 +21,7 @@ use Rattle.rules.proofs.Changes.{hub-leave, inUse, length-setHub}
 use Rattle.rules.proofs.Layouts.{Laid}
 use Rattle.rules.proofs.Listed.{listed-answer, listed-hold}
 use Rattle.rules.proofs.Numbers.{bears-number}
-use Rattle.rules.proofs.Room.{waiters-room}
+use Rattle.rules.proofs.Room.{store-le, waiters-room}
 use Rattle.rules.proofs.Settled.{InUse, length-answer, partners, partners-in}
 use Rattle.rules.proofs.Standing.{first-waits}
 use Rattle.rules.proofs.Valid.{Held, Range, Valid}
@@ -31,11 +31,11 @@ use Rattle.rules.specs.HubTable.{Verdict, fail, message, notNow, verdict}
 use Rattle.rules.specs.Lists.{answer, firstWaiting, holding, leave, queued, unqueue}
 use Rattle.rules.specs.Refusals.{refusalFor}
 use Rattle.rules.specs.Reply.{aheadFor}
-use Rattle.rules.specs.Table.{Board, Event, Fifo, Hub, Kind, Layout, NoKind, Port, Resource, Semaphore, State, hub, hubWords, kindOf, setHub, setTask, sideOf, words}
+use Rattle.rules.specs.Table.{Hub, Kind, Layout, State, hub, hubWords, kindOf, setHub, setTask, sideOf, words}
 use Rattle.rules.specs.declared.Call.{Call}
 use borrow.Author.Tests.{eq-eqb, eqb-true, ne-eqb}
 use lib.Dec.{eqb}
-use lib.ListN.{drop, getD, length, length-append}
+use lib.ListN.{getD, length, length-append}
 use mathlib.Core.Bool.{Bool, _&&_, _||_, cond, false, false≢true, true}
 use mathlib.Core.List.{List, [], _++_, _∷_}
 use mathlib.Core.Option.{Option, some}
@@ -62,45 +62,14 @@ module _ {ts : ℕ} (L : Layout) (s : State) (y : Laid ts L) (fits : length (s .
 
 module _ (k : Kind) (T n : ℕ) (x : Hub) where
   -- the count and store that the verdict gives are in the kind's range again, so the store can take the change
-  store-fits : (st : Store) → Range k T x → Held k x → Range k T (holding n (storeAfter st (x .held)) x) → Held k (holding n (storeAfter st (x .held)) x) → StoreFits st (x .count) (x .held)
-  unfolding Held Range StoreFits holding storeAfter
+  store-fits : (st : Store) → Range k T x → Held k x → Range k T (holding n (storeAfter st (x .held)) x) → Held k (holding n (storeAfter st (x .held)) x) → StoreFits st (x .held)
+  unfolding StoreFits holding storeAfter
   store-fits Keep r e r′ e′ = tt
-  store-fits Take r e r′ e′ = taken k r e
-    where
-      taken : (k : Kind) → Range k T x → Held k x → length (x .held) ≤ 8
-      taken NoKind r e = absurd r
-      taken Event r e = rw e (omega arith)
-      taken Semaphore r e = rw e (omega arith)
-      taken Port r e = rw e (omega arith)
-      taken Fifo r e = omega (arith, e, r .0, r .2)
-      taken Resource r e = rw e (omega arith)
-      taken Board r e = omega (arith, e, r .0)
-  store-fits (Append w) r e r′ e′ = grown k r e r′ e′
-    where
-      never : x .held ++ w ∷ [] ≡ [] → ⊥
-      never q = omega (arith, ap length q, length-append (x .held) (w ∷ []))
-
-      grown : (k : Kind) → Range k T x → Held k x → Range k T (holding n (x .held ++ w ∷ []) x) → Held k (holding n (x .held ++ w ∷ []) x) → (x .count ≡ length (x .held)) × (x .count < 8)
-      grown NoKind r e r′ e′ = absurd r
-      grown Event r e r′ e′ = absurd (never e′)
-      grown Semaphore r e r′ e′ = absurd (never e′)
-      grown Port r e r′ e′ = absurd (never e′)
-      grown Fifo r e r′ e′ = (e, omega (arith, e, e′, r′ .0, r′ .2, length-append (x .held) (w ∷ [])))
-      grown Resource r e r′ e′ = absurd (never e′)
-      grown Board r e r′ e′ = (e, omega (arith, r .0))
-  store-fits (TakeAppend w) r e r′ e′ = passed k r e r′ e′
-    where
-      never : drop 1 (x .held) ++ w ∷ [] ≡ [] → ⊥
-      never q = omega (arith, ap length q, length-append (drop 1 (x .held)) (w ∷ []))
-
-      passed : (k : Kind) → Range k T x → Held k x → Range k T (holding n (drop 1 (x .held) ++ w ∷ []) x) → Held k (holding n (drop 1 (x .held) ++ w ∷ []) x) → (x .count ≡ length (x .held)) × (length (x .held) ≤ 8)
-      passed NoKind r e r′ e′ = absurd r
-      passed Event r e r′ e′ = absurd (never e′)
-      passed Semaphore r e r′ e′ = absurd (never e′)
-      passed Port r e r′ e′ = absurd (never e′)
-      passed Fifo r e r′ e′ = (e, omega (arith, e, r .0, r .2))
-      passed Resource r e r′ e′ = absurd (never e′)
-      passed Board r e r′ e′ = (e, omega (arith, e, r .0))
+  store-fits (Append w) r e r′ e′ = omega (arith, length-append (x .held) (w ∷ []), store-le k T (holding n (x .held ++ w ∷ []) x) r′ e′)
+  store-fits Take r e r′ e′ = store-le k T x r e
+  store-fits (TakeAppend w) r e r′ e′ = store-le k T x r e
+  store-fits (Out b) r e r′ e′ = store-le k T x r e
+  store-fits (Back b) r e r′ e′ = store-le k T x r e
 
 module _ (s : State) (g : Valid s) (c : Call) (a : refusalFor HubRequest s c ≡ 0) where
   pub asked : Asked s c
@@ -134,8 +103,11 @@ module _ (s : State) (g : Valid s) (c : Call) (a : refusalFor HubRequest s c ≡
   pub held : Held (kindOf (hub s (c .target) .kind)) (hub s (c .target))
   held = g .ranges .held (c .target) (asked .named)
 
+  pub held-few : length (hub s (c .target) .held) ≤ 8
+  held-few = store-le (kindOf (hub s (c .target) .kind)) (length (s .tasks)) (hub s (c .target)) range held
+
   module _ (m : Meeting) (e : says (hub s (c .target) .held) (Met m) ≡ verdict s c) where
-    pub meeting-fits : StoreFits (m .store) (hub s (c .target) .count) (hub s (c .target) .held)
+    pub meeting-fits : StoreFits (m .store) (hub s (c .target) .held)
     unfolding hubAfter says verdict
     meeting-fits =
         let x = hub s (c .target) in
@@ -164,7 +136,7 @@ told-in s c x s₁ e h = rw (length-answer s₁ (c .caller) 1 x, e) h
 
 -- the kinds whose puts bear a word, by their numbers
 abbrev pub bears : ℕ → Bool
-bears k = eqb k 3 || (eqb k 4 || eqb k 6)
+bears k = eqb k 3 || (eqb k 4 || (eqb k 6 || eqb k 7))
 
 module _ (h : Hub) (c : Call) where
   pub kept-get : (c .side ≡ 1 → ⊥) → 0 ≡ kept h c

@@ -1,28 +1,28 @@
--- A hub's store in the words of a table: where it stands; the oldest message is read, goes, and a message comes behind; what a
--- verdict does to it; the hub once its oldest message is taken.
+-- A hub's store in the words of a table: where it stands; a message is read, the oldest goes, a message comes behind, a message is
+-- another; what a verdict does to it; the hub once its oldest message is taken.
 -- Not here: which messages a verdict takes and appends (crate hubtable). Assumes nothing.
-use Prim.Native.Nat.{_*_, _+_, _<_, _≤_, pred, ℕ}
+use Prim.Native.Nat.{_*_, _+_, _<_, _≤_, pred, suc, ℕ}
 use Rattle.hubtable.specs.Says.{StoreBelow, storeAfter}
 use Rattle.hubtable.specs.declared.Store.{Store}
 use Rattle.lists.specs.Lists.{removeFirst}
-use Rattle.messages.proofs.Laws.{message-none}
 use Rattle.messages.specs.Messages.{messageAt, messageWords, messages}
 use Rattle.records.specs.Records.{storeSize as storeWide, storesAt as storesFrom, width}
 use Rattle.requests.specs.Requests.{StoreFits}
 use Rattle.rules.proofs.Changes.{length-setHub}
 use Rattle.rules.proofs.Cut.{Cut, cut-part, cut-paste, cut-sets, cut-within}
-use Rattle.rules.proofs.Layouts.{Laid, message-written, sized, store-place, wide}
+use Rattle.rules.proofs.Layouts.{Laid, message-at, message-written, message-zero, sized, store-place, wide}
 use Rattle.rules.proofs.Places.{cut-store, same-hub, store-word}
-use Rattle.rules.proofs.Rows.{cut-next, more, rowOf, rows-none, rows-shift}
+use Rattle.rules.proofs.Rows.{cut-next, cut-row, more, row-any, rowOf, rows-shift}
 use Rattle.rules.specs.Calls.{hold}
 use Rattle.rules.specs.Lists.{holding}
-use Rattle.rules.specs.Table.{Hub, Layout, State, hub, noHub, rows, setHub, storeSize, storeWords, storesAt, words}
+use Rattle.rules.specs.Table.{Hub, Layout, State, hub, noHub, setHub, storeSize, storeWords, storesAt, words}
 use borrow.Rule.Slice.PartMut.{midOf, putMid}
-use lib.ListN.{List·getD-append, drop, getD, getD-replicate, length, length-drop, length-replicate}
-use lib.Seq.{getD-set-same, set-set, sets}
+use lib.ListN.{drop, getD, length, length-drop, length-replicate, set}
+use lib.Seq.{getD-set-same, set-getD, set-set, sets}
 use mathlib.Core.List.{List, [], _++_, _∷_}
 use mathlib.Core.Option.{Option, none, some}
 use mathlib.Core.Path.{_∙_, _≡_, ap, refl, subst, sym}
+use native.Mathlib.Nat.{mul-le-mul-right, suc-mul}
 use native.Mathlib.Omega.{arith}
 
 -- the table of s, but for hub h's store, which holds ws
@@ -36,16 +36,15 @@ as-held L s h = ap (words L) (sym (same-hub s h))
 -- ---- the store's words
 
 module _ {ts : ℕ} {L : Layout} (y : Laid ts L) (some-words : 8 ≤ ts) (few : ts ≤ 9) (s : State) (h : ℕ) (low : h < 16) (used : h < length (s .hubs)) (t : List ℕ) (e : t ≡ words L s) (a : ℕ) (at : a ≡ storesFrom ts + h * storeWide ts) where
-  word : (k : ℕ) → k < L .width → getD t (a + k) 0 ≡ getD (storeWords L (hub s h .held)) k 0
-  word k lt = rw (e, at, store-place y h) (store-word L (sized y) s h low used k (omega arith))
-
-  pub oldest-read : messageAt (width ts) t a ≡ getD (hub s h .held) 0 0
-  unfolding rows
-  oldest-read = go (hub s h .held) word
-    where
-      go : (l : List ℕ) → ((k : ℕ) → k < L .width → getD t (a + k) 0 ≡ getD (storeWords L l) k 0) → messageAt (width ts) t a ≡ getD l 0 0
-      go [] f = message-none (width ts) t a (omega arith) (omega arith) (λ k lt. f k (omega (arith, wide y)) ∙ ap (λ (l : List ℕ). getD l k 0) (rows-none (L .width) (L .message) 8) ∙ getD-replicate (8 * L .width) k 0 0 (omega (arith, wide y)))
-      go (x ∷ xs) f = rw (wide y) (sym (y .reads t a) ∙ y .back x (λ k. getD t (a + k) 0) (λ k lt. f k lt ∙ List·getD-append (L .message x) (rows (L .width) (L .message) 7 xs) 0 k (rw (y .long x) lt)))
+  pub held-read : (i : ℕ) → i < 8 → messageAt (width ts) t (a + i * width ts) ≡ getD (hub s h .held) i 0
+  held-read i lt =
+      message-at L y t (a + i * width ts) (getD (hub s h .held) i 0)
+      (λ k hk.
+      let eighth : suc i ≤ 8 = lt in
+      let place : a + i * width ts + k ≡ storesAt L + h * storeSize L + (i * L .width + k) = rw (at, store-place y h, wide y) (omega arith) in
+      rw (e, place)
+      (store-word L (sized y) s h low used (i * L .width + k) (omega (arith, suc-mul i (L .width), mul-le-mul-right (L .width) eighth))
+      ∙ row-any (L .width) (L .message) (y .long) 0 (message-zero L y) 8 (hub s h .held) i k lt hk))
 
   cut : Cut (λ (ws : List ℕ). After L s h ws) (storeWords L) (storesAt L + h * storeSize L)
   unfolding hold
@@ -78,6 +77,20 @@ module _ {ts : ℕ} {L : Layout} (y : Laid ts L) (some-words : 8 ≤ ts) (few : 
           (λ o. cut .each (more (hub s h .held) o))
           (cut-next (L .width) (L .message) (y .long) 8 (hub s h .held) (omega (arith, many)))
 
+  -- message b is another
+  pub store-marked : (n b m : ℕ) → n ≡ length (hub s h .held) → n ≤ 8 → b < n → m < messages (width ts) → sets t (a + b * width ts) (messageWords (width ts) m) ≡ After L s h (set (hub s h .held) b m)
+  store-marked n b m many room lt fits =
+      let place : a ≡ storesAt L + h * storeSize L = at ∙ store-place y h in
+      let wrote : messageWords (width ts) m ≡ L .message m = message-written y some-words few m fits in
+      let here : t ≡ After L s h (set (hub s h .held) b (getD (hub s h .held) b 0)) = held-now ∙ ap (After L s h) (sym (set-getD (hub s h .held) b 0)) in
+      rw (wrote, wide y, place, here) (cut-sets row (getD (hub s h .held) b 0) m (y .long (getD (hub s h .held) b 0) ∙ sym (y .long m)))
+    where
+      row : Cut (λ (x : ℕ). After L s h (set (hub s h .held) b x)) (L .message) (storesAt L + h * storeSize L + b * L .width)
+      row =
+          cut-within (cut .front) (cut .back) (storesAt L + h * storeSize L) (b * L .width) (cut .front-length)
+          (λ x. cut .each (set (hub s h .held) b x))
+          (cut-row (L .width) (L .message) (y .long) 8 (hub s h .held) b (omega arith) (omega (arith, many)))
+
 module _ (s : State) (h : ℕ) (low : h < 16) (used : h < length (s .hubs)) where
   -- a hub that is told to hold twice holds what it was told last
   held-hub : (n : ℕ) (ws : List ℕ) → hub (hold h n ws s) h ≡ holding n ws (hub s h)
@@ -89,11 +102,11 @@ module _ (s : State) (h : ℕ) (low : h < 16) (used : h < length (s .hubs)) wher
       unfold hold setHub holding in
       rw (getD-set-same (s .hubs) h (holding n ws (hub s h)) noHub used, set-set (s .hubs) h (holding n ws (hub s h)) _) refl
 
--- ---- what a verdict does to a store, once it is told which of the four it is
+-- ---- what a verdict does to a store, once it is told which it is
 
 module _ {st to : Store} (told : st ≡ to) where
-  pub fits-told : (n : ℕ) (held : List ℕ) → StoreFits st n held → StoreFits to n held
-  fits-told n held f = subst (λ (z : Store). StoreFits z n held) told f
+  pub fits-told : (held : List ℕ) → StoreFits st held → StoreFits to held
+  fits-told held f = subst (λ (z : Store). StoreFits z held) told f
 
   pub below-told : (b : ℕ) → StoreBelow b st → StoreBelow b to
   below-told b f = subst (StoreBelow b) told f

@@ -1,7 +1,7 @@
--- When a store of 8 words can take what a verdict does to it: n is the number of words that the hub's record says it holds. And the
--- meetings of a whole list; and what a request leaves.
+-- When a store of 8 messages can take what a verdict does to what it holds. And the meetings of a whole list; and what a request
+-- leaves.
 use Prim.Native.Nat.{_<_, _≤_, ℕ}
-use Rattle.hubtable.specs.declared.Store.the-variants.{Append, Keep, Take, TakeAppend}
+use Rattle.hubtable.specs.declared.Store.the-variants.{Append, Back, Keep, Out, Take, TakeAppend}
 use Rattle.hubtable.specs.declared.Store.{Store}
 use Rattle.rules.specs.Calls.{HubRequest}
 use Rattle.rules.specs.HubTable.{Meeting}
@@ -13,11 +13,13 @@ use lib.ListN.{length}
 use mathlib.Core.List.{List, [], _∷_}
 use mathlib.Core.Path.{_≡_}
 
-unfoldable pub StoreFits : Store → ℕ → List ℕ → Type 0
-StoreFits Keep n held = Unit {0}
-StoreFits (Append w) n held = (n ≡ length held) × (n < 8)
-StoreFits Take n held = length held ≤ 8
-StoreFits (TakeAppend w) n held = (n ≡ length held) × (length held ≤ 8)
+unfoldable pub StoreFits : Store → List ℕ → Type 0
+StoreFits Keep held = Unit {0}
+StoreFits (Append w) held = length held < 8
+StoreFits Take held = length held ≤ 8
+StoreFits (TakeAppend w) held = length held ≤ 8
+StoreFits (Out b) held = length held ≤ 8
+StoreFits (Back b) held = length held ≤ 8
 
 -- the tasks of a list, each met with this word
 unfoldable pub meetings : ℕ → List ℕ → List Meeting

@@ -19,13 +19,13 @@ ghost use Rattle.moves.specs.Moves.{Sound, keyOf};
 ghost use Rattle.records.specs.Records.{Table, first, width};
 ghost use Rattle.requests.specs.Requests.{Leaves, StoreFits, meetOne, meetings};
 ghost use Rattle.rules.proofs.Layouts.{Laid};
-ghost use Rattle.rules.proofs.Valid.{Valid};
+ghost use Rattle.rules.proofs.Valid.{Held, Valid};
 ghost use Rattle.rules.specs.Calls.{HubRequest, hold, kept, meetAll, serve, wait};
-ghost use Rattle.rules.specs.HubTable.{message, verdict};
+ghost use Rattle.rules.specs.HubTable.{isOut, lowestFree, message, verdict};
 ghost use Rattle.rules.specs.Lists.{answer, waits};
 ghost use Rattle.rules.specs.Refusals.{refusalFor};
-ghost use Rattle.rules.specs.Table.{Hub, Layout, State, hub, setTask, task, words};
-ghost use lib.ListN.{drop, getD, length};
+ghost use Rattle.rules.specs.Table.{Hub, Layout, State, hub, kindOf, setTask, task, words};
+ghost use lib.ListN.{drop, getD, length, set};
 ghost use mathlib.Core.List.{[], _++_, _∷_};
 ghost use mathlib.Core.Option.{some};
 ghost use mathlib.Core.Path.{_≡_};
@@ -56,15 +56,71 @@ fn word_of(t: &[u32], ts: usize, e: u32) -> u64
     x.word
 }
 
-// The first message of hub h's store: the oldest, if it holds one.
-fn oldest_of(t: &[u32], ts: usize, h: HubNo) -> u64
+// Message k of the 8 in hub h's store, 0 where it holds fewer.
+fn held_at(t: &[u32], ts: usize, h: HubNo, k: usize) -> u64
     requires { ⌜ Table ts (now t) ⌝ }
     requires { ⌜ h .0 < 16 ⌝ }
+    requires { ⌜ k < 8 ⌝ }
     ensures { λ r. ⌜ r < messages (width ts) ⌝ }
     ensures { λ r. ⌜ ((L : Layout) (s : State) → Laid ts L → h .0 < length (s .hubs) → now (t .entry) ≡ words L s
-        → r ≡ getD (hub s (h .0) .held) 0 0) ⌝ }
+        → r ≡ getD (hub s (h .0) .held) k 0) ⌝ }
 {
-    messages::message(t, records::store_at(ts, h), records::width_of(ts))
+    let v = records::width_of(ts);
+    messages::message(t, records::store_at(ts, h) + k * v, v)
+}
+
+// Memory: whether block b of hub h is out. A number from 8 on has no mark.
+fn is_out(t: &[u32], ts: usize, h: HubNo, b: u64) -> bool
+    requires { ⌜ Table ts (now t) ⌝ }
+    requires { ⌜ h .0 < 16 ⌝ }
+    ensures { λ r. ⌜ ((L : Layout) (s : State) → Laid ts L → h .0 < length (s .hubs) → length (hub s (h .0) .held) ≤ 8
+        → now (t .entry) ≡ words L s
+        → r ≡ isOut b (hub s (h .0))) ⌝ }
+{
+    if b < records::STORE_MESSAGES as u64 {
+        held_at(t, ts, h, b as usize) == 1
+    } else {
+        false
+    }
+}
+
+// Memory: the lowest free block of hub h, the first whose mark is 0; its limit where none is.
+fn lowest_free(t: &[u32], ts: usize, h: HubNo) -> u64
+    requires { ⌜ Table ts (now t) ⌝ }
+    requires { ⌜ h .0 < 16 ⌝ }
+    ensures { λ r. ⌜ r ≤ 8 ⌝ }
+    ensures { λ r. ⌜ ((L : Layout) (s : State) → Laid ts L → h .0 < length (s .hubs) → length (hub s (h .0) .held) ≤ 8
+        → now (t .entry) ≡ words L s
+        → r ≡ lowestFree (hub s (h .0))) ⌝ }
+{
+    let mut b = 0;
+    while b < records::STORE_MESSAGES {
+        if held_at(t, ts, h, b) == 0 {
+            return b as u64;
+        }
+        b += 1;
+    }
+    b as u64
+}
+
+// What a Memory hub, whose record is x, says of a block that is given back or asked for.
+fn judge_block(t: &[u32], ts: usize, x: HubRecord, c: Call) -> Verdict
+    requires { ⌜ Table ts (now t) ⌝ }
+    requires { ⌜ c .target < 16 ⌝ }
+    requires { ⌜ message c < messages (width ts) ⌝ }
+    ensures { λ r. ⌜ Below (messages (width ts)) r ⌝ }
+    ensures { λ r. ⌜ ((L : Layout) (s : State) → Laid ts L → Valid s → refusalFor HubRequest s c ≡ 0
+        → RecordOf x (hub s (c .target)) → hub s (c .target) .kind ≡ 7
+        → now (t .entry) ≡ words L s → says (hub s (c .target) .held) r ≡ verdict s c) ⌝ }
+{
+    let h = HubNo(c.target as usize);
+    if c.side == rules::PUT {
+        let waiter = moves::first_waiter(t, ts, h, rules::GET);
+        let block = messages::joined(c.word, c.high);
+        let out = is_out(t, ts, h, block);
+        return hubtable::put_memory(x, waiter, block, out);
+    }
+    hubtable::get_memory(x, lowest_free(t, ts, h))
 }
 
 // What the hub that it names says of a call, but for the update of a Board (`update`).
@@ -83,13 +139,16 @@ fn judge(t: &[u32], ts: usize, c: Call) -> Verdict
     if c.side == rules::WIPE {
         return hubtable::on_wipe(x);
     }
+    if x.kind == rules::MEMORY {
+        return judge_block(t, ts, x, c);
+    }
     if c.side == rules::PUT {
         let waiter = moves::first_waiter(t, ts, h, rules::GET);
         return hubtable::on_put(x, waiter, c.caller, messages::joined(c.word, c.high));
     }
     let waiter = moves::first_waiter(t, ts, h, rules::PUT);
     let its = word_of(t, ts, waiter);
-    let oldest = oldest_of(t, ts, h);
+    let oldest = held_at(t, ts, h, 0);
     hubtable::on_get(x, waiter, its, oldest, c.caller)
 }
 
@@ -122,6 +181,24 @@ fn append_word(t: &mut [u32], ts: usize, h: HubNo, n: usize, w: u64)
     }
 }
 
+// Memory: mark b of the n in hub h's store becomes m; a number from n on has none.
+fn set_mark(t: &mut [u32], ts: usize, h: HubNo, n: usize, b: u64, m: u64)
+    requires { ⌜ Table ts (now t) ⌝ }
+    requires { ⌜ h .0 < 16 ⌝ }
+    requires { ⌜ m < messages (width ts) ⌝ }
+    ensures { λ _. ⌜ ((L : Layout) (s : State) → Laid ts L → h .0 < length (s .hubs) → n ≡ length (hub s (h .0) .held)
+        → n ≤ 8
+        → now (t .entry) ≡ words L s
+        → now (t .exit) ≡ words L (hold (h .0) (hub s (h .0) .count) (set (hub s (h .0) .held) b m) s)) ⌝ }
+{
+    let v = records::width_of(ts);
+    if n <= records::STORE_MESSAGES {
+        if b < n as u64 {
+            messages::set_message(t, records::store_at(ts, h) + b as usize * v, v, m);
+        }
+    }
+}
+
 // How many words are left when the oldest of n is taken.
 fn less_one(n: usize) -> usize
     ensures { λ r. ⌜ r ≡ pred n ⌝ }
@@ -135,7 +212,7 @@ fn change_store(t: &mut [u32], ts: usize, h: HubNo, n: usize, store: Store)
     requires { ⌜ h .0 < 16 ⌝ }
     requires { ⌜ StoreBelow (messages (width ts)) store ⌝ }
     ensures { λ _. ⌜ ((L : Layout) (s : State) → Laid ts L → h .0 < length (s .hubs)
-        → StoreFits store n (hub s (h .0) .held)
+        → n ≡ length (hub s (h .0) .held) → StoreFits store (hub s (h .0) .held)
         → now (t .entry) ≡ words L s
         → now (t .exit) ≡ words L (hold (h .0) (hub s (h .0) .count) (storeAfter store (hub s (h .0) .held)) s)) ⌝ }
 {
@@ -151,6 +228,12 @@ fn change_store(t: &mut [u32], ts: usize, h: HubNo, n: usize, store: Store)
             take_oldest(t, ts, h);
             append_word(t, ts, h, less_one(n), w);
         }
+        Store::Out(b) => {
+            set_mark(t, ts, h, n, b, 1);
+        }
+        Store::Back(b) => {
+            set_mark(t, ts, h, n, b, 0);
+        }
     }
 }
 
@@ -160,11 +243,12 @@ fn hold_hub(t: &mut [u32], ts: usize, h: HubNo, m: Meeting)
     requires { ⌜ h .0 < 16 ⌝ }
     requires { ⌜ StoreBelow (messages (width ts)) (m .store) ⌝ }
     ensures { λ _. ⌜ ((L : Layout) (s : State) → Laid ts L → length (s .hubs) ≤ 16 → h .0 < length (s .hubs)
-        → StoreFits (m .store) (hub s (h .0) .count) (hub s (h .0) .held) → now (t .entry) ≡ words L s
+        → Held (kindOf (hub s (h .0) .kind)) (hub s (h .0)) → StoreFits (m .store) (hub s (h .0) .held)
+        → now (t .entry) ≡ words L s
         → now (t .exit) ≡ words L (hold (h .0) (m .count) (storeAfter (m .store) (hub s (h .0) .held)) s)) ⌝ }
 {
     let x = hub_at(&*t, ts, h);
-    let n = x.count as usize;
+    let n = rules::stored(x.kind, x.count, x.limit) as usize;
     let store = m.store;
     change_store(t, ts, h, n, store);
     records::set_count(t, records::hubs_at(ts), h, m.count);
@@ -256,7 +340,9 @@ fn kept_word(kind: u32, side: u32, word: u64) -> u64
     if side != rules::PUT {
         return 0;
     }
-    if (kind == rules::PORT) | ((kind == rules::FIFO) | (kind == rules::BOARD)) {
+    if (kind == rules::PORT)
+        | ((kind == rules::FIFO) | ((kind == rules::BOARD) | (kind == rules::MEMORY)))
+    {
         word
     } else {
         0

@@ -5,7 +5,7 @@ use Rattle.hubtable.proofs.on_get.Tie as tie
 use Rattle.hubtable.specs.Says.{Below, says}
 use Rattle.rules.proofs.Valid.{Held}
 use Rattle.rules.specs.HubTable.{onGet}
-use Rattle.rules.specs.Table.{kindOf}
+use Rattle.rules.specs.Table.{kindOf, stored}
 use borrow.Author.Needs.{needs}
 use mathlib.Core.Path.{_∙_, _≡_, ap, sym}
 use native.Mathlib.Omega.{arith}
@@ -30,7 +30,7 @@ unfolding kindOf onGet
 returns c = ((λ x s T e r held m its oldest. rw (ap kindOf (sym (e .kind) ∙ c .before .match .keys1)) (c .get-port .ensures .0 x s e its)), λ b z its oldest. c .get-port .ensures .1 b z its)
 
 returns-2 : tie.Need-returns-2
-unfolding Held kindOf onGet
+unfolding Held kindOf onGet stored
 returns-2 c = (
   (λ x s T e r held m its oldest.
       let fifo = ap kindOf (sym (e .kind) ∙ c .before .match .keys2) in
@@ -43,7 +43,7 @@ unfolding kindOf onGet
 returns-3 c = ((λ x s T e r held m its oldest. rw (ap kindOf (sym (e .kind) ∙ c .before .match .keys3)) (c .get-resource .ensures .0 x e)), λ b z its oldest. c .get-resource .ensures .1 b z)
 
 returns-4 : tie.Need-returns-4
-unfolding Held kindOf onGet
+unfolding Held kindOf onGet stored
 returns-4 c = (
   (λ x s T e r held m its oldest.
       let board = ap kindOf (sym (e .kind) ∙ c .before .match .keys4) in

@@ -32,6 +32,18 @@ returns c = (
       ∙ rw (c .before .if1 .taken) refl,
 )
 
+judge-block-requires : tie.Need-judge-block-requires
+judge-block-requires c κs = search needs
+
+returns-2 : tie.Need-returns-2
+returns-2 c = (
+  c .judge-block .ensures .0,
+  λ L s y g a n e.
+      let k = c .before .before .before .before .before .before .before .before .args .c in
+      let r = c .before .before .before .before .before .hub-at .ensures L s y (g .hubs) (asked s g k a .named) e in
+      c .judge-block .ensures .1 L s y g a r (sym (r .kind) ∙ c .before .if2 .taken) e,
+)
+
 first-waiter-requires : tie.Need-first-waiter-requires
 first-waiter-requires c κs = search needs
 
@@ -41,18 +53,18 @@ joined-requires c κs = search needs
 on-put-requires : tie.Need-on-put-requires
 on-put-requires c κs = search needs
 
-returns-2 : tie.Need-returns-2
+returns-3 : tie.Need-returns-3
 unfolding onSide sideOf verdict
-returns-2 c = (
+returns-3 c = (
   c .on-put .ensures .1 _ (omega arith) (omega arith),
   λ L s y g a n e.
-      let k = c .before .before .before .before .before .before .before .before .before .before .args .c in
+      let k = c .before .before .before .before .before .before .before .before .before .before .before .before .args .c in
       let q = asked s g k a in
       let x = hub s (k .target) in
-      let r = c .before .before .before .before .before .before .before .hub-at .ensures L s y (g .hubs) (q .named) e in
+      let r = c .before .before .before .before .before .before .before .before .before .hub-at .ensures L s y (g .hubs) (q .named) e in
       let w = c .before .before .first-waiter .ensures L s y (valid-sound s g) (g .waits) (q .named) e in
-      let put = c .before .before .before .if2 .taken in
-      c .on-put .ensures .0 x s (length (s .tasks)) r (g .ranges .range (k .target) (q .named)) (λ b. n b put)
+      let put = c .before .before .before .if3 .taken in
+      c .on-put .ensures .0 x s (length (s .tasks)) r (g .ranges .range (k .target) (q .named)) (λ b. n b put) (λ m. c .before .before .before .before .before .if2 .left (r .kind ∙ m))
       ∙ rw (w, put, c .before .joined .ensures) refl,
 )
 
@@ -62,25 +74,25 @@ first-waiter-requires-2 c κs = search needs
 word-of-requires : tie.Need-word-of-requires
 word-of-requires c κs = search needs
 
-oldest-of-requires : tie.Need-oldest-of-requires
-oldest-of-requires c κs = search needs
+held-at-requires : tie.Need-held-at-requires
+held-at-requires c κs = search needs
 
 on-get-requires : tie.Need-on-get-requires
 on-get-requires c κs = search needs
 
-returns-3 : tie.Need-returns-3
+returns-4 : tie.Need-returns-4
 unfolding onSide sideOf verdict
-returns-3 c = (
-  c .on-get .ensures .1 _ (omega arith) (c .before .before .word-of .ensures .0) (c .before .oldest-of .ensures .0),
+returns-4 c = (
+  c .on-get .ensures .1 _ (omega arith) (c .before .before .word-of .ensures .0) (c .before .held-at .ensures .0),
   λ L s y g a n e.
-      let k = c .before .before .before .before .before .before .before .before .before .before .before .args .c in
+      let k = c .before .before .before .before .before .before .before .before .before .before .before .before .before .args .c in
       let q = asked s g k a in
       let x = hub s (k .target) in
-      let r = c .before .before .before .before .before .before .before .before .hub-at .ensures L s y (g .hubs) (q .named) e in
+      let r = c .before .before .before .before .before .before .before .before .before .before .hub-at .ensures L s y (g .hubs) (q .named) e in
       let w = c .before .before .before .first-waiter2 .ensures L s y (valid-sound s g) (g .waits) (q .named) e in
-      let get : k .side ≡ 2 = ⊎-elim (λ p. absurd (c .before .before .before .before .if2 .left p)) (λ z. ⊎-elim (λ p. p) (λ p. absurd (c .before .before .before .before .before .before .if1 .left (p .0))) z) (q .side) in
-      c .on-get .ensures .0 x s (length (s .tasks)) r (g .ranges .range (k .target) (q .named)) (g .ranges .held (k .target) (q .named))
-      (λ i p. c .before .before .word-of .ensures .1 L s i y (g .tasks) e p (putter-used s g k a i (sym w ∙ p))) (c .before .oldest-of .ensures .1 L s y (q .named) e)
+      let get : k .side ≡ 2 = ⊎-elim (λ p. absurd (c .before .before .before .before .if3 .left p)) (λ z. ⊎-elim (λ p. p) (λ p. absurd (c .before .before .before .before .before .before .before .before .if1 .left (p .0))) z) (q .side) in
+      c .on-get .ensures .0 x s (length (s .tasks)) r (g .ranges .range (k .target) (q .named)) (g .ranges .held (k .target) (q .named)) (λ m. c .before .before .before .before .before .before .if2 .left (r .kind ∙ m))
+      (λ i p. c .before .before .word-of .ensures .1 L s i y (g .tasks) e p (putter-used s g k a i (sym w ∙ p))) (c .before .held-at .ensures .1 L s y (q .named) e)
       ∙ rw (w, get) refl,
 )
 
@@ -92,12 +104,14 @@ judge-spec =
     hub-at-requires
     on-wipe-requires
     returns
+    judge-block-requires
+    returns-2
     first-waiter-requires
     joined-requires
     on-put-requires
-    returns-2
+    returns-3
     first-waiter-requires-2
     word-of-requires
-    oldest-of-requires
+    held-at-requires
     on-get-requires
-    returns-3)
+    returns-4)

@@ -2,7 +2,7 @@
 use Rattle.hubtable.specs.Says.{StoreBelow, storeAfter}
 use Rattle.moves.specs.Moves.{keyOf}
 use Rattle.requests.proofs.Boards.{told, update-fits, update-state, written}
-use Rattle.requests.proofs.Laws.{asked, caller-used, told-sound, told-used}
+use Rattle.requests.proofs.Laws.{asked, caller-used, held, told-sound, told-used}
 use Rattle.requests.proofs.update.Statement.{statement}
 use Rattle.requests.proofs.update.Tie as tie
 use Rattle.rules.specs.Calls.{hold}
@@ -39,7 +39,7 @@ returns c = λ L s y g r b d e.
     let k = a .c in
     let after = storeAfter (written s g k r b) (hub s (k .target) .held) in
     let j = c .before .before .before .before .before .before .before .before .before .before .before .before .joined .ensures in
-    let wrote = rw j at (c .before .before .before .before .before .before .before .before .before .before .hold-hub .ensures L s y (g .hubs) (asked s g k r .named) (rw j (update-fits s g k r b)) e) in
+    let wrote = rw j at (c .before .before .before .before .before .before .before .before .before .before .hold-hub .ensures L s y (g .hubs) (asked s g k r .named) (held s g k r) (rw j (update-fits s g k r b)) e) in
     let said = c .before .before .before .before .before .before .give-answer .ensures L (hold (k .target) 1 after s) y (g .tasks) (caller-used s g k r) wrote in
     (rw j at (c .before .before .meet-all .ensures L (told s g k r b) y (told-sound s g k r 1 0 after) (told-used s g k r 1 0 after) said))
     ∙ ap (words L) (update-state s g k r b (keyOf (a .keys .now)) d)
