@@ -11,7 +11,8 @@ use Rattle.history.proofs.Those.{howMany-append, howMany-below, no-entr
 use Rattle.history.specs.History.{Class, Request, again, asked, howMany, isMet, opened, partOf, removedAt, removedBy, sinceBlank, those, turned, wordsOf}
 use Rattle.history.specs.Statements.{Each}
 use Rattle.lists.proofs.Laws.{boolCase}
-use Rattle.lists.specs.Lists.{bit}
+use Rattle.lists.proofs.Padding.{allZero-at, allZero-replicate}
+use Rattle.lists.specs.Lists.{bit, occ}
 use Rattle.rules.proofs.Accepted.{Asked, caller-ready, hub-tests, on-task, request-tests}
 use Rattle.rules.proofs.Cases.{and-r, sameOr}
 use Rattle.rules.proofs.Changes.{hub-added-other, hub-added-same, inUse, length-addHub}
@@ -21,17 +22,18 @@ use Rattle.rules.proofs.Passing.{length-stop}
 use Rattle.rules.proofs.Quiet.{Other, Quiet, isAddTask, isResume, isSleep, isStart, isSuspend, isTick, isUnknown, isYield, quiet-answer, quiet-refl, quiet-same, quiet-serve}
 use Rattle.rules.proofs.Settled.{answer-same, partners}
 use Rattle.rules.proofs.Standing.{first-waits, listed-waiting}
-use Rattle.rules.proofs.Valid.{GetWaits, Held, MayWait, Valid}
+use Rattle.rules.proofs.Valid.{GetWaits, Held, MayWait, Range, Valid}
 use Rattle.rules.proofs.Verdicts.{after-kind, few, hubAfter}
 use Rattle.rules.specs.Calls.{AddHub, AddTask, Blank, HubRequest, Resume, Service, Sleep, Start, Stop, Suspend, Tick, Unknown, Yield, addHub, blank, grant, mayStop, newHub, serve, settle, stop}
 use Rattle.rules.specs.HubTable.{Verdict, verdict}
 use Rattle.rules.specs.Lists.{answer, answered, firstWaiting, queued}
 use Rattle.rules.specs.Refusals.{goodHub, refusalFor}
-use Rattle.rules.specs.Table.{Board, Event, Fifo, Hub, Kind, NoKind, Port, Resource, Semaphore, State, Task, hub, inactive, kindOf, noHub, owns, sideOf, tab, task}
+use Rattle.rules.specs.Table.{Board, Event, Fifo, Hub, Kind, Memory, NoKind, Port, Resource, Semaphore, State, Task, hub, inactive, kindOf, noHub, owns, sideOf, stored, tab, task}
+use Rattle.rules.specs.WellFormed.{within}
 use Rattle.rules.specs.declared.Call.{Call}
 use borrow.Author.Tests.{eqb-true}
 use lib.Dec.{eqb}
-use lib.ListN.{length}
+use lib.ListN.{length, replicate}
 use mathlib.Core.Bool.{Bool, _&&_, and-false, false, true}
 use mathlib.Core.List.{List, [], _++_, _∷_, append-nil, map}
 use mathlib.Core.Logic.{_≢_, _⊎_, inl, inr}
@@ -98,13 +100,18 @@ module _ (s s′ : State) (rs ms : List Request) (gone : List ℕ) (a : Account 
 
 -- a getter waits at a FIFO only where it is empty
 held-empty : (s : State) → Valid s → (h i : ℕ) → firstWaiting s 2 (hub s h .waiters) ≡ some i → h < length (s .hubs) → kindOf (hub s h .kind) ≡ Fifo → hub s h .held ≡ []
-unfolding GetWaits Held MayWait sideOf
+unfolding GetWaits Held MayWait sideOf stored
 held-empty s g h i e n k =
     let f = first-waits s 2 (hub s h .waiters) i e in
     let m : MayWait (sideOf (task s i .side)) (kindOf (hub s h .kind)) (hub s h) i = g .waits .may h i (listed-waiting s (g .listed) h i (f .0)) in
     let z : hub s h .count ≡ 0 = rw (f .1, k) at m in
     let w : hub s h .count ≡ length (hub s h .held) = rw k at (g .ranges .held h n) in
     no-entries (hub s h .held) (omega (arith, z, w))
+
+-- a Memory hub's count is how many of its blocks are free
+free-counted : (s : State) → Valid s → (h : ℕ) → h < length (s .hubs) → kindOf (hub s h .kind) ≡ Memory → hub s h .count ≡ occ 0 (hub s h .held)
+unfolding Range
+free-counted s g h n k = let r : Range Memory (length (s .tasks)) (hub s h) = rw k at (g .ranges .range h n) in r .4
 
 module _ (key : ℕ → ℕ) (s : State) (rs ms : List Request) (gone : List ℕ) (a : Account s rs ms gone) (g : Valid s) (c : Call) (t : Asked s c) where
   abbrev v : Verdict
@@ -130,7 +137,7 @@ module _ (key : ℕ → ℕ) (s : State) (rs ms : List Request) (gone : List ℕ
       by (inl b) = unfold Share in rw b tt
       by (inr n) =
           rw (turned-settle key s c (t .run) rs (a .agree) v _ _ _ _ (few s c) (λ b _. n b) (partners s (g .listed) c), words-put s c v (t .side), words-got s c v (t .side))
-          (unfold verdict in law-side s (hub s (c .target)) c (t .side) (λ w e k. held-empty s g (c .target) w e (t .named) k))
+          (unfold verdict in law-side s (hub s (c .target)) c (t .side) (λ w e k. held-empty s g (c .target) w e (t .named) k) (free-counted s g (c .target) (t .named)))
 
   share : (h : ℕ) → Share (kindOf (hub s h .kind)) (hub s h) (hub s₁ h) 0 (wordsOf h 1 new) (wordsOf h 2 new)
   share h =
@@ -204,15 +211,16 @@ module _ (key : ℕ → ℕ) (s : State) (rs ms : List Request) (gone : List ℕ
 
 -- ---- Add hub: the new hub has no requests yet
 
-new-balanced : (c : Call) (k : Kind) → goodHub k (c .ticks) (c .word) ≡ true → Balanced k (newHub c) 0 [] []
-unfolding Balanced goodHub newHub
-new-balanced c NoKind e = tt
-new-balanced c Event e = refl
-new-balanced c Semaphore e = refl
-new-balanced c Port e = refl
-new-balanced c Fifo e = refl
-new-balanced c Resource e = omega (arith, owned-none (newHub c) (eqb-true (c .word) 0 (and-r (eqb (c .ticks) 1) _ e)))
-new-balanced c Board e = tt
+new-balanced : (c : Call) (k : Kind) → kindOf (c .target) ≡ k → goodHub k (c .ticks) (c .word) ≡ true → Balanced k (newHub c) 0 [] []
+unfolding Balanced goodHub newHub occ stored
+new-balanced c NoKind q e = tt
+new-balanced c Event q e = refl
+new-balanced c Semaphore q e = refl
+new-balanced c Port q e = refl
+new-balanced c Fifo q e = rw (q, eqb-true (c .word) 0 (and-r (within 1 8 (c .ticks)) _ e))
+new-balanced c Resource q e = omega (arith, owned-none (newHub c) (eqb-true (c .word) 0 (and-r (eqb (c .ticks) 1) _ e)))
+new-balanced c Board q e = tt
+new-balanced c Memory q e = λ b. rw q (omega (arith, allZero-at (replicate (c .ticks) 0) b (allZero-replicate (c .ticks))))
 
 account-addHub : (s : State) (rs ms : List Request) (gone : List ℕ) (c : Call) → Account s rs ms gone → goodHub (kindOf (c .target)) (c .ticks) (c .word) ≡ true
     → Account (addHub (newHub c) s) (map (again (addHub (newHub c) s)) rs) (ms ++ turned Class.met (addHub (newHub c) s) rs) gone
@@ -236,7 +244,7 @@ account-addHub s rs ms gone c a good = record {
     balanced : (h : ℕ) → Balanced (kindOf (hub s′ h .kind)) (hub s′ h) (removedAt h gone) (wordsOf h 1 ms) (wordsOf h 2 ms)
     balanced h =
         sameOr h (length (s .hubs))
-        (λ e. rw (a .beyond h 1 (omega (arith, e)), a .beyond h 2 (omega (arith, e)), a .unowned h (omega (arith, e)), e, hub-added-same (newHub c) s) (unfold newHub in new-balanced c (kindOf (c .target)) good))
+        (λ e. rw (a .beyond h 1 (omega (arith, e)), a .beyond h 2 (omega (arith, e)), a .unowned h (omega (arith, e)), e, hub-added-same (newHub c) s) (unfold newHub in new-balanced c (kindOf (c .target)) refl good))
         (λ n. rw (hub-added-other (newHub c) s h n) (a .balanced h))
 
 -- ---- by service

@@ -5,8 +5,8 @@ use Prim.Native.Nat.{_<_, _≤_, ℕ}
 use Rattle.history.proofs.Stopping.{handed-kind}
 use Rattle.history.specs.History.{boardBy, boardFrom, boardWord, called, partOf, written}
 use Rattle.lists.proofs.Laws.{boolCase}
-use Rattle.rules.proofs.Accepted.{Asked, Sided, on-task, request-tests}
-use Rattle.rules.proofs.Cases.{sameOr}
+use Rattle.rules.proofs.Accepted.{Asked, Sided, hub-tests, on-task, request-tests}
+use Rattle.rules.proofs.Cases.{and-r, sameOr}
 use Rattle.rules.proofs.Changes.{hub-added-other, hub-added-same, length-addHub}
 use Rattle.rules.proofs.Handed.{handed, handed-not, owned-kind, passed-all}
 use Rattle.rules.proofs.Hubs.{SameHubs, core, hub-else, hub-target, hubs-answer, hubs-deactivate, hubs-serve, many-settle, many-stop}
@@ -17,10 +17,10 @@ use Rattle.rules.proofs.Verdicts.{after-kind, hubAfter, update-row}
 use Rattle.rules.specs.Calls.{AddHub, AddTask, Blank, HubRequest, Resume, Service, Sleep, Start, Stop, Suspend, Tick, Unknown, Yield, addHub, blank, deactivate, grant, heir, newHub, serve, settle, stop}
 use Rattle.rules.specs.HubTable.{getBoard, message, met, onGet, onSide, onWipe, verdict}
 use Rattle.rules.specs.Lists.{holding, queued}
-use Rattle.rules.specs.Refusals.{refusalFor}
-use Rattle.rules.specs.Table.{Board, Event, Fifo, Hub, Kind, NoKind, Port, Resource, Semaphore, State, hub, kindOf, noHub, owns, sideOf}
+use Rattle.rules.specs.Refusals.{goodHub, refusalFor}
+use Rattle.rules.specs.Table.{Board, Event, Fifo, Hub, Kind, Memory, NoKind, Port, Resource, Semaphore, State, hub, kindOf, noHub, owns, sideOf, stored}
 use Rattle.rules.specs.declared.Call.{Call}
-use borrow.Author.Tests.{eq-eqb, ne-eqb}
+use borrow.Author.Tests.{eq-eqb, eqb-true, ne-eqb}
 use lib.Dec.{eqb}
 use lib.ListN.{length}
 use mathlib.Core.Bool.{Bool, cond, false, true}
@@ -42,6 +42,7 @@ board-or Port = inr (λ e. clash (cc))
 board-or Fifo = inr (λ e. clash (cc))
 board-or Resource = inr (λ e. clash (cc))
 board-or Board = inl refl
+board-or Memory = inr (λ e. clash (cc))
 
 -- ---- one more call
 
@@ -135,10 +136,16 @@ boards-request key s c cs t m = record {
 
 -- ---- Add hub, Stop
 
-boards-addHub : (s : State) (c : Call) (cs : List Call) → Boards s cs → Boards (addHub (newHub c) s) cs
-boards-addHub s c cs m = record {
+-- a Board is added with start 0, and so unwritten
+new-board : (c : Call) → goodHub (kindOf (c .target)) (c .ticks) (c .word) ≡ true → kindOf (c .target) ≡ Board → newHub c .held ≡ []
+unfolding goodHub newHub stored
+new-board c g b = rw (b, eqb-true (c .word) 0 (and-r (eqb (c .ticks) 1) _ (rw b at g)))
+
+boards-addHub : (s : State) (c : Call) (cs : List Call) → goodHub (kindOf (c .target)) (c .ticks) (c .word) ≡ true → Boards s cs → Boards (addHub (newHub c) s) cs
+boards-addHub s c cs g m = record {
   each = λ h b. sameOr h (length (s .hubs))
-      (λ e. rw (e, hub-added-same (newHub c) s, m .beyond (length (s .hubs)) (omega arith)) (unfold newHub written in refl))
+      (λ e. rw (e, hub-added-same (newHub c) s, m .beyond (length (s .hubs)) (omega arith))
+      (unfold written in new-board c g (unfold newHub in rw (e, hub-added-same (newHub c) s) at b)))
       (λ n. rw (hub-added-other (newHub c) s h n) (m .each h (rw (hub-added-other (newHub c) s h n) at b)));
   beyond = λ h l. m .beyond h (omega (arith, l, length-addHub (newHub c) s));
 }
@@ -183,5 +190,5 @@ boards-serve key Yield s c cs l e m = boards-same s _ cs (hubs-serve key Yield i
 boards-serve key Sleep s c cs l e m = boards-same s _ cs (hubs-serve key Sleep isSleep s c) m
 boards-serve key Tick s c cs l e m = boards-same s _ cs (hubs-serve key Tick isTick s c) m
 boards-serve key AddTask s c cs l e m = boards-same s _ cs (hubs-serve key AddTask isAddTask s c) m
-boards-serve key AddHub s c cs l e m = unfold serve in boards-addHub s c cs m
+boards-serve key AddHub s c cs l e m = unfold serve in boards-addHub s c cs (hub-tests s c e .0) m
 boards-serve key Unknown s c cs l e m = boards-same s _ cs (hubs-serve key Unknown isUnknown s c) m

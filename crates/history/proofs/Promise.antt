@@ -8,11 +8,11 @@ use Rattle.history.proofs.Following.{continues-history, moves-same, own
 use Rattle.history.proofs.Meetings.{met-in}
 use Rattle.history.proofs.Reasons.{class-own, one-met, turned-failed, turned-met, turned-reads, turned-timed, turned-withdrawn}
 use Rattle.history.proofs.Run.{Sound, accepted-service, refusal-other, shown-next, sound-run}
-use Rattle.history.proofs.Those.{each-both, each-imp}
-use Rattle.history.specs.History.{Class, History, Request, Step, asked, at, begun, boardWord, failed, history, howMany, isOwned, metCount, next, nextBy, opened, partOf, removedAt, reread, rowClass, shown, those, timedOut, turned, turnedBy, turnedTo, withdrawn, wordsOf}
+use Rattle.history.proofs.Those.{each-both, each-imp, occ-those}
+use Rattle.history.specs.History.{Class, History, Request, Step, asked, at, begun, boardWord, failed, history, howMany, isOwned, metCount, metWith, next, nextBy, opened, partOf, passed, removedAt, reread, rowClass, shown, those, timedOut, turned, turnedBy, turnedTo, withdrawn, wordsOf}
 use Rattle.history.specs.Statements.{Bears, Begins, Demand3, Each, EachMet, EachRead, Met, MetBy, OneEach, Own, addedAs, requestAt}
 use Rattle.lists.proofs.Laws.{boolCase}
-use Rattle.lists.specs.Lists.{bit}
+use Rattle.lists.specs.Lists.{bit, occ}
 use Rattle.rules.proofs.After.{well-formed-not-2}
 use Rattle.rules.proofs.Promise.{blank-accepted}
 use Rattle.rules.proofs.Valid.{Range}
@@ -20,14 +20,14 @@ use Rattle.rules.specs.Calls.{HubRequest, Service, Stop, Tick, serve, serviceOf
 use Rattle.rules.specs.HubTable.{verdict}
 use Rattle.rules.specs.Refusals.{refusalFor, refusalOf}
 use Rattle.rules.specs.Reply.{tableAfter}
-use Rattle.rules.specs.Table.{Board, Event, Fifo, Hub, Kind, NoKind, Port, Resource, Semaphore, State, editionOf, hub, kindOf, noHub, size}
+use Rattle.rules.specs.Table.{Board, Event, Fifo, Hub, Kind, Memory, NoKind, Port, Resource, Semaphore, State, editionOf, hub, kindOf, noHub, size}
 use Rattle.rules.specs.WellFormed.{urgency}
 use Rattle.rules.specs.declared.Call.{Call}
 use borrow.Author.Tests.{ltb-false, ltb-true}
-use lib.Dec.{ltb}
-use lib.ListN.{List·getD-eq-default, length, length-map}
+use lib.Dec.{eqb, ltb}
+use lib.ListN.{List·getD-eq-default, getD, length, length-map}
 use mathlib.Core.List.{List, []}
-use mathlib.Core.Bool.{false≢true}
+use mathlib.Core.Bool.{_&&_, false≢true}
 use mathlib.Core.Logic.{_≢_, _⊎_, inl, inr}
 use mathlib.Core.Option.{some}
 use mathlib.Core.Path.{_∙_, _≡_, ap, refl, subst, sym}
@@ -78,6 +78,15 @@ module _ (x : History) (g : Sound x) where
       → metCount h 2 (x .requests) ≡ metCount h 1 (x .requests) + removedAt h (x .removed) + bit (isOwned (hub s h))
   unfolding Balanced
   resource h e = omega (arith, balanced h Resource e, count h 1, count h 2)
+
+  -- the met requests that passed on a word
+  with : (h d b : ℕ) → occ b (wordsOf h d (x .met)) ≡ metWith h d b (x .requests)
+  unfolding metWith wordsOf
+  with h d b = occ-those (at h d) passed b (x .met) ∙ g .account .meetings (λ r. at h d r && eqb (passed r) b)
+
+  memory : (h : ℕ) → kindOf (hub s h .kind) ≡ Memory → (b : ℕ) → metWith h 2 b (x .requests) ≡ metWith h 1 b (x .requests) + getD (hub s h .held) b 0
+  unfolding Balanced
+  memory h e b = omega (arith, balanced h Memory e b, with h 1 b, with h 2 b)
 
   -- ---- the next call
 
@@ -130,6 +139,7 @@ module _ (x : History) (g : Sound x) where
     port = λ h e. unfold Balanced in balanced h Port e;
     resource = resource;
     board = g .boards .each;
+    memory = memory;
     reads = reads;
     own = own;
     metMeansMet = λ c. each-next Class.met (λ s′. MetBy s s′ c) c (λ o. turned-met (urgency s) _ s (x .requests) c (g .account .agree) (g .valid) o refl);

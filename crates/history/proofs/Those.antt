@@ -3,7 +3,7 @@ use Prim.Native.Nat.{_+_, _<_, _≤_, suc, zero, ℕ}
 use Rattle.history.specs.History.{howMany, those}
 use Rattle.history.specs.Statements.{Each}
 use Rattle.lists.proofs.Laws.{boolCase}
-use Rattle.lists.specs.Lists.{bit}
+use Rattle.lists.specs.Lists.{bit, occ}
 use Rattle.rules.proofs.Cases.{sameOr}
 use Rattle.rules.specs.Table.{tab}
 use borrow.Author.Tests.{eq-eqb, ltb-false, ltb-true, ne-eqb}
@@ -158,3 +158,12 @@ howMany-below p n h f =
   where
     past-none : ltb h n ≡ false → howMany (λ g. eqb g h) (those p (tab n 0 (λ g. g))) ≡ bit (p h)
     past-none b = boolCase (p h) (λ e. absurd (omega (arith, f e, ltb-false h n b))) (λ e. rw e (past p n 0 h (omega (arith, ltb-false h n b))))
+
+-- how often a word stands among those that pass, mapped
+pub occ-those : {A : Type 0} (p : A → Bool) (f : A → ℕ) (b : ℕ) (xs : List A) → occ b (map f (those p xs)) ≡ howMany (λ x. p x && eqb (f x) b) xs
+unfolding occ those
+occ-those p f b [] = refl
+occ-those p f b (x ∷ xs) =
+    boolCase (p x)
+    (λ q. rw q (boolCase (eqb (f x) b) (λ e. rw e (omega (arith, occ-those p f b xs))) (λ e. rw e (omega (arith, occ-those p f b xs)))))
+    (λ q. rw q (occ-those p f b xs))

@@ -279,6 +279,10 @@ passed r = cond (eqb (r .side) 1) (r .word) (r .received)
 unfoldable pub wordsOf : ℕ → ℕ → List Request → List ℕ
 wordsOf h d rs = map passed (those (at h d) rs)
 
+-- how many of them are met and passed on this word: at a Memory hub (M-107) the number of a block, given back or received
+unfoldable pub metWith : ℕ → ℕ → ℕ → List Request → ℕ
+metWith h d b rs = howMany (λ r. (at h d r && eqb (passed r) b) && isMet r) rs
+
 -- ---- what stands on a Board (M-103), from the calls alone
 
 -- one more accepted request of it: an update writes its word, a read leaves what stands there, a wipe takes it away

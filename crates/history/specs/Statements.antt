@@ -4,14 +4,14 @@
 -- A run: a Blank, accepted, on the words of either edition (`Begins`), and then any steps, refused ones included: calls, any eight
 -- numbers each, and moves to the other edition (M-105); x is its history (History.antt), and x .table the table as it stands.
 use Prim.Native.Nat.{_+_, _<_, _≤_, suc, ℕ}
-use Rattle.history.specs.History.{History, Request, Step, at, boardWord, calls, classOf, down, failed, history, howMany, isMet, isOwned, met, metCount, next, removedAt, rowClass, shown, step, timedOut, turnedTo, unread, up, waiting, waitsBy, withdrawn, wordsOf, written}
+use Rattle.history.specs.History.{History, Request, Step, at, boardWord, calls, classOf, down, failed, history, howMany, isMet, isOwned, met, metCount, metWith, next, removedAt, rowClass, shown, step, timedOut, turnedTo, unread, up, waiting, waitsBy, withdrawn, wordsOf, written}
 use Rattle.lists.specs.Lists.{bit, occ}
 use Rattle.rules.specs.Calls.{Blank, HubRequest, Stop, Tick, serviceOf}
 use Rattle.rules.specs.HubTable.{Meeting, Verdict, message, verdict}
 use Rattle.rules.specs.Lists.{firstWaiting}
 use Rattle.rules.specs.Refusals.{WT, modeOf, refusalOf}
 use Rattle.rules.specs.Reply.{tableAfter}
-use Rattle.rules.specs.Table.{Board, Event, Fifo, Hub, Port, Resource, Semaphore, State, hub, kindOf, owns, task}
+use Rattle.rules.specs.Table.{Board, Event, Fifo, Hub, Memory, Port, Resource, Semaphore, State, hub, kindOf, owns, task}
 use Rattle.rules.specs.WellFormed.{wellFormed}
 use Rattle.rules.specs.declared.Call.{Call}
 use lib.Dec.{eqb}
@@ -200,6 +200,9 @@ pub record Demand3 (x : History) : Type 0 where
   pub board : (h : ℕ) → kindOf (hub (shown (x .table)) h .kind) ≡ Board → hub (shown (x .table)) h .held ≡ written (boardWord h (x .calls))
   -- "every met read bears the word of the last update up to its meeting, with no wipe between": whoever turns met in a call
   pub reads : (c : Call) → Each (Bears x c) (turnedTo met x c)
+  -- Memory (M-107), of each block: met gets that received it less met puts of it is its mark, 1 when it is out and 0 when it is not
+  pub memory : (h : ℕ) → kindOf (hub (shown (x .table)) h .kind) ≡ Memory → (b : ℕ)
+      → metWith h 2 b (x .requests) ≡ metWith h 1 b (x .requests) + getD (hub (shown (x .table)) h .held) b 0
   -- a request is met, fails or waits as the hub table's row for it says: call c opens it, and it takes the next place
   pub own : (c : Call) → serviceOf (c .service) ≡ HubRequest → refusalOf (x .table) c ≡ 0
       → requestAt (next x c) (length (x .requests)) .class ≡ rowClass (verdict (shown (x .table)) c) c
