@@ -2,6 +2,7 @@ pub mod Account
 pub mod Again
 pub mod Asked
 pub mod Balance
+pub mod Blocks
 pub mod Boards
 pub mod Bound
 pub mod Classes

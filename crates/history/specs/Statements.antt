@@ -1,13 +1,13 @@
--- Demand 3: what holds of every run. `Demand3` is the whole of it, a field for each sentence; `EachMet`, `EachRead` and `OneEach`
--- are consequences, said by themselves. The proofs are elsewhere: `demand3`, `each-met`, `each-read`, `one-each` of
+-- Demand 3: what holds of every run. `Demand3` is the whole of it, a field for each sentence; `EachMet`, `EachRead`, `OneEach` and
+-- `Blocks` are consequences, said by themselves. The proofs are elsewhere: `demand3`, `each-met`, `each-read`, `one-each`, `blocks` of
 -- proofs/Promise.antt.
 -- A run: a Blank, accepted, on the words of either edition (`Begins`), and then any steps, refused ones included: calls, any eight
 -- numbers each, and moves to the other edition (M-105); x is its history (History.antt), and x .table the table as it stands.
-use Prim.Native.Nat.{_+_, _<_, _≤_, suc, ℕ}
-use Rattle.history.specs.History.{History, Request, Step, at, boardWord, calls, classOf, down, failed, history, howMany, isMet, isOwned, met, metCount, metWith, next, removedAt, rowClass, shown, step, timedOut, turnedTo, unread, up, waiting, waitsBy, withdrawn, wordsOf, written}
+use Prim.Native.Nat.{_+_, _<_, _≤_, pred, suc, ℕ}
+use Rattle.history.specs.History.{Class, History, Request, Step, at, boardWord, calls, classOf, down, failed, history, howMany, isMet, isOwned, met, metCount, metWith, next, removedAt, rowClass, shown, step, timedOut, turnedTo, unread, up, waiting, waitsBy, withdrawn, wordsOf, written}
 use Rattle.lists.specs.Lists.{bit, occ}
 use Rattle.rules.specs.Calls.{Blank, HubRequest, Stop, Tick, serviceOf}
-use Rattle.rules.specs.HubTable.{Meeting, Verdict, message, verdict}
+use Rattle.rules.specs.HubTable.{Meeting, Verdict, isOut, message, notNow, verdict}
 use Rattle.rules.specs.Lists.{firstWaiting}
 use Rattle.rules.specs.Refusals.{WT, modeOf, refusalOf}
 use Rattle.rules.specs.Reply.{tableAfter}
@@ -15,10 +15,10 @@ use Rattle.rules.specs.Table.{Board, Event, Fifo, Hub, Memory, Port, Resource, 
 use Rattle.rules.specs.WellFormed.{wellFormed}
 use Rattle.rules.specs.declared.Call.{Call}
 use lib.Dec.{eqb}
-use lib.ListN.{getD, length}
+use lib.ListN.{getD, length, set}
 use mathlib.Core.Bool.{Bool, _&&_, false, true}
 use mathlib.Core.List.{List, [], _++_, _∷_}
-use mathlib.Core.Logic.{_≢_, _⊎_}
+use mathlib.Core.Logic.{_↔_, _≢_, _⊎_}
 use mathlib.Core.Option.{some}
 use mathlib.Core.Path.{_≡_}
 
@@ -250,3 +250,48 @@ EachRead x ds = Each (λ r. r .class ≡ met → InOne (λ x c r. Met x c r × B
 abbrev pub OneEach : History → Type 0
 OneEach x =
     (c : Call) (h d : ℕ) → kindOf (hub (shown (x .table)) h .kind) ≡ Fifo → howMany (at h d) (turnedTo met x c) ≤ 1
+
+-- ---- M-107, said by themselves: what holds of a Memory hub h in every run
+
+-- no block of it is free
+abbrev pub NoneFree : State → ℕ → Type 0
+NoneFree s h = (b : ℕ) → b < hub s h .limit → isOut b (hub s h) ≡ true
+
+-- block b is free, and every lower one is out
+pub record Lowest (s : State) (h b : ℕ) : Type 0 where
+  pub inside : b < hub s h .limit
+  pub free : isOut b (hub s h) ≡ false
+  pub lower : (j : ℕ) → j < b → isOut j (hub s h) ≡ true
+
+-- call c is a put (d = 1) or a get (d = 2) at it, and accepted
+pub record Asks (x : History) (h d : ℕ) (c : Call) : Type 0 where
+  pub service : serviceOf (c .service) ≡ HubRequest
+  pub accepted : refusalOf (x .table) c ≡ 0
+  pub target : c .target ≡ h
+  pub side : c .side ≡ d
+
+-- the class of the request that call c opens
+abbrev pub classHad : History → Call → Class
+classHad x c = requestAt (next x c) (length (x .requests)) .class
+
+-- task i is met with block b in s′: it waited first at hub h
+pub record GoesTo (s s′ : State) (h b i : ℕ) : Type 0 where
+  pub first : firstWaiting s 2 (hub s h .waiters) ≡ some i
+  pub met : classOf (task s′ i) ≡ met
+  pub word : task s′ i .word ≡ b
+  pub out : isOut b (hub s′ h) ≡ true
+
+pub record Blocks (x : History) (h : ℕ) : Type 0 where
+  -- "Met gets less met puts is the number of blocks out"
+  pub out : metCount h 2 (x .requests) ≡ metCount h 1 (x .requests) + occ 1 (hub (shown (x .table)) h .held)
+  -- no block is out twice: at any time it was received at most once more than it was given back
+  pub once : (b : ℕ) → metWith h 2 b (x .requests) ≤ suc (metWith h 1 b (x .requests))
+  -- "Only "not now" holds back a get, and that exactly when no block is free"
+  pub heldBack : (c : Call) → Asks x h 2 c → (verdict (shown (x .table)) c ≡ notNow) ↔ NoneFree (shown (x .table)) h
+  pub only : (c : Call) → Asks x h 2 c → (verdict (shown (x .table)) c ≢ notNow) → classHad x c ≡ met
+  -- "a returned block is used again": a met put of it leaves it free, or with the getter that waited first; and the lowest free block is
+  -- the next that a get receives
+  pub returned : (c : Call) → Asks x h 1 c → classHad x c ≡ met
+      → (isOut (message c) (hub (shown (next x c .table)) h) ≡ false) ⊎ ((i : ℕ) × GoesTo (shown (x .table)) (shown (next x c .table)) h (message c) i)
+  pub usedAgain : (c : Call) → Asks x h 2 c → (b : ℕ) → Lowest (shown (x .table)) h b
+      → verdict (shown (x .table)) c ≡ Verdict.met (pred (hub (shown (x .table)) h .count)) (set (hub (shown (x .table)) h .held) b 1) b []

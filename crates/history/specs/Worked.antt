@@ -1,6 +1,6 @@
--- Five runs worked out over the tables themselves, by computation: the marked calls of document 01, one with a Stop of a task
--- that waits, one with a Stop of a task that owns a Resource (M-101), one of a Board (M-103), one that moves its table while
--- requests wait (M-105).
+-- Six runs worked out over the tables themselves, by computation: the marked calls of document 01, one with a Stop of a task
+-- that waits, one with a Stop of a task that owns a Resource (M-101), one of a Board (M-103), one of a Memory hub (M-107), one that
+-- moves its table while requests wait (M-105).
 -- A line for each step behind the Blank, a line for each request that the calls opened; refused calls open none.
 use Prim.Native.Nat.{ℕ}
 use Rattle.history.specs.History.{Class, History, Request, Step, again, asked, begun, called, calls, classBy, classOf, down, failed, goneOn, history, made, met, metCount, next, nextBy, opened, partOf, removedAt, removedBy, reread, shown, sinceBlank, step, those, timedOut, turned, turnedBy, turnedTo, up, waiting, withdrawn, wordsOf}
@@ -118,6 +118,24 @@ boarded =
     ∷ call 1 1 0 1 1 0 0 0  -- writes 0, a word as any other
     ∷ []
 
+-- a Memory hub of two blocks: both go out, a wrong number and a free block come back in vain, a returned block is used again, by the
+-- next get and by the getter that waits
+unfoldable pub lent : List Step
+lent =
+    call 9 0 2 1 0 0 0 0  -- task 0, priority 2, started
+    ∷ call 10 0 7 0 0 2 2 0  -- hub 0, a Memory hub of 2 blocks
+    ∷ call 1 0 0 2 2 0 0 0  -- task 0 gets block 0
+    ∷ call 1 0 0 2 1 0 0 0  -- and block 1
+    ∷ call 1 0 0 2 2 0 0 0  -- and another under NW: none is free, failed
+    ∷ call 1 0 0 1 1 0 2 0  -- gives back 2, which is no block: failed
+    ∷ call 1 0 0 1 1 0 0 0  -- gives back block 0
+    ∷ call 1 0 0 1 1 0 0 0  -- and once more: it isn't out, failed
+    ∷ call 1 0 0 2 1 0 0 0  -- gets block 0 again
+    ∷ call 9 0 1 1 0 0 0 0  -- task 1, priority 1, started
+    ∷ call 1 1 0 2 1 0 0 0  -- task 1 gets: none is free, it waits
+    ∷ call 1 0 0 1 3 4 1 0  -- task 0 gives back block 1: it goes to task 1
+    ∷ []
+
 -- a table that moves to edition 2 while a request waits, and back while another does
 unfoldable pub moved : List Step
 moved =
@@ -196,6 +214,25 @@ pub worked : (
       held = 0 ∷ [];
     }
     ) × (
+    shows lent ≡ record {
+      requests =
+          row 0 0 2 0 met 0
+          ∷ row 0 0 2 0 met 1
+          ∷ row 0 0 2 0 failed 0
+          ∷ row 0 0 1 2 failed 0
+          ∷ row 0 0 1 0 met 0
+          ∷ row 0 0 1 0 failed 0
+          ∷ row 0 0 2 0 met 0
+          ∷ row 1 0 2 0 met 1
+          ∷ row 0 0 1 1 met 0
+          ∷ [];
+      puts = 0 ∷ 1 ∷ [];
+      gets = 0 ∷ 1 ∷ 0 ∷ 1 ∷ [];
+      removed = 0;
+      count = 0;
+      held = 1 ∷ 1 ∷ [];
+    }
+    ) × (
     shows moved ≡ record {
       requests = row 0 0 2 0 met 4294967303 ∷ row 1 0 1 4294967303 met 0 ∷ row 0 1 2 0 timedOut 0 ∷ [];
       puts = 4294967303 ∷ [];
@@ -205,5 +242,5 @@ pub worked : (
       held = [];
     }
     )
-unfolding boarded marked moved passes shows stopped
-worked = (refl, refl, refl, refl, refl)
+unfolding boarded lent marked moved passes shows stopped
+worked = (refl, refl, refl, refl, refl, refl)

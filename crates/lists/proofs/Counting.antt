@@ -1,6 +1,6 @@
 -- How often a number stands in a list. In order: an entry by itself; a number joins, a number leaves; the numbers behind a
 -- place; a list in which each number stands at most once, and only numbers below T, has at most T entries; an entry replaced; a
--- number that stands in a list, and its first place.
+-- number that stands in a list, and its first place; lists in which each number stands as often.
 -- Not here: the same list in words (Laws.antt). Assumes nothing.
 use Prim.Native.Nat.{_+_, _<_, _≤_, suc, zero, ℕ}
 use Rattle.lists.proofs.Laws.{boolCase}
@@ -125,3 +125,30 @@ before-first v (x ∷ xs) j h =
     there : (j : ℕ) → j < suc (indexOf v xs) → x ≢ v → ((i : ℕ) → i < indexOf v xs → getD xs i 0 ≢ v) → getD (x ∷ xs) j 0 ≢ v
     there zero k n f = n
     there (suc j) k n f = f j (omega arith)
+
+-- ---- lists in which each number stands as often are of one length
+
+none-stands : (ys : List ℕ) → ((i : ℕ) → occ i ys ≡ 0) → length ys ≡ 0
+none-stands [] e = refl
+none-stands (y ∷ ys) e = absurd (omega (arith, e y, occ-here y ys))
+
+-- by one entry, where it holds of shorter lists
+same-step : (n : ℕ) (xs ys : List ℕ) → length xs ≤ suc n → ((i : ℕ) → occ i xs ≡ occ i ys)
+    → ((ps qs : List ℕ) → length ps ≤ n → ((i : ℕ) → occ i ps ≡ occ i qs) → length ps ≡ length qs) → length xs ≡ length ys
+unfolding occ
+same-step n [] ys h e rest = sym (none-stands ys (λ i. sym (e i)))
+same-step n (x ∷ xs) ys h e rest =
+    let shorter : length (without x (x ∷ xs)) ≤ n = omega (arith, occ-here x xs, length-without x (x ∷ xs)) in
+    let same = rest (without x (x ∷ xs)) (without x ys) shorter (λ i. occ-without x i (x ∷ xs) ∙ rw (e i) (sym (occ-without x i ys))) in
+    omega (arith, e x, length-without x (x ∷ xs), length-without x ys, same)
+
+same-most : (n : ℕ) (xs ys : List ℕ) → length xs ≤ n → ((i : ℕ) → occ i xs ≡ occ i ys) → length xs ≡ length ys
+same-most zero xs ys h e = none xs h e
+  where
+    none : (xs : List ℕ) → length xs ≤ 0 → ((i : ℕ) → occ i xs ≡ occ i ys) → length xs ≡ length ys
+    none [] h e = sym (none-stands ys (λ i. unfold occ in sym (e i)))
+    none (x ∷ xs) h e = absurd (omega arith)
+same-most (suc n) xs ys h e = same-step n xs ys h e (same-most n)
+
+pub same-length : (xs ys : List ℕ) → ((i : ℕ) → occ i xs ≡ occ i ys) → length xs ≡ length ys
+same-length xs ys e = same-most (length xs) xs ys (omega arith) e
