@@ -1,8 +1,10 @@
--- Demand 3, for every run: `demand3`, and its consequences `each-met`, `each-read` and `one-each` (the statements: specs/Statements.antt).
+-- Demand 3, for every run: `demand3`, and its consequences `each-met`, `each-read`, `one-each` and `blocks` (the statements:
+-- specs/Statements.antt).
 -- A Blank on any words of either size begins a run (`blank-begins`).
 use Prim.Native.Nat.{_+_, _<_, _≤_, suc, zero, ℕ}
 use Rattle.history.proofs.Again.{Entry}
 use Rattle.history.proofs.Balance.{Balanced}
+use Rattle.history.proofs.Blocks.{else-met, goes-back, held-back, lowest-next, mark-low, so-many-out}
 use Rattle.history.proofs.Bound.{bound}
 use Rattle.history.proofs.Following.{continues-history, moves-same, own-place}
 use Rattle.history.proofs.Meetings.{met-in}
@@ -10,13 +12,14 @@ use Rattle.history.proofs.Reasons.{class-own, one-met, turned-failed, t
 use Rattle.history.proofs.Run.{Sound, accepted-service, refusal-other, shown-next, sound-run}
 use Rattle.history.proofs.Those.{each-both, each-imp, occ-those}
 use Rattle.history.specs.History.{Class, History, Request, Step, asked, at, begun, boardWord, failed, history, howMany, isOwned, metCount, metWith, next, nextBy, opened, partOf, passed, removedAt, reread, rowClass, shown, those, timedOut, turned, turnedBy, turnedTo, withdrawn, wordsOf}
-use Rattle.history.specs.Statements.{Bears, Begins, Demand3, Each, EachMet, EachRead, Met, MetBy, OneEach, Own, addedAs, requestAt}
+use Rattle.history.specs.Statements.{Asks, Bears, Begins, Blocks, Demand3, Each, EachMet, EachRead, Met, MetBy, OneEach, Own, addedAs, classHad, requestAt}
 use Rattle.lists.proofs.Laws.{boolCase}
 use Rattle.lists.specs.Lists.{bit, occ}
+use Rattle.rules.proofs.Accepted.{Asked, request-tests}
 use Rattle.rules.proofs.After.{well-formed-not-2}
 use Rattle.rules.proofs.Promise.{blank-accepted}
 use Rattle.rules.proofs.Valid.{Range}
-use Rattle.rules.specs.Calls.{HubRequest, Service, Stop, Tick, serve, serviceOf}
+use Rattle.rules.specs.Calls.{HubRequest, Service, Stop, Tick, serve, serviceOf, settle}
 use Rattle.rules.specs.HubTable.{verdict}
 use Rattle.rules.specs.Refusals.{refusalFor, refusalOf}
 use Rattle.rules.specs.Reply.{tableAfter}
@@ -161,6 +164,33 @@ module _ (x : History) (g : Sound x) where
       (λ o. one-met (urgency s) _ s (x .requests) c (g .account .agree) (g .valid) o h d e)
       (λ s′. unfold those in omega arith)
 
+  -- ---- M-107, of a Memory hub
+
+  module _ (h : ℕ) (e : kindOf (hub s h .kind) ≡ Memory) where
+    used : h < length (s .hubs)
+    used = in-use h Memory e (λ q. let z : _≡_ {A = ℕ} 0 1 = cc in omega arith)
+
+    asked-of : (d : ℕ) (c : Call) → Asks x h d c → Asked s c
+    asked-of d c a = request-tests s (g .valid .listed) c (rw (a .service) at (accepted-service x c (a .accepted)))
+
+    class-had : (d : ℕ) (c : Call) → Asks x h d c → classHad x c ≡ rowClass (verdict s c) c
+    class-had d c a = own c (a .service) (a .accepted)
+
+    next-table : (d : ℕ) (c : Call) → Asks x h d c → shown (next x c .table) ≡ settle (urgency s) (verdict s c) s c
+    unfolding next nextBy serve
+    next-table d c a = rw (a .accepted) (shown-next x c (a .accepted) ∙ rw (a .service) refl)
+
+    sound-blocks : Blocks x h
+    unfolding Balanced
+    sound-blocks = record {
+      out = omega (arith, so-many-out _ _ (hub s h .held) (balanced h Memory e) (mark-low s (g .valid) h used e), count h 1, count h 2);
+      once = λ b. omega (arith, memory h e b, mark-low s (g .valid) h used e b);
+      heldBack = λ c a. held-back s (g .valid) h used e c (a .target) (a .side);
+      only = λ c a n. class-had 2 c a ∙ else-met s (g .valid) h used e c (a .target) (a .side) n;
+      returned = λ c a m. rw (next-table 1 c a) (goes-back s (g .valid) h used e c (a .target) (urgency s) (asked-of 1 c a) (a .side) (sym (class-had 1 c a) ∙ m));
+      usedAgain = λ c a. lowest-next s (g .valid) h used e c (a .target) (a .side);
+    }
+
 -- ---- every run
 
 pub demand3 : (w : List ℕ) (b : Call) → Begins w b → (ds : List Step) → Demand3 (history (begun (tableAfter w b)) ds)
@@ -183,3 +213,7 @@ each-read w b g ds =
 
 pub one-each : (w : List ℕ) (b : Call) → Begins w b → (ds : List Step) → OneEach (history (begun (tableAfter w b)) ds)
 one-each w b g ds = sound-one _ (sound-run w b g ds)
+
+pub blocks : (w : List ℕ) (b : Call) → Begins w b → (ds : List Step) → (h : ℕ)
+    → kindOf (hub (shown (history (begun (tableAfter w b)) ds .table)) h .kind) ≡ Memory → Blocks (history (begun (tableAfter w b)) ds) h
+blocks w b g ds h e = sound-blocks _ (sound-run w b g ds) h e
