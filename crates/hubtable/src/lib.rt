@@ -203,20 +203,19 @@ fn get_board(h: HubRecord, word: u64) -> Verdict
 }
 
 // Memory: "Put gives a block back; a number not out is FAIL in every mode. With getters waiting, the block returned goes to the first
-// and stays marked." Where every block is free none is out.
-pub fn put_memory(h: HubRecord, waiter: u32, word: u64, out: bool) -> Verdict
-    ensures { λ r. ⌜ ((x : Hub) (T : ℕ) → RecordOf h x → Range Memory T x → Held Memory x → out ≡ isOut word x
-        → says (x .held) r ≡ putMemory (first waiter) x word) ⌝ }
-    ensures { λ r. ⌜ ((b : ℕ) → 0 < b → word < b → Below b r) ⌝ }
+// and stays marked." Where a block is out, not all are free.
+pub fn put_memory(h: HubRecord, waiter: u32, block: u64, out: bool) -> Verdict
+    ensures { λ r. ⌜ ((x : Hub) (T : ℕ) → RecordOf h x → Range Memory T x → Held Memory x → out ≡ isOut block x
+        → says (x .held) r ≡ putMemory (first waiter) x block) ⌝ }
+    ensures { λ r. ⌜ ((b : ℕ) → 0 < b → block < b → Below b r) ⌝ }
 {
-    if h.limit <= h.count {
-        return Verdict::Fail;
-    }
     if out {
         if waiter != 0 {
-            return pair(h.count, Store::Keep, 0, waiter, word);
+            return pair(h.count, Store::Keep, 0, waiter, block);
         }
-        return alone(h.count + 1, Store::Back(word), 0);
+        if h.limit > h.count {
+            return alone(h.count + 1, Store::Back(block), 0);
+        }
     }
     Verdict::Fail
 }
