@@ -10,16 +10,15 @@ use Rattle.rules.proofs.Numbers.{resource-number}
 use Rattle.rules.proofs.Reading.{read-hub, read-tasks}
 use Rattle.rules.proofs.Room.{stored-le}
 use Rattle.rules.proofs.Tests.{t-kind}
-use Rattle.rules.proofs.Valid.{Range}
-use Rattle.rules.specs.Table.{Board, Fifo, Hub, Layout, heldIn, hub, hubAt, hubsAt, inactive, kindOf, read, storePart, storeSize, stored, storesAt, task, waitPart, waitsAt}
+use Rattle.rules.specs.Table.{Hub, Layout, heldIn, hub, hubAt, hubsAt, inactive, kindOf, read, storePart, storeSize, stored, storesAt, task, waitPart, waitsAt}
 use Rattle.rules.specs.WellFormed.{forAll, kindRight, ownerRight, storeRight, within}
 use Rattle.wellformed.proofs.Parts.{so-many}
 use Rattle.wellformed.proofs.Turns.{entry-side, entry-state, forAll-both, forAll-fail, forAll-none, forAll-step, numbers-end}
 use Rattle.wellformed.specs.Walks.{Marked, Marks, Used, bodyTest, hubRight, kindTest, marksOf, marksTest, may, metAt, ownerOf, ownerTest, queueRight, queueTest, storeTest, waitsOf, walks}
-use borrow.Author.Tests.{eq-eqb, eqb-true, le-leb, lt-leb, ne-eqb}
+use borrow.Author.Tests.{eq-eqb, le-leb, lt-leb, ne-eqb}
 use lib.Dec.{eqb, eqb·suc-zero}
 use lib.ListN.{List·getD-eq-default, drop, getD, length, length-take, take}
-use mathlib.Core.Bool.{Bool, _&&_, _||_, and-assoc, cond, false, false≢true, not, true}
+use mathlib.Core.Bool.{Bool, _&&_, and-assoc, false, false≢true, not, true}
 use mathlib.Core.List.{List, [], _∷_}
 use mathlib.Core.Path.{_∙_, _≡_, ap, refl, sym}
 use native.Mathlib.Nat.{add-zero}
