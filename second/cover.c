@@ -97,6 +97,80 @@ typedef enum { CLASS_0, LOW_ONLY, HIGH_ONLY, BOTH_WORDS, CLASSES } message_class
     ROW(WIPE_0, "wipe: of a written 0")                                         \
     ROW(WIPE_UNWRITTEN, "wipe: without a word, nobody waits")                   \
     ROW(WIPE_AWAITED, "wipe: without a word, readers go on waiting")            \
+    ROW(BLOCK_GOT_0, "blocks: a get takes block 0")                             \
+    ROW(BLOCK_GOT_1, "blocks: a get takes block 1")                             \
+    ROW(BLOCK_GOT_2, "blocks: a get takes block 2")                             \
+    ROW(BLOCK_GOT_3, "blocks: a get takes block 3")                             \
+    ROW(BLOCK_GOT_4, "blocks: a get takes block 4")                             \
+    ROW(BLOCK_GOT_5, "blocks: a get takes block 5")                             \
+    ROW(BLOCK_GOT_6, "blocks: a get takes block 6")                             \
+    ROW(BLOCK_GOT_7, "blocks: a get takes block 7")                             \
+    ROW(BLOCK_FREED_0, "blocks: a put brings block 0 back")                     \
+    ROW(BLOCK_FREED_1, "blocks: a put brings block 1 back")                     \
+    ROW(BLOCK_FREED_2, "blocks: a put brings block 2 back")                     \
+    ROW(BLOCK_FREED_3, "blocks: a put brings block 3 back")                     \
+    ROW(BLOCK_FREED_4, "blocks: a put brings block 4 back")                     \
+    ROW(BLOCK_FREED_5, "blocks: a put brings block 5 back")                     \
+    ROW(BLOCK_FREED_6, "blocks: a put brings block 6 back")                     \
+    ROW(BLOCK_FREED_7, "blocks: a put brings block 7 back")                     \
+    ROW(BLOCK_PASSED_0, "blocks: a put of block 0 meets a getter")              \
+    ROW(BLOCK_PASSED_1, "blocks: a put of block 1 meets a getter")              \
+    ROW(BLOCK_PASSED_2, "blocks: a put of block 2 meets a getter")              \
+    ROW(BLOCK_PASSED_3, "blocks: a put of block 3 meets a getter")              \
+    ROW(BLOCK_PASSED_4, "blocks: a put of block 4 meets a getter")              \
+    ROW(BLOCK_PASSED_5, "blocks: a put of block 5 meets a getter")              \
+    ROW(BLOCK_PASSED_6, "blocks: a put of block 6 meets a getter")              \
+    ROW(BLOCK_PASSED_7, "blocks: a put of block 7 meets a getter")              \
+    ROW(BLOCK_NONE_1, "blocks: not now, all of 1 out")                          \
+    ROW(BLOCK_NONE_2, "blocks: not now, all of 2 out")                          \
+    ROW(BLOCK_NONE_3, "blocks: not now, all of 3 out")                          \
+    ROW(BLOCK_NONE_4, "blocks: not now, all of 4 out")                          \
+    ROW(BLOCK_NONE_5, "blocks: not now, all of 5 out")                          \
+    ROW(BLOCK_NONE_6, "blocks: not now, all of 6 out")                          \
+    ROW(BLOCK_NONE_7, "blocks: not now, all of 7 out")                          \
+    ROW(BLOCK_NONE_8, "blocks: not now, all of 8 out")                          \
+    ROW(BLOCK_GOT_W, "blocks: a get met under W")                               \
+    ROW(BLOCK_GOT_NW, "blocks: a get met under NW")                             \
+    ROW(BLOCK_GOT_WT, "blocks: a get met under WT")                             \
+    ROW(BLOCK_FREED_W, "blocks: a put met alone under W")                       \
+    ROW(BLOCK_FREED_NW, "blocks: a put met alone under NW")                     \
+    ROW(BLOCK_FREED_WT, "blocks: a put met alone under WT")                     \
+    ROW(BLOCK_PASSED_W, "blocks: a put meets a getter under W")                 \
+    ROW(BLOCK_PASSED_NW, "blocks: a put meets a getter under NW")               \
+    ROW(BLOCK_PASSED_WT, "blocks: a put meets a getter under WT")               \
+    ROW(BLOCK_GOT_FIRST, "blocks: a get while every block is in")               \
+    ROW(BLOCK_GOT_LAST, "blocks: a get takes the only one left")                \
+    ROW(BLOCK_GOT_BELOW, "blocks: a get takes one below one that is out")       \
+    ROW(BLOCK_GOT_BETWEEN, "blocks: a get takes one of several, above one that is out") \
+    ROW(BLOCK_FREED_FIRST, "blocks: a put while every block is out, nobody waits") \
+    ROW(BLOCK_FREED_LAST, "blocks: a put of the only one that is out")          \
+    ROW(BLOCK_FREED_WORD, "blocks: a put met whose caller had a word")          \
+    ROW(BLOCK_PASSED_WORD, "blocks: a put meets a getter, its caller had a word") \
+    ROW(BLOCK_PASSED_SUSPENDED, "blocks: a suspended getter is met")            \
+    ROW(BLOCK_PASSED_TICKS, "blocks: a getter with ticks left is met")          \
+    ROW(BLOCK_PASSED_NO_LIMIT, "blocks: a getter without limit is met")         \
+    ROW(BLOCK_PASSED_URGENT, "blocks: a getter met runs next")                  \
+    ROW(BLOCK_PASSED_LEAVES, "blocks: a getter is met, others go on waiting")   \
+    ROW(BLOCK_PASSED_15, "blocks: a getter is met, 14 go on waiting")           \
+    ROW(BLOCK_IN_FAIL_W, "blocks: FAIL under W, a block that is in")            \
+    ROW(BLOCK_IN_FAIL_NW, "blocks: FAIL under NW, a block that is in")          \
+    ROW(BLOCK_IN_FAIL_WT, "blocks: FAIL under WT, a block that is in")          \
+    ROW(BLOCK_LIMIT_FAIL_W, "blocks: FAIL under W, the number is the limit")    \
+    ROW(BLOCK_LIMIT_FAIL_NW, "blocks: FAIL under NW, the number is the limit")  \
+    ROW(BLOCK_LIMIT_FAIL_WT, "blocks: FAIL under WT, the number is the limit")  \
+    ROW(BLOCK_PAST_FAIL_W, "blocks: FAIL under W, a number above the limit")    \
+    ROW(BLOCK_PAST_FAIL_NW, "blocks: FAIL under NW, a number above the limit")  \
+    ROW(BLOCK_PAST_FAIL_WT, "blocks: FAIL under WT, a number above the limit")  \
+    ROW(BLOCK_PAST_FAIL_STORE, "blocks: FAIL, a number past the limit and below 8") \
+    ROW(BLOCK_PAST_FAIL_8, "blocks: FAIL, number 8")                            \
+    ROW(BLOCK_FAIL_AWAITED, "blocks: FAIL while getters wait")                  \
+    ROW(BLOCK_HIGH_FAIL_W, "blocks: FAIL under W, a high word")                 \
+    ROW(BLOCK_HIGH_FAIL_NW, "blocks: FAIL under NW, a high word")               \
+    ROW(BLOCK_HIGH_FAIL_WT, "blocks: FAIL under WT, a high word")               \
+    ROW(BLOCK_HIGH_OUT, "blocks: FAIL, a high word over a block that is out")   \
+    ROW(BLOCK_HIGH_IN, "blocks: FAIL, a high word over a block that is in")     \
+    ROW(BLOCK_HIGH_AWAITED, "blocks: FAIL, a high word over one out, getters wait") \
+    ROW(BLOCK_SUSPENDED_TIMED_OUT, "blocks: a suspended getter timed out")      \
     ROW(START_OK, "Start: inactive")                                            \
     ROW(START_READY, "Start FAIL: ready")                                       \
     ROW(START_WAITING, "Start FAIL: waiting")                                   \
@@ -172,7 +246,10 @@ typedef enum { CLASS_0, LOW_ONLY, HIGH_ONLY, BOTH_WORDS, CLASSES } message_class
     ROW(ADD_FIFO, "Add hub: FIFO")                                              \
     ROW(ADD_RESOURCE, "Add hub: Resource")                                      \
     ROW(ADD_BOARD, "Add hub: Board")                                            \
+    ROW(ADD_MEMORY, "Add hub: Memory")                                          \
     ROW(ADD_SEMAPHORE_MAX, "Add hub: Semaphore, limit 65535")                   \
+    ROW(ADD_MEMORY_1, "Add hub: Memory, 1 block")                               \
+    ROW(ADD_MEMORY_8, "Add hub: Memory, 8 blocks")                              \
     ROW(ADD_HUB_16TH, "Add hub: the 16th")                                      \
     ROW(BLANK_DAMAGED, "Blank: on a damaged table")                             \
     ROW(LENGTH_0, "refusal 1: 0 words")                                         \
@@ -211,6 +288,8 @@ typedef enum { CLASS_0, LOW_ONLY, HIGH_ONLY, BOTH_WORDS, CLASSES } message_class
     ROW(MOVE_HELD, "move: a FIFO holds words")                                  \
     ROW(MOVE_HELD_8, "move: a FIFO holds 8 words")                              \
     ROW(MOVE_BOARD, "move: a Board is written")                                 \
+    ROW(MOVE_BLOCKS, "move: blocks of a Memory are out")                        \
+    ROW(MOVE_BLOCKS_8, "move: 8 blocks of a Memory are out")                    \
     ROW(MOVE_OWNED, "move: a Resource is owned")                                \
     ROW(MOVE_1_SOURCE, "move refusal 1: the source's length alone")             \
     ROW(MOVE_1_DESTINATION, "move refusal 1: the destination's length alone")   \
@@ -319,6 +398,7 @@ typedef enum { CLASS_0, LOW_ONLY, HIGH_ONLY, BOTH_WORDS, CLASSES } message_class
     ROW(SIDE_3_PORT, "refusal 6: Hub request, side 3 at a Port")                \
     ROW(SIDE_3_FIFO, "refusal 6: Hub request, side 3 at a FIFO")                \
     ROW(SIDE_3_RESOURCE, "refusal 6: Hub request, side 3 at a Resource")        \
+    ROW(SIDE_3_MEMORY, "refusal 6: Hub request, side 3 at a Memory")            \
     ROW(MODE_0, "refusal 6: Hub request, mode 0")                               \
     ROW(MODE_ABOVE, "refusal 6: Hub request, mode above 3")                     \
     ROW(W_TICKS, "refusal 6: Hub request, ticks under W")                       \
@@ -334,7 +414,7 @@ typedef enum { CLASS_0, LOW_ONLY, HIGH_ONLY, BOTH_WORDS, CLASSES } message_class
     ROW(PRIORITY_ABOVE, "refusal 6: Add task, priority above 256")              \
     ROW(TASK_SIDE, "refusal 6: Add task, side above 1")                         \
     ROW(KIND_0, "refusal 6: Add hub, kind 0")                                   \
-    ROW(KIND_ABOVE, "refusal 6: Add hub, kind above 6")                         \
+    ROW(KIND_ABOVE, "refusal 6: Add hub, kind above 7")                         \
     ROW(EVENT_LIMIT_0, "refusal 6: Add hub, Event, limit 0")                    \
     ROW(EVENT_LIMIT, "refusal 6: Add hub, Event, limit above 1")                \
     ROW(EVENT_START, "refusal 6: Add hub, Event, start")                        \
@@ -352,6 +432,11 @@ typedef enum { CLASS_0, LOW_ONLY, HIGH_ONLY, BOTH_WORDS, CLASSES } message_class
     ROW(BOARD_LIMIT_0, "refusal 6: Add hub, Board, limit 0")                    \
     ROW(BOARD_LIMIT, "refusal 6: Add hub, Board, limit above 1")                \
     ROW(BOARD_START, "refusal 6: Add hub, Board, start")                        \
+    ROW(MEMORY_LIMIT_0, "refusal 6: Add hub, Memory, limit 0")                  \
+    ROW(MEMORY_LIMIT, "refusal 6: Add hub, Memory, limit above 8")              \
+    ROW(MEMORY_START_0, "refusal 6: Add hub, Memory, start 0")                  \
+    ROW(MEMORY_START_BELOW, "refusal 6: Add hub, Memory, start below the limit") \
+    ROW(MEMORY_START_ABOVE, "refusal 6: Add hub, Memory, start above the limit") \
     ROW(TASK_ARGUMENT_AND_7, "refusal 6: Add task, 16 already as well")         \
     ROW(HUB_ARGUMENT_AND_7, "refusal 6: Add hub, 16 already as well")           \
     ROW(FULL_TASKS, "refusal 7: Add task")                                      \
@@ -391,6 +476,7 @@ typedef enum { CLASS_0, LOW_ONLY, HIGH_ONLY, BOTH_WORDS, CLASSES } message_class
     ROW(LISTING_FIFO, "listing: FIFO")                                          \
     ROW(LISTING_RESOURCE, "listing: Resource")                                  \
     ROW(LISTING_BOARD, "listing: Board")                                        \
+    ROW(LISTING_MEMORY, "listing: Memory")                                      \
     ROW(LISTING_PRIORITY_1, "listing: priority of 1 digit")                     \
     ROW(LISTING_PRIORITY_2, "listing: priority of 2 digits")                    \
     ROW(LISTING_PRIORITY_3, "listing: priority of 3 digits")                    \
@@ -416,12 +502,12 @@ typedef enum { CLASS_0, LOW_ONLY, HIGH_ONLY, BOTH_WORDS, CLASSES } message_class
 enum {
     SERVICE_ROWS = 0,
     REQUEST_ROWS = SERVICE_ROWS + ADD_HUB + 1,
-    TIMEOUT_ROWS = REQUEST_ROWS + BOARD * GET * OUTCOMES,
-    WITHDRAWN_ROWS = TIMEOUT_ROWS + BOARD * GET,
-    AHEAD_ROWS = WITHDRAWN_ROWS + BOARD * GET,
-    HIGH_SERVICE_ROWS = AHEAD_ROWS + BOARD * GET * TASKS,
+    TIMEOUT_ROWS = REQUEST_ROWS + MEMORY * GET * OUTCOMES,
+    WITHDRAWN_ROWS = TIMEOUT_ROWS + MEMORY * GET,
+    AHEAD_ROWS = WITHDRAWN_ROWS + MEMORY * GET,
+    HIGH_SERVICE_ROWS = AHEAD_ROWS + MEMORY * GET * TASKS,
     HIGH_REFUSED_ROWS = HIGH_SERVICE_ROWS + ADD_HUB + 1,
-    MESSAGE_ROWS = HIGH_REFUSED_ROWS + BOARD * WIPE,
+    MESSAGE_ROWS = HIGH_REFUSED_ROWS + MEMORY * WIPE,
     CLEARED_ROWS = MESSAGE_ROWS + PATHS * CLASSES,
     COMPARE_ROWS = CLEARED_ROWS + SLEEP * CLASSES, /* M-106, neighbours: services */
     BEFORE_SINGLE_ROWS = COMPARE_ROWS + ADD_HUB,
@@ -439,7 +525,8 @@ static const char *const single_names[] = {
 #undef ROW
 };
 
-static const char *const kinds[] = {"Event", "Semaphore", "Port", "FIFO", "Resource", "Board"};
+static const char *const kinds[] = {"Event",    "Semaphore", "Port",  "FIFO",
+                                    "Resource", "Board",     "Memory"};
 static const char *const sides[] = {"put", "get"}; /* at a Board: update, read */
 
 static size_t row_count(uint32_t edition) { return DAMAGE_ROWS + gen_damages(edition); }
@@ -467,15 +554,16 @@ static size_t request_row(uint32_t kind, uint32_t side, hub_outcome outcome)
     return REQUEST_ROWS + kind_side(kind, side) * OUTCOMES + outcome;
 }
 
-/* The hub table has no such entry: nobody waits to put to a Resource or a Board, a get
- * meets no waiter there, a Port holds nothing, and only a Resource FAILs. */
+/* The hub table has no such entry: nobody waits to put to a Resource, a Board or a Memory, a
+ * get meets no waiter there, a Port holds nothing, and only a Resource FAILs, and a put to a
+ * Memory. */
 static int request_reachable(uint32_t kind, uint32_t side, hub_outcome outcome)
 {
     int not_now = outcome == NOT_NOW_NW || outcome == NOT_NOW_W || outcome == NOT_NOW_WT;
 
-    if (kind != RESOURCE && outcome >= FAIL_W)
+    if (kind != RESOURCE && !(kind == MEMORY && side == PUT) && outcome >= FAIL_W)
         return 0;
-    if (kind == RESOURCE || kind == BOARD)
+    if (kind >= RESOURCE)
         return side == PUT ? !not_now : outcome != MET_WITH_WAITER;
     return !(kind == PORT && outcome == MET_ALONE);
 }
@@ -483,7 +571,7 @@ static int request_reachable(uint32_t kind, uint32_t side, hub_outcome outcome)
 /* In a product of kind by side: putters wait there. */
 static int putters_wait(size_t pair)
 {
-    return pair != kind_side(RESOURCE, PUT) && pair != kind_side(BOARD, PUT);
+    return pair < kind_side(RESOURCE, PUT) || pair % GET != kind_side(RESOURCE, PUT) % GET;
 }
 
 /* What only edition 2 has: high words in messages, and so refusal 9; what only edition 1
@@ -503,6 +591,8 @@ static int row_in_edition(uint32_t edition, size_t row)
                (edition == EDITION_2 || (row - CLEARED_ROWS) % CLASSES == LOW_ONLY);
     if (row == COMPARE_HIGH || row == COMPARE_PAIR)
         return edition == EDITION_2;
+    if (row >= BLOCK_HIGH_FAIL_W && row <= BLOCK_HIGH_AWAITED)
+        return edition == EDITION_2;
     if (row == MOVE_1_AND_9 || (row >= MOVE_2_AND_9 && row <= MOVE_9_HELD_8))
         return edition == EDITION_2;
     return 1;
@@ -518,7 +608,7 @@ static int row_reachable(uint32_t edition, size_t row)
                                  (hub_outcome)(at % OUTCOMES));
     }
     if (row >= TIMEOUT_ROWS && row < AHEAD_ROWS)
-        return putters_wait((row - TIMEOUT_ROWS) % (BOARD * GET));
+        return putters_wait((row - TIMEOUT_ROWS) % (MEMORY * GET));
     if (row >= AHEAD_ROWS && row < HIGH_SERVICE_ROWS) /* a Resource's owner doesn't wait */
         return putters_wait((row - AHEAD_ROWS) / TASKS) &&
                row != ahead_row(RESOURCE, GET, TASKS - 1);
@@ -816,6 +906,100 @@ static void cover_board(cover *seen, const uint32_t *before, const uint32_t *cal
     }
 }
 
+/* The blocks of a Memory that are out, bit i for block i. */
+static uint32_t blocks_out(const uint32_t *table, uint32_t hub)
+{
+    uint32_t out = 0;
+
+    for (uint32_t block = 0; block < BLOCKS_MAX; block++)
+        out |= (uint32_t)(message_at(table, held_place(table, hub, block)) == 1) << block;
+    return out;
+}
+
+/* The row of mode W is followed by those of NW and WT. */
+static void hit_mode(cover *seen, const uint32_t *call, size_t row)
+{
+    hit(seen, row + call[C_MODE] - W);
+}
+
+static void cover_got_block(cover *seen, const uint32_t *before, const uint32_t *call,
+                            const uint32_t *after)
+{
+    const uint32_t *hub = before + hub_place(before, call[C_TARGET]);
+    uint32_t out = blocks_out(before, call[C_TARGET]);
+    uint32_t block = task_word(after, call[C_CALLER], T_WORD);
+
+    hit(seen, BLOCK_GOT_0 + block);
+    hit_mode(seen, call, BLOCK_GOT_W);
+    hit_if(seen, out == 0, BLOCK_GOT_FIRST);
+    hit_if(seen, hub[H_COUNT] == 1, BLOCK_GOT_LAST);
+    hit_if(seen, out >> block != 0, BLOCK_GOT_BELOW);
+    hit_if(seen, block > 0 && hub[H_COUNT] > 1, BLOCK_GOT_BETWEEN);
+}
+
+/* A put that FAILs: its number isn't out. */
+static void cover_no_block(cover *seen, const uint32_t *before, const uint32_t *call)
+{
+    uint32_t limit = before[hub_place(before, call[C_TARGET]) + H_LIMIT], number = call[C_WORD];
+    int awaited = before[list_place(before, call[C_TARGET])] != 0;
+    int out = number < limit && (blocks_out(before, call[C_TARGET]) >> number & 1) != 0;
+
+    hit_if(seen, awaited, BLOCK_FAIL_AWAITED);
+    if (call[C_HIGH] != 0) {
+        hit_mode(seen, call, BLOCK_HIGH_FAIL_W);
+        hit_if(seen, out, BLOCK_HIGH_OUT);
+        hit_if(seen, number < limit && !out, BLOCK_HIGH_IN);
+        hit_if(seen, out && awaited, BLOCK_HIGH_AWAITED);
+        return;
+    }
+    hit_mode(seen, call, number < limit    ? BLOCK_IN_FAIL_W
+                         : number == limit ? BLOCK_LIMIT_FAIL_W
+                                           : BLOCK_PAST_FAIL_W);
+    hit_if(seen, number >= limit && number < BLOCKS_MAX, BLOCK_PAST_FAIL_STORE);
+    hit_if(seen, number == BLOCKS_MAX, BLOCK_PAST_FAIL_8);
+}
+
+/* A put that is met: its block is in then, or with the first getter. */
+static void cover_put_block(cover *seen, const uint32_t *before, const uint32_t *call,
+                            second_reply reply)
+{
+    const uint32_t *hub = before + hub_place(before, call[C_TARGET]);
+    const uint32_t *list = before + list_place(before, call[C_TARGET]);
+    uint32_t first = list[0] - 1; /* if there is one */
+    int had_word = task_message(before, call[C_CALLER]) != 0;
+
+    if (list[0] == 0) {
+        hit(seen, BLOCK_FREED_0 + call[C_WORD]);
+        hit_mode(seen, call, BLOCK_FREED_W);
+        hit_if(seen, hub[H_COUNT] == 0, BLOCK_FREED_FIRST);
+        hit_if(seen, hub[H_COUNT] + 1 == hub[H_LIMIT], BLOCK_FREED_LAST);
+        hit_if(seen, had_word, BLOCK_FREED_WORD);
+        return;
+    }
+    hit(seen, BLOCK_PASSED_0 + call[C_WORD]);
+    hit_mode(seen, call, BLOCK_PASSED_W);
+    hit_if(seen, had_word, BLOCK_PASSED_WORD);
+    hit_if(seen, task_word(before, first, T_SUSPENDED) == 1, BLOCK_PASSED_SUSPENDED);
+    hit(seen, task_word(before, first, T_TICKS) > 0 ? BLOCK_PASSED_TICKS : BLOCK_PASSED_NO_LIMIT);
+    hit_if(seen, reply.next == list[0], BLOCK_PASSED_URGENT);
+    hit_if(seen, list[1] != 0, BLOCK_PASSED_LEAVES);
+    hit_if(seen, length_of(list) == 15, BLOCK_PASSED_15);
+}
+
+/* What the products of kind, side and outcome don't say of a request to a Memory. */
+static void cover_blocks(cover *seen, const uint32_t *before, const uint32_t *call,
+                         second_reply reply, const uint32_t *after)
+{
+    if (call[C_SIDE] == GET && reply.answer == OK)
+        cover_got_block(seen, before, call, after);
+    else if (call[C_SIDE] == GET)
+        hit(seen, BLOCK_NONE_1 + before[hub_place(before, call[C_TARGET]) + H_LIMIT] - 1);
+    else if (reply.answer == OK)
+        cover_put_block(seen, before, call, reply);
+    else
+        cover_no_block(seen, before, call);
+}
+
 /* What becomes of the messages in a hub request; `first` is the number of the waiter met
  * plus 1, or 0. */
 static void cover_put_message(cover *seen, uint32_t kind, const uint32_t *call, uint32_t first,
@@ -828,7 +1012,7 @@ static void cover_put_message(cover *seen, uint32_t kind, const uint32_t *call, 
                     sent(call));
     else if (kind == BOARD)
         hit_message(seen, first != 0 ? BOARD_MEETS : BOARD_UPDATE, sent(call));
-    else
+    else if (kind != MEMORY) /* there it is a number, which cover_put_block looks at */
         hit_message(seen, waits ? PUT_IGNORED_WAITS : PUT_IGNORED, sent(call));
 }
 
@@ -889,13 +1073,16 @@ static void cover_request(cover *seen, const uint32_t *before, const uint32_t *c
     cover_messages(seen, before, call, reply, after);
     if (kind == BOARD)
         cover_board(seen, before, call, reply, after);
+    if (kind == MEMORY)
+        cover_blocks(seen, before, call, reply, after);
     if (side == WIPE)
         return;
     if (reply.answer == OK && first != 0 && task_word(after, first - 1, T_STATE) == READY)
         outcome = MET_WITH_WAITER;
     else if (reply.answer == OK)
         outcome = MET_ALONE;
-    else if (kind == RESOURCE && (side == PUT || count == call[C_CALLER] + 1))
+    else if ((kind == RESOURCE && (side == PUT || count == call[C_CALLER] + 1)) ||
+             (kind == MEMORY && side == PUT))
         outcome = mode == W ? FAIL_W : mode == NW ? FAIL_NW : FAIL_WT;
     else
         outcome = mode == W ? NOT_NOW_W : mode == NW ? NOT_NOW_NW : NOT_NOW_WT;
@@ -904,7 +1091,8 @@ static void cover_request(cover *seen, const uint32_t *before, const uint32_t *c
     if (outcome == NOT_NOW_W || outcome == NOT_NOW_WT) {
         cover_waits(seen, call, after);
         cover_ahead(seen, call, reply, after);
-    } else if (after[list_place(after, call[C_TARGET])] != 0) {
+    } else if (after[list_place(after, call[C_TARGET])] != 0 &&
+               (kind != MEMORY || outcome < FAIL_W)) { /* a Memory's has a row above */
         hit(seen, reply.answer == OK      ? NOT_AHEAD_MET
                   : outcome == NOT_NOW_NW ? NOT_AHEAD_NW
                                           : NOT_AHEAD_FAIL);
@@ -1085,6 +1273,8 @@ static void cover_tick(cover *seen, const uint32_t *before)
             hit_if(seen, suspended, TICK_SUSPENDED_WAITING);
             hit_if(seen, suspended && before[hub_place(before, hub) + H_KIND] == BOARD,
                    READ_SUSPENDED_TIMED_OUT);
+            hit_if(seen, suspended && before[hub_place(before, hub) + H_KIND] == MEMORY,
+                   BLOCK_SUSPENDED_TIMED_OUT);
         }
     }
     hit(seen, out == 0 ? TICK_NOTHING : out == 1 ? TICK_ONE : TICK_MORE);
@@ -1102,6 +1292,8 @@ static void cover_adds(cover *seen, const uint32_t *call, second_reply reply, co
         hit(seen, ADD_EVENT + call[C_TARGET] - EVENT);
         hit_if(seen, call[C_TARGET] == SEMAPHORE && call[C_TICKS] == SEMAPHORE_MAX,
                ADD_SEMAPHORE_MAX);
+        hit_if(seen, call[C_TARGET] == MEMORY && call[C_TICKS] == 1, ADD_MEMORY_1);
+        hit_if(seen, call[C_TARGET] == MEMORY && call[C_TICKS] == BLOCKS_MAX, ADD_MEMORY_8);
         hit_if(seen, after[HUBS_IN_USE_AT] == HUBS, ADD_HUB_16TH);
     }
 }
@@ -1173,6 +1365,8 @@ static size_t request_cause(const uint32_t *table, const uint32_t *call)
 
     if (call[C_SIDE] < PUT || call[C_SIDE] > WIPE)
         return call[C_SIDE] == 0 ? SIDE_0 : SIDE_ABOVE;
+    if (call[C_SIDE] == WIPE && kind == MEMORY)
+        return SIDE_3_MEMORY;
     if (call[C_SIDE] == WIPE && kind != BOARD)
         return SIDE_3_EVENT + kind - EVENT;
     if (call[C_MODE] < W || call[C_MODE] > WT)
@@ -1214,6 +1408,13 @@ static size_t add_hub_cause(const uint32_t *call)
                : limit > 1 ? BOARD_LIMIT
                : start     ? BOARD_START
                            : NO_CAUSE;
+    case MEMORY:
+        return limit == 0           ? MEMORY_LIMIT_0
+               : limit > BLOCKS_MAX ? MEMORY_LIMIT
+               : start == 0         ? MEMORY_START_0
+               : start < limit      ? MEMORY_START_BELOW
+               : start > limit      ? MEMORY_START_ABOVE
+                                    : NO_CAUSE;
     default:
         return call[C_TARGET] == 0 ? KIND_0 : KIND_ABOVE;
     }
@@ -1456,7 +1657,7 @@ static void cover_moved_tasks(cover *seen, const uint32_t *from)
 
 static void cover_moved_hubs(cover *seen, const uint32_t *from)
 {
-    int held = 0, full = 0, board = 0, owned = 0, many = 0;
+    int held = 0, full = 0, board = 0, owned = 0, many = 0, out = 0, out_8 = 0;
 
     for (uint32_t number = 0; number < from[HUBS_IN_USE_AT]; number++) {
         const uint32_t *hub = from + hub_place(from, number);
@@ -1464,11 +1665,15 @@ static void cover_moved_hubs(cover *seen, const uint32_t *from)
         full |= hub[H_KIND] == FIFO && hub[H_COUNT] == 8;
         board |= hub[H_KIND] == BOARD && hub[H_COUNT] == 1;
         owned |= hub[H_KIND] == RESOURCE && hub[H_COUNT] > 0;
+        out |= hub[H_KIND] == MEMORY && hub[H_COUNT] < hub[H_LIMIT];
+        out_8 |= hub[H_KIND] == MEMORY && hub[H_COUNT] == 0 && hub[H_LIMIT] == 8;
         many |= length_of(from + list_place(from, number)) >= 8;
     }
     hit_if(seen, held, MOVE_HELD);
     hit_if(seen, full, MOVE_HELD_8);
     hit_if(seen, board, MOVE_BOARD);
+    hit_if(seen, out, MOVE_BLOCKS);
+    hit_if(seen, out_8, MOVE_BLOCKS_8);
     hit_if(seen, owned, MOVE_OWNED);
     hit_if(seen, many, MOVE_8_WAIT);
 }

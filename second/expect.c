@@ -1,4 +1,4 @@
-/* The tests' own working-out of document 01 and requests M-100, M-101 and M-103 to M-106;
+/* The tests' own working-out of document 01 and requests M-100, M-101 and M-103 to M-107;
  * expect.h says how it differs. */
 #include "expect.h"
 
@@ -203,17 +203,30 @@ static int owner_holds(const wide *w, uint32_t hub)
     return 1;
 }
 
+/* "The store's low words mark block i with 1 when it is out, the rest 0": how many of a
+ * Memory's blocks have a 0, or more than there can be where something else stands. */
+static uint32_t free_blocks(const wide *w, uint32_t hub)
+{
+    uint32_t free = 0;
+
+    for (uint32_t block = 0; block < 8 && block < w->hub[hub][2]; block++) {
+        const pair *mark = &w->store[hub][block];
+        free += is_zero(*mark) ? 1 : mark->low == 1 && mark->high == 0 ? 0 : 100;
+    }
+    return free;
+}
+
 /* "A FIFO's store holds its words ... Other stores are 0", and of a Board: "count 1
  * when written, the word in its store's first place, else count and store 0". */
 static int store_holds(const wide *w, uint32_t hub)
 {
-    uint32_t kind = w->hub[hub][0], count = w->hub[hub][1];
-    uint32_t most = kind == 4 ? count : kind == 6 && count == 1 ? 1 : 0;
+    uint32_t kind = w->hub[hub][0], count = w->hub[hub][1], limit = w->hub[hub][2];
+    uint32_t most = kind == 4 ? count : kind == 6 && count == 1 ? 1 : kind == 7 ? limit : 0;
 
     for (uint32_t i = 0; i < 8; i++)
         if (!is_zero(w->store[hub][i]) && i >= most)
             return 0;
-    return 1;
+    return kind != 7 || free_blocks(w, hub) == count;
 }
 
 static int hub_holds(const wide *w, uint32_t hub)
@@ -226,7 +239,8 @@ static int hub_holds(const wide *w, uint32_t hub)
                 (kind == 4 && count <= limit && limit >= 1 && limit <= 8 && start == 0) ||
                 (kind == 5 && count <= w->contents[1] && limit == 1 && start == 0 &&
                  owner_holds(w, hub)) ||
-                (kind == 6 && count <= 1 && limit == 1 && start == 0);
+                (kind == 6 && count <= 1 && limit == 1 && start == 0) ||
+                (kind == 7 && count <= limit && limit >= 1 && limit <= 8 && start == limit);
 
     if (!right || !store_holds(w, hub))
         return 0;
@@ -377,7 +391,8 @@ static int hub_may_be_added(uint32_t kind, uint32_t limit, uint32_t start)
            (kind == 2 && limit - 1 < 65535 && start <= limit) ||
            (kind == 3 && limit == 0 && start == 0) ||
            (kind == 4 && limit - 1 < 8 && start == 0) ||
-           ((kind == 5 || kind == 6) && limit == 1 && start == 0);
+           ((kind == 5 || kind == 6) && limit == 1 && start == 0) ||
+           (kind == 7 && limit - 1 < 8 && start == limit);
 }
 
 /* Of a hub request the hub is in use. */
@@ -445,9 +460,19 @@ static pair fifo_take(thing_hub *h)
     return oldest;
 }
 
-/* Can the request be met, and if it meets a waiter, which one is it? */
-static int is_met(world *w, const thing_hub *h, uint32_t caller, uint32_t side, thing_task **other)
+/* The block that a put names by its message is one of the Memory's, and out. */
+static int names_block(const thing_hub *h, const uint32_t *call)
 {
+    for (uint32_t block = 0; block < h->limit; block++)
+        if (call[6] == block && call[7] == 0)
+            return !is_zero(h->held[block]);
+    return 0;
+}
+
+/* Can the request be met, and if it meets a waiter, which one is it? */
+static int is_met(world *w, const thing_hub *h, const uint32_t *call, thing_task **other)
+{
+    uint32_t caller = call[1], side = call[3];
     thing_task *first = following(w, WAITING, (uint32_t)(h - w->hub) + 1, NULL);
 
     *other = first && first->side != side ? first : NULL;
@@ -459,9 +484,22 @@ static int is_met(world *w, const thing_hub *h, uint32_t caller, uint32_t side, 
     case BOARD:
         *other = NULL; /* nobody alone: show_board tells all who wait */
         return side != GET || h->count > 0;
+    case MEMORY:
+        return side == PUT ? names_block(h, call) : h->count > 0;
     default:
         return *other != NULL || (side == PUT ? h->count < h->limit : h->count > 0);
     }
+}
+
+/* Somebody takes the first block without a mark, and there is one; gives its number. */
+static pair lowest_taken(thing_hub *h)
+{
+    pair block = nothing;
+
+    while (!is_zero(h->held[block.low]))
+        block.low++;
+    h->held[block.low].low = 1;
+    return block;
 }
 
 /* Both sides of a met request as puts and gets on the hub, put first: a full
@@ -491,6 +529,11 @@ static pair meet(world *w, thing_hub *h, const uint32_t *call, const thing_task 
         if (call[3] == PUT)
             h->held[h->count++] = word;
         return h->held[0];
+    case MEMORY: /* the block is free for a moment where somebody waits for one */
+        if (puts)
+            h->held[word.low] = nothing;
+        h->count += (uint32_t)(puts - gets);
+        return gets ? lowest_taken(h) : nothing;
     default:
         h->count = call[3] == GET ? call[1] + 1 : other ? (uint32_t)(other - w->task) + 1 : 0;
         return nothing;
@@ -508,10 +551,12 @@ static void show_board(world *w, const thing_hub *h)
         to_ready(w, reader, OK, h->held[0]);
 }
 
-/* FAIL in every mode: unlocked by another than the owner, or locked by it. */
+/* FAIL in every mode: unlocked by another than the owner, or locked by it; a block put that
+ * isn't out. */
 static int fails(const thing_hub *h, const uint32_t *call)
 {
-    return h->kind == RESOURCE && (call[3] == PUT || h->count == call[1] + 1);
+    return (h->kind == RESOURCE && (call[3] == PUT || h->count == call[1] + 1)) ||
+           (h->kind == MEMORY && call[3] == PUT);
 }
 
 static void hub_request(world *w, const uint32_t *call)
@@ -519,7 +564,7 @@ static void hub_request(world *w, const uint32_t *call)
     thing_task *c = &w->task[call[1]], *other;
     thing_hub *h = &w->hub[call[2]];
 
-    if (is_met(w, h, call[1], call[3], &other)) {
+    if (is_met(w, h, call, &other)) {
         pair got = meet(w, h, call, other);
         c->answer = OK;
         c->word = call[3] == GET ? got : nothing;

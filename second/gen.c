@@ -206,7 +206,7 @@ void gen_draw_mood_of(gen_random *random, gen_mood *mood, uint32_t kinds)
 
 void gen_draw_mood(gen_random *random, gen_mood *mood)
 {
-    gen_draw_mood_of(random, mood, BOARD);
+    gen_draw_mood_of(random, mood, MEMORY);
 }
 
 static uint32_t draw_ticks(gen_random *random, const gen_mood *mood)
@@ -223,6 +223,8 @@ static uint32_t draw_limit(gen_random *random, uint32_t kind)
                                       : ONE_OF(random, SEMAPHORE_MAX, SEMAPHORE_MAX - 1, 100);
     case FIFO:
         return from_to(random, 1, FIFO_MAX);
+    case MEMORY:
+        return from_to(random, 1, BLOCKS_MAX);
     case PORT:
         return 0;
     default:
@@ -250,7 +252,9 @@ static void draw_add_hub(gen_random *random, const gen_mood *mood, uint32_t *cal
     call[C_SERVICE] = ADD_HUB;
     call[C_TARGET] = kind;
     call[C_TICKS] = limit;
-    call[C_WORD] = kind == SEMAPHORE && gen_chance(random, 50) ? gen_below(random, limit + 1) : 0;
+    call[C_WORD] = kind == MEMORY                                   ? limit
+                   : kind == SEMAPHORE && gen_chance(random, 50) ? gen_below(random, limit + 1)
+                                                                   : 0;
 }
 
 /* The last task that can run seldom waits without limit: a run in which all
@@ -280,6 +284,31 @@ static uint32_t draw_side(gen_random *random, const gen_mood *mood, const uint32
     if (hub[H_KIND] == BOARD && gen_chance(random, hub[H_COUNT] != 0 ? 40 : 10))
         return WIPE;
     return puts ? PUT : GET;
+}
+
+/* A number as a put to a Memory brings it: mostly that of a block, which is out or isn't;
+ * else the first that no block has, or any from there on. */
+static uint32_t draw_block(gen_random *random, const uint32_t *table, uint32_t hub)
+{
+    uint32_t limit = hub_field(table, hub, H_LIMIT), block = gen_below(random, limit);
+    uint32_t draw = gen_below(random, 100);
+
+    for (uint32_t i = 0; draw < 70 && i < limit; i++, block = (block + 1) % limit)
+        if (table[held_place(table, hub, block)] == 1)
+            return block;
+    return draw < 85 ? block : draw < 93 ? limit : at_least(random, limit);
+}
+
+/* A put of a block: with a high word its number is no block's, so mostly without. */
+static void draw_block_put(gen_random *random, const uint32_t *table, uint32_t *call)
+{
+    if (call[C_SERVICE] != HUB_REQUEST || call[C_SIDE] != PUT ||
+        call[C_TARGET] >= hubs_in_use(table) ||
+        hub_field(table, call[C_TARGET], H_KIND) != MEMORY)
+        return;
+    if (call[C_HIGH] != 0 && gen_chance(random, 75))
+        call[C_HIGH] = 0;
+    call[C_WORD] = draw_block(random, table, call[C_TARGET]);
 }
 
 static void draw_request(gen_random *random, const gen_mood *mood, const uint32_t *table,
@@ -417,16 +446,22 @@ static void spoil_request(gen_random *random, const uint32_t *table, uint32_t *c
     }
 }
 
-/* Kind, limit or start, each alone; a Semaphore's start is tied to its limit. */
-static void spoil_add_hub(gen_random *random, uint32_t *call)
+/* Kind, limit or start, each alone; a Semaphore's start is tied to its limit, and a Memory's
+ * is its limit. Runs from before there were Memories have no kind above the Board's. */
+static void spoil_add_hub(gen_random *random, const gen_mood *mood, uint32_t *call)
 {
-    uint32_t kind = call[C_TARGET];
+    uint32_t kind = call[C_TARGET], above = mood->kinds >= MEMORY ? MEMORY + 1 : BOARD + 1;
 
     switch (gen_below(random, 3)) {
     case 0:
-        call[C_TARGET] = gen_chance(random, 50) ? 0 : at_least(random, BOARD + 1);
+        call[C_TARGET] = gen_chance(random, 50) ? 0 : at_least(random, above);
         break;
     case 1:
+        if (kind == MEMORY) { /* the start is the limit still */
+            call[C_TICKS] = gen_chance(random, 50) ? 0 : at_least(random, BLOCKS_MAX + 1);
+            call[C_WORD] = call[C_TICKS];
+            break;
+        }
         call[C_WORD] = 0;
         if (kind != PORT && gen_chance(random, 50))
             call[C_TICKS] = 0;
@@ -437,12 +472,18 @@ static void spoil_add_hub(gen_random *random, uint32_t *call)
                                                                : 2);
         break;
     default:
-        call[C_WORD] = at_least(random, kind == SEMAPHORE ? call[C_TICKS] + 1 : 1);
+        if (kind == MEMORY && gen_chance(random, 50)) {
+            call[C_WORD] = gen_below(random, call[C_TICKS]);
+            break;
+        }
+        call[C_WORD] = at_least(random, kind == SEMAPHORE || kind == MEMORY ? call[C_TICKS] + 1
+                                                                            : 1);
         break;
     }
 }
 
-static void spoil_arguments(gen_random *random, const uint32_t *table, uint32_t *call)
+static void spoil_arguments(gen_random *random, const gen_mood *mood, const uint32_t *table,
+                            uint32_t *call)
 {
     switch (call[C_SERVICE]) {
     case HUB_REQUEST:
@@ -458,7 +499,7 @@ static void spoil_arguments(gen_random *random, const uint32_t *table, uint32_t 
             call[C_SIDE] = at_least(random, 2);
         break;
     default:
-        spoil_add_hub(random, call);
+        spoil_add_hub(random, mood, call);
         break;
     }
 }
@@ -493,7 +534,7 @@ static void draw_refused(gen_random *random, const gen_mood *mood, const uint32_
         break;
     default:
         draw_with_arguments(random, mood, table, call);
-        spoil_arguments(random, table, call);
+        spoil_arguments(random, mood, table, call);
         break;
     }
 }
@@ -528,9 +569,23 @@ void gen_call(gen_random *random, const gen_mood *mood, const uint32_t *table, u
     else
         draw_good(random, mood, table, call);
     draw_high(random, mood->high, call);
+    draw_block_put(random, table, call);
 }
 
 /* ---- Well-formed tables ------------------------------------------------ */
+
+/* So many percent of a Memory's blocks are out, whichever they are. */
+static void build_blocks(gen_random *random, uint32_t *table, uint32_t number, uint32_t percent)
+{
+    uint32_t *hub = table + hub_place(table, number);
+
+    hub[H_COUNT] = hub[H_START] = hub[H_LIMIT];
+    for (uint32_t block = 0; block < hub[H_LIMIT]; block++) {
+        int out = gen_chance(random, percent);
+        table[held_place(table, number, block)] = out ? 1 : 0;
+        hub[H_COUNT] -= out ? 1 : 0;
+    }
+}
 
 static void build_hub(gen_random *random, uint32_t *table, uint32_t number, uint32_t kind)
 {
@@ -540,6 +595,10 @@ static void build_hub(gen_random *random, uint32_t *table, uint32_t number, uint
     hub[H_LIMIT] = draw_limit(random, kind);
     if (kind == SEMAPHORE)
         hub[H_START] = gen_below(random, hub[H_LIMIT] + 1);
+    if (kind == MEMORY) {
+        build_blocks(random, table, number, gen_chance(random, 50) ? 100 : gen_below(random, 101));
+        return;
+    }
     if (kind == RESOURCE)
         hub[H_COUNT] = gen_below(random, tasks_in_use(table) + 1);
     else /* at an end mostly: there the waiters are */
@@ -561,7 +620,7 @@ static uint32_t side_at(const uint32_t *table, uint32_t number, uint32_t task)
         return hub[H_COUNT] != 0 && hub[H_COUNT] != task + 1 ? GET : NO_SIDE;
     if (hub[H_COUNT] == 0)
         return GET;
-    return hub[H_COUNT] == hub[H_LIMIT] && hub[H_KIND] != BOARD ? PUT : NO_SIDE;
+    return hub[H_COUNT] == hub[H_LIMIT] && hub[H_KIND] < RESOURCE ? PUT : NO_SIDE;
 }
 
 /* Waiting at the hub if its rules let the task, else the record is left. */
@@ -748,7 +807,7 @@ static void draw_any_mode(gen_random *random, uint32_t *call)
 static void build_board(gen_random *random, uint32_t *table, uint32_t board, int written)
 {
     for (uint32_t hub = 0; hub < hubs_in_use(table); hub++) {
-        uint32_t kind = hub == board ? (uint32_t)BOARD : from_to(random, EVENT, BOARD);
+        uint32_t kind = hub == board ? (uint32_t)BOARD : from_to(random, EVENT, MEMORY);
         build_hub(random, table, hub, kind);
     }
     table[hub_place(table, board) + H_COUNT] = written ? 1 : 0;
@@ -784,6 +843,45 @@ void gen_board(gen_random *random, uint32_t edition, uint32_t *table, uint32_t c
     draw_high(random, edition == EDITION_2 ? 60 : 0, call);
 }
 
+/* ---- Blocks put and taken ---------------------------------------------- */
+
+/* Hubs of every kind, a Memory among them, often one of 8 blocks: only there is a block 7. */
+static void build_pool(gen_random *random, uint32_t *table, uint32_t pool, uint32_t out)
+{
+    for (uint32_t hub = 0; hub < hubs_in_use(table); hub++) {
+        uint32_t kind = hub == pool ? (uint32_t)MEMORY : from_to(random, EVENT, MEMORY);
+        build_hub(random, table, hub, kind);
+    }
+    if (gen_chance(random, 30))
+        table[hub_place(table, pool) + H_LIMIT] = BLOCKS_MAX;
+    build_blocks(random, table, pool, out);
+}
+
+void gen_pool(gen_random *random, uint32_t edition, uint32_t *table, uint32_t call[8])
+{
+    int all = gen_chance(random, 10); /* all but the caller wait for a block */
+    uint32_t tasks = all || gen_chance(random, 30) ? TASKS : from_to(random, 1, TASKS);
+    uint32_t hubs = gen_chance(random, 30) ? HUBS : from_to(random, 1, 6);
+    uint32_t pool = gen_below(random, hubs), waits = ONE_OF(random, 0, 10, 30, 60, 90);
+
+    build_contents(table, edition, tasks, hubs);
+    build_priorities(random, table, ONE_OF(random, 1, 2, 4, PRIORITY_MAX + 1));
+    build_pool(random, table, pool, all ? 100 : ONE_OF(random, 0, 30, 50, 70, 100, 100, 100));
+    for (uint32_t task = 0; task < tasks; task++)
+        build_task(random, table, task, all ? 100 : waits, pool);
+    build_caller(table, gen_below(random, tasks));
+    build_lists(random, table);
+    draw_ignored(random, call);
+    call[C_SERVICE] = HUB_REQUEST;
+    call[C_CALLER] = running_task(table);
+    call[C_TARGET] = pool;
+    call[C_SIDE] = ONE_OF(random, PUT, PUT, PUT, GET, GET);
+    call[C_WORD] = any_word(random);
+    draw_any_mode(random, call);
+    draw_high(random, edition == EDITION_2 ? 60 : 0, call);
+    draw_block_put(random, table, call);
+}
+
 /* ---- Requests to hubs at which many wait ------------------------------- */
 
 void gen_ask(gen_random *random, const uint32_t *table, uint32_t hub, uint32_t call[8])
@@ -813,7 +911,7 @@ static uint32_t build_queue(gen_random *random, uint32_t *table)
     if (gen_chance(random, 50))
         table[task_place(table, caller) + T_PRIORITY] = PRIORITY_MAX;
     for (uint32_t number = 0; number < hubs_in_use(table); number++)
-        build_hub(random, table, number, from_to(random, EVENT, BOARD));
+        build_hub(random, table, number, from_to(random, EVENT, MEMORY));
     for (uint32_t task = 0; task < tasks_in_use(table); task++)
         build_task(random, table, task, waits, hub);
     build_caller(table, caller);
@@ -1049,10 +1147,11 @@ int gen_change(gen_random *random, gen_place place, uint32_t *table)
         *at = any_digits(random, 0, PRIORITY_MAX);
         break;
     case GEN_KIND:
-        *at = from_to(random, EVENT, BOARD);
+        *at = from_to(random, EVENT, MEMORY);
         break;
     case GEN_LIMIT:
-        *at = any_digits(random, 1, hub[H_KIND] == FIFO ? FIFO_MAX : SEMAPHORE_MAX);
+        *at = any_digits(random, 1, hub[H_KIND] == FIFO || hub[H_KIND] == MEMORY ? FIFO_MAX
+                                                                                 : SEMAPHORE_MAX);
         break;
     case GEN_START:
         *at = any_digits(random, 0, hub[H_LIMIT]);
@@ -1111,16 +1210,17 @@ static uint32_t pick_hub(gen_random *random, const uint32_t *table, uint32_t kin
     return NOBODY;
 }
 
-/* A hub of this kind that nobody waits at, emptied: still well formed, and
- * whatever its record then says, no waiter makes a second clause break. */
+/* A hub of this kind that nobody waits at, emptied (a Memory with every block in it): still
+ * well formed, and whatever its record then says, no waiter makes a second clause break. */
 static uint32_t pick_quiet_hub(gen_random *random, uint32_t *table, uint32_t kind)
 {
     uint32_t hub = pick_hub(random, table, kind, 0);
 
     if (hub == NOBODY || table[list_place(table, hub)] != 0)
         return NOBODY;
-    table[hub_place(table, hub) + H_COUNT] = 0;
-    table[hub_place(table, hub) + H_START] = 0;
+    uint32_t start = kind == MEMORY ? hub_field(table, hub, H_LIMIT) : 0;
+    table[hub_place(table, hub) + H_COUNT] = start;
+    table[hub_place(table, hub) + H_START] = start;
     memset(table + store_place(table, hub), 0, store_words(table) * sizeof *table);
     return hub;
 }
@@ -1397,6 +1497,91 @@ static int two_words_on_board(gen_random *random, uint32_t *table, const damage 
     return 1;
 }
 
+/* A Memory of no block or of too many: limit, start and count agree all the same. */
+static int spoil_blocks(gen_random *random, uint32_t *table, const damage *family)
+{
+    uint32_t hub = pick_quiet_hub(random, table, MEMORY);
+
+    if (hub == NOBODY)
+        return 0;
+    uint32_t blocks = family->least == 0 ? 0 : at_least(random, family->least);
+    table[hub_place(table, hub) + H_LIMIT] = blocks;
+    table[hub_place(table, hub) + H_START] = blocks;
+    table[hub_place(table, hub) + H_COUNT] = blocks;
+    return 1;
+}
+
+/* The start is below the limit. */
+static int memory_start(gen_random *random, uint32_t *table, const damage *family)
+{
+    uint32_t hub = pick_quiet_hub(random, table, MEMORY);
+
+    (void)family;
+    if (hub == NOBODY)
+        return 0;
+    table[hub_place(table, hub) + H_START] = gen_below(random, hub_field(table, hub, H_LIMIT));
+    return 1;
+}
+
+/* A Memory with at least so many blocks out and so many free, that nobody waits at. */
+static uint32_t pick_memory(gen_random *random, const uint32_t *table, uint32_t out, uint32_t free)
+{
+    uint32_t hub = pick_hub(random, table, MEMORY, 0);
+
+    if (hub == NOBODY || table[list_place(table, hub)] != 0)
+        return NOBODY;
+    uint32_t count = hub_field(table, hub, H_COUNT), limit = hub_field(table, hub, H_LIMIT);
+    return count >= free && limit - count >= out ? hub : NOBODY;
+}
+
+/* The place of the mark of one of a Memory's blocks that has this mark; there is one. */
+static size_t pick_mark(gen_random *random, const uint32_t *table, uint32_t hub, uint32_t mark)
+{
+    uint32_t limit = hub_field(table, hub, H_LIMIT), block = gen_below(random, limit);
+
+    while (table[held_place(table, hub, block)] != mark)
+        block = (block + 1) % limit;
+    return held_place(table, hub, block);
+}
+
+/* The count isn't how many are free: one more or less than it is, within the limit. */
+static int wrong_free(gen_random *random, uint32_t *table, const damage *family)
+{
+    uint32_t hub = pick_memory(random, table, family->field == 1 ? 1 : 0,
+                               family->field == 1 ? 0 : 1);
+
+    if (hub == NOBODY)
+        return 0;
+    uint32_t *count = table + hub_place(table, hub) + H_COUNT;
+    uint32_t least = family->field == 1 ? *count + 1 : 0;
+    uint32_t most = family->field == 1 ? hub_field(table, hub, H_LIMIT) : *count - 1;
+    *count = from_to(random, least, most);
+    return 1;
+}
+
+/* A block is marked, or loses its mark, and the count stays: field is the mark it gets. */
+static int wrong_mark(gen_random *random, uint32_t *table, const damage *family)
+{
+    uint32_t hub = pick_memory(random, table, 1 - family->field, family->field);
+
+    if (hub == NOBODY)
+        return 0;
+    table[pick_mark(random, table, hub, 1 - family->field)] = family->field;
+    return 1;
+}
+
+/* Getters wait at count 0, yet a block has no mark. */
+static int unmarked_while_awaited(gen_random *random, uint32_t *table, const damage *family)
+{
+    uint32_t hub = pick_hub(random, table, MEMORY, 1);
+
+    (void)family;
+    if (hub == NOBODY)
+        return 0;
+    table[pick_mark(random, table, hub, 1)] = 0;
+    return 1;
+}
+
 static int owner_not_in_use(gen_random *random, uint32_t *table, const damage *family)
 {
     uint32_t hub = pick_quiet_hub(random, table, RESOURCE);
@@ -1636,6 +1821,37 @@ static int putters_below_limit(gen_random *random, uint32_t *table, const damage
     return 1;
 }
 
+/* Getters wait though a block is free; with field 1 the count says so and no mark does. */
+static int getters_at_blocks(gen_random *random, uint32_t *table, const damage *family)
+{
+    uint32_t hub = pick_hub(random, table, MEMORY, 1);
+
+    if (hub == NOBODY)
+        return 0;
+    if (family->field == 0)
+        table[pick_mark(random, table, hub, 1)] = 0;
+    table[hub_place(table, hub) + H_COUNT] = 1;
+    return 1;
+}
+
+/* Putters where getters waited for a block; with field 1 every block is in, so that it stands
+ * as a Semaphore with putters does. */
+static int putters_at_blocks(gen_random *random, uint32_t *table, const damage *family)
+{
+    uint32_t hub = pick_hub(random, table, MEMORY, 1);
+
+    if (hub == NOBODY)
+        return 0;
+    const uint32_t *list = table + list_place(table, hub);
+    for (uint32_t i = 0; i < list_length(list); i++)
+        table[task_place(table, list[i] - 1) + T_SIDE] = PUT;
+    if (family->field == 1) {
+        memset(table + store_place(table, hub), 0, store_words(table) * sizeof *table);
+        table[hub_place(table, hub) + H_COUNT] = hub_field(table, hub, H_LIMIT);
+    }
+    return 1;
+}
+
 /* The getters of kind which turn to the other side, where only getters wait; with
  * field 1 the Board is written, so that it stands as an Event with putters does. */
 static int putters_for_getters(gen_random *random, uint32_t *table, const damage *family)
@@ -1702,6 +1918,55 @@ static int word_on_board(gen_random *random, uint32_t *table, const damage *fami
     return 1;
 }
 
+/* A mark above 1 for a block that is out; with field 1 as much above as makes up for another
+ * block's, which has none then. */
+static int mark_above_1(gen_random *random, uint32_t *table, const damage *family)
+{
+    uint32_t hub = pick_memory(random, table, 1 + family->field, 0);
+
+    if (hub == NOBODY)
+        return 0;
+    if (family->field == 1)
+        table[pick_mark(random, table, hub, 1)] = 0;
+    table[pick_mark(random, table, hub, 1)] = family->field == 1 ? 2 : at_least(random, 2);
+    return 1;
+}
+
+/* A mark where the Memory has no block: with field 0 the first such place, with 1 any, with
+ * 2 any, and one of its own blocks has none instead. */
+static int mark_past_limit(gen_random *random, uint32_t *table, const damage *family)
+{
+    uint32_t hub = pick_memory(random, table, family->field == 2 ? 1 : 0, 0);
+
+    if (hub == NOBODY || hub_field(table, hub, H_LIMIT) == BLOCKS_MAX)
+        return 0;
+    uint32_t limit = hub_field(table, hub, H_LIMIT);
+    uint32_t at = family->field == 0 ? limit : from_to(random, limit, BLOCKS_MAX - 1);
+    if (family->field == 2)
+        table[pick_mark(random, table, hub, 1)] = 0;
+    table[held_place(table, hub, at)] = 1;
+    return 1;
+}
+
+/* A high word in the mark of a block that is out (field 1) or isn't; with field 2 where there
+ * is no block. */
+static int high_in_mark(gen_random *random, uint32_t *table, const damage *family)
+{
+    uint32_t hub = pick_memory(random, table, family->field == 1 ? 1 : 0,
+                               family->field == 0 ? 1 : 0);
+
+    if (hub == NOBODY)
+        return 0;
+    uint32_t limit = hub_field(table, hub, H_LIMIT);
+    if (family->field == 2 && limit == BLOCKS_MAX)
+        return 0;
+    size_t place = family->field == 2
+                       ? held_place(table, hub, from_to(random, limit, BLOCKS_MAX - 1))
+                       : pick_mark(random, table, hub, family->field);
+    table[place + 1] = at_least(random, 1);
+    return 1;
+}
+
 static const damage damages[] = {
     {"contents: edition", SECOND_CONTENTS, spoil_contents, EDITION_AT, 0, 0},
     {"contents: tasks above 16", SECOND_CONTENTS, spoil_contents, TASKS_IN_USE_AT, 0, TASKS + 1},
@@ -1762,6 +2027,7 @@ static const damage damages[] = {
     {"waiting: word, FIFO get", SECOND_WAITING, waits_with_word, FIFO, GET, 0},
     {"waiting: word, Resource get", SECOND_WAITING, waits_with_word, RESOURCE, GET, 0},
     {"waiting: word, Board read", SECOND_WAITING, waits_with_word, BOARD, GET, 0},
+    {"waiting: word, Memory get", SECOND_WAITING, waits_with_word, MEMORY, GET, 0},
     {"waiting: side 3 at a Board", SECOND_WAITING, wiper_waits, 0, 0, 0},
 
     {"sleeping: hub", SECOND_SLEEPING, spoil_task, SLEEPING, T_HUB, 1},
@@ -1773,7 +2039,7 @@ static const damage damages[] = {
 
     {"hub: one more than there are", SECOND_KIND, one_more, HUBS_IN_USE_AT, 0, 0},
     {"hub: kind 0", SECOND_KIND, clear_hub_field, PORT, H_KIND, 0},
-    {"hub: kind above 6", SECOND_KIND, spoil_hub, PORT, H_KIND, BOARD + 1},
+    {"hub: kind above 7", SECOND_KIND, spoil_hub, PORT, H_KIND, MEMORY + 1},
     {"Event: limit 0", SECOND_KIND, clear_hub_field, EVENT, H_LIMIT, 0},
     {"Event: limit above 1", SECOND_KIND, spoil_hub, EVENT, H_LIMIT, 2},
     {"Event: start", SECOND_KIND, spoil_hub, EVENT, H_START, 1},
@@ -1803,6 +2069,16 @@ static const damage damages[] = {
     {"Board: start", SECOND_KIND, spoil_hub, BOARD, H_START, 1},
     {"Board: count", SECOND_COUNT, above_limit, BOARD, H_COUNT, 0},
     {"Board: count 2, two words", SECOND_COUNT, two_words_on_board, 0, 0, 0},
+    {"Memory: limit 0", SECOND_KIND, spoil_blocks, 0, 0, 0},
+    {"Memory: limit above 8", SECOND_KIND, spoil_blocks, 0, 0, BLOCKS_MAX + 1},
+    {"Memory: start below the limit", SECOND_KIND, memory_start, 0, 0, 0},
+    {"Memory: start above the limit", SECOND_KIND, above_limit, MEMORY, H_START, 0},
+    {"Memory: count above the limit", SECOND_COUNT, above_limit, MEMORY, H_COUNT, 0},
+    {"Memory: count below the free blocks", SECOND_BLOCKS, wrong_free, 0, 0, 0},
+    {"Memory: count above the free blocks", SECOND_BLOCKS, wrong_free, 0, 1, 0},
+    {"Memory: a mark missing", SECOND_BLOCKS, wrong_mark, 0, 0, 0},
+    {"Memory: a mark too many", SECOND_BLOCKS, wrong_mark, 0, 1, 0},
+    {"Memory: a mark missing, getters wait", SECOND_BLOCKS, unmarked_while_awaited, 0, 0, 0},
 
     {"ready list: gap", SECOND_READY_LIST, gap_in_list, READY, 0, 0},
     {"ready list: task twice", SECOND_READY_LIST, twice_in_list, READY, 0, 0},
@@ -1832,18 +2108,23 @@ static const damage damages[] = {
     {"two sides: FIFO", SECOND_ONE_SIDE, two_sides, FIFO, 0, 0},
     {"two sides: Resource", SECOND_ONE_SIDE, two_sides, RESOURCE, 0, 0},
     {"two sides: Board", SECOND_ONE_SIDE, two_sides, BOARD, 0, 0},
+    {"two sides: Memory", SECOND_ONE_SIDE, two_sides, MEMORY, 0, 0},
     {"getters: Event at 1", SECOND_GETTERS, getters_at_something, EVENT, 0, 0},
     {"getters: Semaphore above 0", SECOND_GETTERS, getters_at_something, SEMAPHORE, 0, 0},
     {"getters: FIFO with words", SECOND_GETTERS, getters_at_something, FIFO, 0, 0},
     {"getters: free Resource", SECOND_GETTERS, getters_at_free, 0, 0, 0},
     {"getters: Resource's owner", SECOND_GETTERS, owner_waits, 0, 0, 0},
     {"getters: written Board", SECOND_GETTERS, getters_at_something, BOARD, 0, 0},
+    {"getters: Memory with a free block", SECOND_GETTERS, getters_at_blocks, 0, 0, 0},
+    {"getters: Memory above 0, all marked", SECOND_GETTERS, getters_at_blocks, 0, 1, 0},
     {"putters: Event at 0", SECOND_PUTTERS, putters_below_limit, EVENT, 0, 0},
     {"putters: Semaphore below limit", SECOND_PUTTERS, putters_below_limit, SEMAPHORE, 0, 0},
     {"putters: FIFO below limit", SECOND_PUTTERS, putters_below_limit, FIFO, 0, 0},
     {"putters: Resource", SECOND_PUTTERS, putters_for_getters, RESOURCE, 0, 0},
     {"putters: Board without a word", SECOND_PUTTERS, putters_for_getters, BOARD, 0, 0},
     {"putters: written Board", SECOND_PUTTERS, putters_for_getters, BOARD, 1, 0},
+    {"putters: Memory without a free block", SECOND_PUTTERS, putters_at_blocks, 0, 0, 0},
+    {"putters: Memory, every block free", SECOND_PUTTERS, putters_at_blocks, 0, 1, 0},
 
     {"store: Event", SECOND_STORE, word_in_store, EVENT, 0, 0},
     {"store: Semaphore", SECOND_STORE, word_in_store, SEMAPHORE, 0, 0},
@@ -1852,6 +2133,11 @@ static const damage damages[] = {
     {"store: Resource", SECOND_STORE, word_in_store, RESOURCE, 0, 0},
     {"store: Board without a word", SECOND_STORE, word_on_board, 0, 0, 0},
     {"store: Board, a second word", SECOND_STORE, word_on_board, 0, 1, 0},
+    {"store: Memory, a mark above 1", SECOND_STORE, mark_above_1, 0, 0, 0},
+    {"store: Memory, a mark of 2 for two blocks", SECOND_STORE, mark_above_1, 0, 1, 0},
+    {"store: Memory, a mark at the limit", SECOND_STORE, mark_past_limit, 0, 0, 0},
+    {"store: Memory, a mark past the limit", SECOND_STORE, mark_past_limit, 0, 1, 0},
+    {"store: Memory, a mark past the limit for a block's", SECOND_STORE, mark_past_limit, 0, 2, 0},
 
     {"contents: the other edition", SECOND_CONTENTS, others_contents, OTHER_EDITION, 0, 0},
     {"contents: the other edition's starts", SECOND_CONTENTS, others_contents, OTHER_STARTS, 0, 0},
@@ -1880,6 +2166,7 @@ static const damage high_damages[] = {
     {"waiting: high word, FIFO get", SECOND_WAITING, waits_with_word, FIFO, GET, 1},
     {"waiting: high word, Resource get", SECOND_WAITING, waits_with_word, RESOURCE, GET, 1},
     {"waiting: high word, Board read", SECOND_WAITING, waits_with_word, BOARD, GET, 1},
+    {"waiting: high word, Memory get", SECOND_WAITING, waits_with_word, MEMORY, GET, 1},
     {"sleeping: high word", SECOND_SLEEPING, spoil_task, SLEEPING, T_HIGH, 1},
     {"store: Event, high word", SECOND_STORE, high_in_store, EVENT, 0, 0},
     {"store: Semaphore, high word", SECOND_STORE, high_in_store, SEMAPHORE, 0, 0},
@@ -1888,6 +2175,9 @@ static const damage high_damages[] = {
     {"store: Resource, high word", SECOND_STORE, high_in_store, RESOURCE, 0, 0},
     {"store: Board without a word, high word", SECOND_STORE, high_in_store, BOARD, 0, 0},
     {"store: Board, a second high word", SECOND_STORE, high_in_store, BOARD, 1, 0},
+    {"store: Memory, high word, a free block's", SECOND_STORE, high_in_mark, 0, 0, 0},
+    {"store: Memory, high word, a block's that is out", SECOND_STORE, high_in_mark, 0, 1, 0},
+    {"store: Memory, high word past the limit", SECOND_STORE, high_in_mark, 0, 2, 0},
 };
 
 enum {

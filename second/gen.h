@@ -16,6 +16,7 @@
  *   i  tables to be moved (M-105): any of the above, and gen_clear_high, gen_one_high
  *   j  pairs of tables to be compared (M-106): any two of the above, a table before and after
  *      a call, and gen_one_word, gen_apart, gen_last_word
+ *   k  blocks put to and taken from a Memory (M-107): gen_pool
  */
 #ifndef GEN_H
 #define GEN_H
@@ -50,7 +51,7 @@ typedef struct {
 void gen_draw_mood(gen_random *random, gen_mood *mood);
 
 /* The same without the kinds above `kinds`: RESOURCE gives the runs from before there
- * were Boards. */
+ * were Boards, BOARD those from before there were Memories. */
 void gen_draw_mood_of(gen_random *random, gen_mood *mood, uint32_t kinds);
 void gen_turn(gen_random *random, gen_mood *mood);
 
@@ -70,6 +71,12 @@ void gen_stop(gen_random *random, uint32_t edition, uint32_t *table, uint32_t ca
  * written, and a request of the running task to it, mostly an update: what gen_call
  * comes upon seldom, up to 15 readers met in one call. One of ten is a wipe of any hub. */
 void gen_board(gen_random *random, uint32_t edition, uint32_t *table, uint32_t call[8]);
+
+/* A well-formed table with a Memory at which none to 15 getters wait, or of whose blocks some
+ * are free, any of them, and a request of the running task to it, three of five a put: mostly
+ * of a block that is out, else of one that isn't, of a number past the limit, or with a high
+ * word. */
+void gen_pool(gen_random *random, uint32_t edition, uint32_t *table, uint32_t call[8]);
 
 /* A well-formed table with a hub at which none to 15 tasks wait, and a request of the
  * running task to it, mostly one that has to wait too: what gen_call comes upon seldom,

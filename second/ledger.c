@@ -1,5 +1,6 @@
 /* Demand 3's bookkeeping, with M-101's balance of each Resource, M-103's word of each
- * Board, and M-105's messages and moves; ledger.h says what it reads and what it doesn't. */
+ * Board, M-105's messages and moves, and M-107's balance of each block; ledger.h says what it
+ * reads and what it doesn't. */
 #include "ledger.h"
 
 #include <string.h>
@@ -23,6 +24,7 @@ void ledger_begin(ledger *book)
     for (int hub = 0; hub < HUBS; hub++) {
         ledger_hub *of = &book->hub[hub];
         of->puts = of->gets = of->wipes = of->owners_removed = 0;
+        memset(of->out, 0, sizeof of->out);
         of->written = 0;
     }
 }
@@ -145,16 +147,30 @@ static const char *follow_waiter(ledger *book, uint32_t task, const uint32_t *be
 
 /* ---- Words and counts -------------------------------------------------- */
 
+/* A number that no block has is counted nowhere: then the blocks out don't add up to the
+ * met gets less the met puts. */
+static void enter_block(ledger_hub *hub, uint64_t block, uint32_t more)
+{
+    if (block < BLOCKS_MAX)
+        hub->out[block] += more;
+}
+
 static void enter_meeting(ledger *book, const ledger_request *request, const uint32_t *after)
 {
     ledger_hub *hub = &book->hub[request->hub];
+    int blocks = kind_of(after, request->hub) == MEMORY;
 
-    if (request->side == PUT)
+    if (request->side == PUT) {
         hub->put[hub->puts++] = request->word;
-    else if (request->side == GET)
+        if (blocks)
+            enter_block(hub, request->word, UINT32_MAX); /* one less */
+    } else if (request->side == GET) {
         hub->got[hub->gets++] = task_message(after, request->task);
-    else
+        if (blocks)
+            enter_block(hub, task_message(after, request->task), 1);
+    } else {
         hub->wipes++;
+    }
 }
 
 /* What one call met: the caller's request, and those that waited. */
@@ -227,6 +243,67 @@ static void enter_removed(ledger *book, const uint32_t *before, const uint32_t *
         book->hub[hub].owners_removed += (uint32_t)stop_removes_owner(before, call, reply, hub);
 }
 
+/* "Only not now holds back a get, and that exactly when no block is free", and what is its
+ * like for a put: met exactly when its block is out. Which blocks are out before the call is
+ * known from the meetings alone. */
+static const char *block_right(const ledger_hub *hub, const ledger_request *request,
+                               uint32_t blocks)
+{
+    uint32_t free = 0;
+
+    for (uint32_t block = 0; block < blocks; block++)
+        free += hub->out[block] == 0;
+    if (request->side == GET && (request->class == IS_MET) != (free > 0))
+        return free > 0 ? "Memory: a get is held back though a block is free"
+                        : "Memory: a get is met though no block is free";
+    if (request->side == GET)
+        return NULL;
+    if (request->class == IS_WAITING)
+        return "Memory: a put waits";
+    int out = request->word < blocks && hub->out[request->word] == 1;
+    if ((request->class == IS_MET) != out)
+        return out ? "Memory: a put of a block that is out isn't met"
+                   : "Memory: a put of a number that isn't out is met";
+    return NULL;
+}
+
+/* Of the call's own request, before its meetings are entered. */
+static const char *blocks_right(const ledger *book, const uint32_t *before, const uint32_t *call)
+{
+    if (call[C_SERVICE] != HUB_REQUEST || kind_of(before, call[C_TARGET]) != MEMORY)
+        return NULL;
+    return block_right(&book->hub[call[C_TARGET]], &book->request[book->requests - 1],
+                       before[hub_place(before, call[C_TARGET]) + H_LIMIT]);
+}
+
+/* Per block: met gets that received it less met puts of it is its mark. So no block is out
+ * twice, and met gets less met puts is how many are out, which leaves the count free. */
+static int memory_adds_up(const ledger_hub *hub, const uint32_t *table, uint32_t number)
+{
+    const uint32_t *record = table + hub_place(table, number);
+    uint32_t out = 0;
+
+    for (uint32_t block = 0; block < BLOCKS_MAX; block++) {
+        if (message_at(table, held_place(table, number, block)) != hub->out[block] ||
+            hub->out[block] > (block < record[H_LIMIT]))
+            return 0;
+        out += hub->out[block];
+    }
+    return hub->gets - hub->puts == out && record[H_LIMIT] - record[H_COUNT] == out;
+}
+
+/* The same from the words of all meetings, once more. */
+static int blocks_again(const ledger_hub *hub)
+{
+    uint32_t out[BLOCKS_MAX] = {0};
+
+    for (uint32_t i = 0; i < hub->gets; i++)
+        out[hub->got[i] % BLOCKS_MAX]++;
+    for (uint32_t i = 0; i < hub->puts; i++)
+        out[hub->put[i] % BLOCKS_MAX]--;
+    return memcmp(out, hub->out, sizeof out) == 0;
+}
+
 static int messages_equal(const uint64_t *a, const uint64_t *b, uint32_t count)
 {
     return memcmp(a, b, count * sizeof *a) == 0;
@@ -268,6 +345,10 @@ static const char *hub_adds_up(const ledger_hub *hub, const uint32_t *table, uin
                    : "FIFO: words of met puts aren't those of met gets and those held";
     case BOARD: /* a read takes nothing, so nothing adds up: reads_right has the words */
         return NULL;
+    case MEMORY:
+        return memory_adds_up(hub, table, number)
+                   ? NULL
+                   : "Memory: a block's met gets - met puts isn't its mark, or the count is wrong";
     default:
         return hub->gets - hub->puts - hub->owners_removed == (count != 0)
                    ? NULL
@@ -318,6 +399,8 @@ const char *ledger_enter(ledger *book, const uint32_t *before, const uint32_t ca
     for (uint32_t task = 0; task < after[TASKS_IN_USE_AT]; task++)
         if ((wrong = enter_task(book, task, before, call, reply, after, &met)) != NULL)
             return wrong;
+    if ((wrong = blocks_right(book, before, call)) != NULL)
+        return wrong;
     if ((wrong = enter_meetings(book, &met, call, after)) != NULL)
         return wrong;
     enter_board(book, before, call);
@@ -386,6 +469,8 @@ const char *ledger_end(const ledger *book, const uint32_t *table)
             return "met requests don't add up again";
         if ((wrong = hub_adds_up(&book->hub[hub], table, hub, 0)) != NULL)
             return wrong;
+        if (kind_of(table, hub) == MEMORY && !blocks_again(&book->hub[hub]))
+            return "Memory: the blocks of the meetings don't add up again";
     }
     return NULL;
 }

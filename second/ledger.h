@@ -25,9 +25,11 @@ typedef struct {
 /* The words of one hub's met requests, in order of meeting. At a Resource a put
  * unlocks, a get locks, and Stop may take the owner away (M-101). At a Board a put
  * updates and a get reads; what it shows comes from the calls alone: the word of the
- * last accepted update, unless a wipe came after it (M-103). */
+ * last accepted update, unless a wipe came after it (M-103). At a Memory a get takes a
+ * block, whose number it receives, and a put brings one back (M-107). */
 typedef struct {
     uint32_t puts, gets, wipes, owners_removed;
+    uint32_t out[8]; /* at a Memory: met gets that received the block less met puts of it */
     int written;
     uint64_t shown; /* while written */
     uint64_t put[LEDGER_REQUESTS], got[LEDGER_REQUESTS];

@@ -1,4 +1,4 @@
-/* The numbers of document 01, M-100, M-103, M-105 and M-106, each once and with its name.
+/* The numbers of document 01, M-100, M-103 and M-105 to M-107, each once and with its name.
  * Nothing here computes anything but a place in the table and what stands there. Shared
  * by the second program, its generator and its tests; the drills and the constructed
  * cases of the tests write the same numbers out, and expect.c has places of its own, so
@@ -37,8 +37,8 @@ enum { PRIORITY_MAX = 255, TICKS_MAX = 1000000 };
 
 /* Hub record. */
 enum { H_KIND, H_COUNT, H_LIMIT, H_START };
-enum { EVENT = 1, SEMAPHORE = 2, PORT = 3, FIFO = 4, RESOURCE = 5, BOARD = 6 };
-enum { SEMAPHORE_MAX = 65535, FIFO_MAX = 8 };
+enum { EVENT = 1, SEMAPHORE = 2, PORT = 3, FIFO = 4, RESOURCE = 5, BOARD = 6, MEMORY = 7 };
+enum { SEMAPHORE_MAX = 65535, FIFO_MAX = 8, BLOCKS_MAX = 8 };
 
 /* A call. */
 enum { C_SERVICE, C_CALLER, C_TARGET, C_SIDE, C_MODE, C_TICKS, C_WORD, C_HIGH, CALL_NUMBERS };

@@ -1,4 +1,4 @@
-/* The hub kernel of document 01 with M-100, M-101 and M-103 to M-106, from the papers alone:
+/* The hub kernel of document 01 with M-100, M-101 and M-103 to M-107, from the papers alone:
  * messages, well formed, lists, hubs, services, refusals, the listing, the moves, the
  * comparison, edges, in that order. The contract is second.h.
  *
@@ -200,6 +200,8 @@ static int kind_allows(uint32_t kind, uint32_t limit, uint32_t start)
         return limit == 0 && start == 0;
     case FIFO:
         return limit >= 1 && limit <= FIFO_MAX && start == 0;
+    case MEMORY:
+        return limit >= 1 && limit <= BLOCKS_MAX && start == limit;
     default:
         return 0;
     }
@@ -222,7 +224,26 @@ static int getters_may_wait(const uint32_t *hub, uint32_t waiters)
 
 static int putters_may_wait(const uint32_t *hub)
 {
-    return hub[H_KIND] != RESOURCE && hub[H_KIND] != BOARD && hub[H_COUNT] == hub[H_LIMIT];
+    return hub[H_KIND] != RESOURCE && hub[H_KIND] != BOARD && hub[H_KIND] != MEMORY &&
+           hub[H_COUNT] == hub[H_LIMIT];
+}
+
+/* Block i's mark is 1 when it is out; behind the limit there is no block. The blocks that
+ * aren't out are the count. */
+static int memory_clause(const uint32_t *table, uint32_t number)
+{
+    const uint32_t *hub = table + hub_place(table, number);
+    uint32_t out = 0;
+
+    for (uint32_t block = 0; block < HELD_MOST; block++) {
+        uint64_t mark = message(table, held_place(table, number, block));
+        if (mark > 1)
+            return SECOND_STORE;
+        if (mark == 1 && block >= hub[H_LIMIT])
+            return SECOND_STORE;
+        out += mark == 1;
+    }
+    return hub[H_COUNT] + out == hub[H_LIMIT] ? SECOND_RIGHT : SECOND_BLOCKS;
 }
 
 static int hub_clause(const uint32_t *table, uint32_t number, const census *seen)
@@ -251,6 +272,8 @@ static int hub_clause(const uint32_t *table, uint32_t number, const census *seen
             return SECOND_PUTTERS;
     }
 
+    if (hub[H_KIND] == MEMORY)
+        return memory_clause(table, number);
     uint32_t held = holds_words(hub[H_KIND]) ? hub[H_COUNT] : 0;
     size_t behind = held_place(table, number, held), end = held_place(table, number, HELD_MOST);
     return all_zero(table + behind, end - behind) ? SECOND_RIGHT : SECOND_STORE;
@@ -509,6 +532,44 @@ static outcome board_wipe(uint32_t *table, uint32_t number)
     return MET;
 }
 
+/* The number is the whole message, so one with a high word is no block's. */
+static int is_out(const uint32_t *table, uint32_t number, uint64_t block)
+{
+    if (block >= table[hub_place(table, number) + H_LIMIT])
+        return 0;
+    return table[held_place(table, number, (uint32_t)block)] == 1;
+}
+
+/* Getters wait only while every block is out: the block that comes back goes to the first
+ * of them, so its mark and the count stay. */
+static outcome memory_put(uint32_t *table, uint32_t number, uint64_t block)
+{
+    if (!is_out(table, number, block))
+        return FAILED;
+    if (waiting_side(table, number) == GET) {
+        meet_first(table, number, block);
+        return MET;
+    }
+    table[held_place(table, number, (uint32_t)block)] = 0;
+    table[hub_place(table, number) + H_COUNT]++;
+    return MET;
+}
+
+/* The lowest block that isn't out. */
+static outcome memory_get(uint32_t *table, uint32_t number, uint64_t *received)
+{
+    uint32_t *hub = table + hub_place(table, number), block = 0;
+
+    if (hub[H_COUNT] == 0)
+        return NOT_NOW;
+    while (is_out(table, number, block))
+        block++;
+    table[held_place(table, number, block)] = 1;
+    hub[H_COUNT]--;
+    *received = block;
+    return MET;
+}
+
 static outcome put(uint32_t *table, uint32_t hub, uint32_t caller, uint64_t word)
 {
     switch (table[hub_place(table, hub) + H_KIND]) {
@@ -520,6 +581,8 @@ static outcome put(uint32_t *table, uint32_t hub, uint32_t caller, uint64_t word
         return resource_put(table, hub, caller);
     case BOARD:
         return board_update(table, hub, word);
+    case MEMORY:
+        return memory_put(table, hub, word);
     default:
         return counter_put(table, hub);
     }
@@ -536,6 +599,8 @@ static outcome get(uint32_t *table, uint32_t hub, uint32_t caller, uint64_t *rec
         return resource_get(table, hub, caller);
     case BOARD:
         return board_read(table, hub, received);
+    case MEMORY:
+        return memory_get(table, hub, received);
     default:
         return counter_get(table, hub);
     }

@@ -1,5 +1,5 @@
 /* The second program: the hub kernel of document 01 again, with requests M-100, M-101 and
- * M-103 to M-106, in C11, written from the papers alone. It is what the proved kernel is
+ * M-103 to M-107, in C11, written from the papers alone. It is what the proved kernel is
  * compared with.
  *
  * Ownership: the caller owns the table and lends it for one call. No globals,
@@ -77,7 +77,9 @@ typedef enum {
     SECOND_ONE_SIDE,     /* putters and getters in one list */
     SECOND_GETTERS,      /* getters wait where none may */
     SECOND_PUTTERS,      /* putters wait where none may */
-    SECOND_STORE         /* a store holds more than its FIFO's words, or its Board's word */
+    SECOND_STORE,        /* a store holds more than its FIFO's words, or its Board's word, or
+                          * something but a 1 for a block */
+    SECOND_BLOCKS        /* a Memory's count isn't how many of its blocks have no mark */
 } second_clause;
 
 second_reply second_call(uint32_t *table, size_t words, const uint32_t call[8]);

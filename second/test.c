@@ -1,6 +1,6 @@
 /* The second program's tests: constructed cases, runs from Blank with demand 3
- * checked, built tables, Stops of owners, requests to Boards and to hubs at which many
- * wait, damaged tables, listings, pairs of tables compared, all on both editions; moves from
+ * checked, built tables, Stops of owners, requests to Boards, to Memories and to hubs at
+ * which many wait, damaged tables, listings, pairs of tables compared, all on both editions; moves from
  * one to the other, in the middle of runs too; coverage.
  * `test SIZE` runs them all, one line each; the first failure ends the program.
  *
@@ -36,7 +36,7 @@ typedef struct {
     uint32_t runs, calls;         /* family a: runs, calls in each */
     uint32_t tables, table_calls; /* family b */
     uint32_t stops, boards;       /* families f and g */
-    uint32_t queues;              /* family h */
+    uint32_t pools, queues;       /* families k and h */
     uint32_t damages, flips;      /* family c: tables per family; tables with flips */
     uint32_t set_ups, rooms;      /* family e: tables listed; tables listed into every room */
     uint32_t moves, moved_runs;   /* family i: tables moved, so many done each way at least;
@@ -48,11 +48,11 @@ typedef struct {
 } scale;
 
 static const scale scales[] = {
-    {"quick", 60, 400, 1000, 8, 400, 400, 400, 3, 3000, 200, 3, 1500, 40, 500, 3, 40000, 60, 0},
-    {"gate", 1500, 500, 60000, 8, 20000, 20000, 20000, 110, 200000, 20000, 80, 100000, 600, 30000,
-     60, 1000000, 600, 1},
-    {"long", 20000, 1000, 1000000, 8, 400000, 400000, 400000, 1000, 5000000, 400000, 2000, 2000000,
-     10000, 600000, 1500, 30000000, 14400, 1},
+    {"quick", 60, 400, 1000, 8, 400, 400, 400, 400, 3, 3000, 200, 3, 1500, 40, 500, 3, 40000, 60, 0},
+    {"gate", 1500, 500, 60000, 8, 20000, 20000, 20000, 25000, 110, 200000, 20000, 80, 100000, 600,
+     30000, 60, 1000000, 600, 1},
+    {"long", 20000, 1000, 1000000, 8, 400000, 400000, 400000, 400000, 1000, 5000000, 400000, 2000,
+     2000000, 10000, 600000, 1500, 30000000, 14400, 1},
 };
 
 /* Where the tests are, for the report of a failure, and what they counted. */
@@ -1016,6 +1016,88 @@ static void case_readers_15(bench *at)
     end_run(at, NULL, table);
 }
 
+/* M-107, nobody waiting: limits and starts; three blocks taken from the lowest on, put in
+ * another order and taken again; not now; and every FAIL, in every mode. */
+static void case_blocks(bench *at)
+{
+    static const step steps[] = {
+        {{0, 0, 0, 0, 0, 0, 0}, {0, 0, 0, 0}, {{0, 0}}},
+        {{10, 0, 7, 0, 0, 0, 0}, {6, 0, 0, 0}, {{0, 0}}},
+        {{10, 0, 7, 0, 0, 9, 9}, {6, 0, 0, 0}, {{0, 0}}},
+        {{10, 0, 7, 0, 0, 3, 0}, {6, 0, 0, 0}, {{0, 0}}},
+        {{10, 0, 7, 0, 0, 3, 2}, {6, 0, 0, 0}, {{0, 0}}},
+        {{10, 0, 7, 0, 0, 3, 4}, {6, 0, 0, 0}, {{0, 0}}},
+        {{10, 0, 8, 0, 0, 3, 3}, {6, 0, 0, 0}, {{2, 0}}},
+        {{10, 0, 7, 0, 0, 8, 8}, {0, 0, 0, 0}, {{136, 7}, {137, 8}, {138, 8}, {139, 8}}},
+        {{10, 0, 7, 0, 0, 3, 3}, {0, 0, 0, 0}, {{140, 7}, {141, 3}, {142, 3}, {143, 3}}},
+        {{9, 0, 5, 1, 0, 0, 0}, {0, 0, 1, 0}, {{0, 0}}},
+        {{1, 0, 1, 1, 2, 0, 0}, {0, 2, 1, 0}, {{141, 3}, {480, 0}, {8, 2}, {14, 0}}}, /* FAIL: in */
+        {{1, 0, 1, 1, 1, 0, 0}, {0, 2, 1, 0}, {{141, 3}, {480, 0}, {8, 2}}},
+        {{1, 0, 1, 1, 3, 5, 2}, {0, 2, 1, 0}, {{141, 3}, {482, 0}, {8, 2}, {12, 0}}},
+        {{1, 0, 1, 2, 2, 0, 9}, {0, 1, 1, 0}, {{14, 0}, {15, 1}, {141, 2}, {480, 1}}}, /* block 0 */
+        {{1, 0, 1, 2, 1, 0, 9}, {0, 1, 1, 0}, {{14, 1}, {141, 1}, {480, 1}, {481, 1}}},
+        {{1, 0, 1, 2, 3, 4, 9}, {0, 1, 1, 0}, {{14, 2}, {12, 0}, {141, 0}, {482, 1}}},
+        {{1, 0, 1, 2, 2, 0, 9}, {0, 2, 1, 0}, {{14, 0}, {141, 0}, {483, 0}}}, /* none left */
+        {{1, 0, 1, 1, 1, 0, 3}, {0, 2, 1, 0}, {{8, 2}, {141, 0}, {483, 0}}}, /* the limit */
+        {{1, 0, 1, 1, 2, 0, 4}, {0, 2, 1, 0}, {{8, 2}, {141, 0}, {484, 0}}},
+        {{1, 0, 1, 1, 3, 9, 8}, {0, 2, 1, 0}, {{8, 2}, {141, 0}, {488, 0}}},
+        {{1, 0, 1, 1, 1, 0, MAX}, {0, 2, 1, 0}, {{8, 2}, {141, 0}}},
+        {{1, 0, 1, 1, 1, 0, 1}, {0, 1, 1, 0}, {{14, 0}, {141, 1}, {481, 0}, {480, 1}}},
+        {{1, 0, 1, 1, 1, 0, 1}, {0, 2, 1, 0}, {{8, 2}, {141, 1}, {481, 0}}}, /* it is in by now */
+        {{1, 0, 1, 1, 2, 0, 0}, {0, 1, 1, 0}, {{14, 0}, {141, 2}, {480, 0}, {482, 1}}},
+        {{1, 0, 1, 2, 2, 0, 2}, {0, 1, 1, 0}, {{14, 0}, {141, 1}, {480, 1}}}, /* the lowest */
+        {{1, 0, 1, 2, 2, 0, 0}, {0, 1, 1, 0}, {{14, 1}, {141, 0}, {481, 1}}}, /* used again */
+        {{1, 0, 1, 1, 3, 1, 2}, {0, 1, 1, 0}, {{14, 0}, {12, 0}, {141, 1}, {482, 0}}},
+        {{1, 0, 1, 2, 3, 1, 2}, {0, 1, 1, 0}, {{14, 2}, {141, 0}, {482, 1}, {483, 0}}},
+        {{1, 0, 0, 2, 1, 0, 0}, {0, 1, 1, 0}, {{14, 0}, {137, 7}, {472, 1}, {141, 0}}}, /* hub 0's */
+        {{1, 0, 2, 3, 2, 0, 0}, {5, 0, 0, 0}, {{0, 0}}},
+        {{1, 0, 1, 3, 2, 0, 0}, {6, 0, 0, 0}, {{0, 0}}}, /* no Board */
+        {{1, 0, 1, 1, 1, 1, 0}, {6, 0, 0, 0}, {{480, 1}}},
+        {{1, 0, 1, 2, 4, 0, 0}, {6, 0, 0, 0}, {{0, 0}}},
+    };
+    TAKE_STEPS(at, "blocks", steps);
+}
+
+/* M-107, three getters at a Memory of two blocks: task 2 before its elders, 0 with ticks and 1
+ * suspended. Task 3 has both blocks and brings back the second, then the first: each goes to
+ * the first getter. One times out, one is withdrawn, and a block is in again. */
+static void case_getters(bench *at)
+{
+    static const step steps[] = {
+        {{0, 0, 0, 0, 0, 0, 0}, {0, 0, 0, 0}, {{0, 0}}},
+        {{10, 0, 3, 0, 0, 0, 0}, {0, 0, 0, 0}, {{0, 0}}},
+        {{10, 0, 7, 0, 0, 2, 2}, {0, 0, 0, 0}, {{140, 7}}},
+        {{9, 0, 4, 0, 0, 0, 0}, {0, 0, 0, 0}, {{0, 0}}},
+        {{9, 0, 4, 0, 0, 0, 0}, {0, 0, 0, 0}, {{0, 0}}},
+        {{9, 0, 3, 0, 0, 0, 0}, {0, 0, 0, 0}, {{0, 0}}},
+        {{9, 0, 9, 1, 0, 0, 0}, {0, 0, 4, 0}, {{0, 0}}},
+        {{1, 3, 1, 2, 2, 0, 7}, {0, 1, 4, 0}, {{38, 0}, {141, 1}}},
+        {{1, 3, 1, 2, 2, 0, 7}, {0, 1, 4, 0}, {{38, 1}, {141, 0}, {480, 1}, {481, 1}}},
+        {{2, 3, 0, 0, 0, 0, 0}, {0, 1, 1, 0}, {{38, 0}}},
+        {{1, 0, 1, 2, 3, 3, 55}, {0, 0, 4, 0}, {{8, 3}, {12, 3}, {13, 2}, {14, 0}}},
+        {{2, 3, 1, 0, 0, 0, 0}, {0, 1, 2, 0}, {{0, 0}}},
+        {{1, 1, 1, 2, 1, 0, 1}, {0, 0, 4, 1}, {{232, 1}, {233, 2}, {22, 0}}},
+        {{4, 3, 1, 0, 0, 0, 0}, {0, 1, 4, 0}, {{17, 1}}},
+        {{2, 3, 2, 0, 0, 0, 0}, {0, 1, 3, 0}, {{0, 0}}},
+        {{1, 2, 1, 2, 3, 9, 0}, {0, 0, 4, 0}, {{232, 3}, {233, 1}, {234, 2}}},
+        {{1, 3, 1, 2, 2, 0, 0}, {0, 2, 4, 0}, {{232, 3}, {141, 0}}}, /* not now */
+        {{1, 3, 1, 1, 1, 0, 2}, {0, 2, 4, 0}, {{232, 3}, {32, 2}, {141, 0}}}, /* FAIL, awaited */
+        {{1, 3, 1, 1, 3, 7, 1}, {0, 1, 3, 0}, {{30, 1}, {31, 1}, {28, 0}, {38, 0}}},
+        {{11, 0, 0, 0, 0, 0, 0}, {3, 0, 0, 0}, {{232, 1}, {141, 0}, {480, 1}, {481, 1}}},
+        {{6, 2, 0, 0, 0, 0, 0}, {0, 1, 3, 0}, {{30, 0}}},
+        {{7, 2, 0, 0, 0, 2, 0}, {0, 0, 4, 0}, {{0, 0}}},
+        {{1, 3, 1, 1, 1, 0, 0}, {0, 1, 1, 0}, {{14, 0}, {15, 1}, {12, 0}, {232, 2}}}, /* block 0 */
+        {{8, 0, 0, 0, 0, 0, 0}, {0, 0, 1, 0}, {{28, 1}, {12, 0}, {232, 2}, {141, 0}}},
+        {{1, 0, 1, 2, 3, 1, 0}, {0, 0, 4, 1}, {{232, 2}, {233, 1}}},
+        {{8, 0, 0, 0, 0, 0, 0}, {0, 0, 3, 0}, {{15, 3}, {14, 0}, {232, 2}, {233, 0}}}, /* TO */
+        {{3, 2, 1, 0, 0, 0, 0}, {0, 1, 3, 0}, {{232, 0}, {16, 1}, {141, 0}, {481, 1}}},
+        {{1, 2, 1, 1, 1, 0, 1}, {0, 1, 3, 0}, {{141, 1}, {480, 1}, {481, 0}, {30, 0}}},
+        {{3, 2, 3, 0, 0, 0, 0}, {0, 1, 3, 0}, {{141, 1}, {480, 1}}}, /* what it took stays out */
+        {{1, 2, 1, 2, 1, 0, 1}, {0, 1, 3, 0}, {{30, 1}, {141, 0}, {481, 1}}},
+    };
+    TAKE_STEPS(at, "getters at a Memory", steps);
+}
+
 /* M-104, a queue at a Semaphore that is hub 1, tasks 0 to 5 with priorities 5, 5, 9, 1,
  * 200 and 5: nobody ahead, an equal, two more urgent ones; one who goes in front; one
  * between, a suspended waiter ahead of it. And calls with nobody ahead though some wait:
@@ -1058,13 +1140,14 @@ static void case_ahead(bench *at)
 static void fill_hub(bench *at, uint32_t kind, uint32_t side, int equals)
 {
     uint32_t table[WORDS_MOST] = {0}, limit = kind == 3 ? 0 : 1, comers = kind == 5 ? 15 : 16;
+    uint32_t start = kind == 7 ? 1 : 0;
 
     ledger_begin(&at->book);
     enter_call(at, table, (uint32_t[8]){0}, 0);
     enter_call(at, table, (uint32_t[8]){10, 0, 2, 0, 0, 9, 9}, 0); /* nobody waits at hub 0 */
-    enter_call(at, table, (uint32_t[8]){10, 0, kind, 0, 0, limit, 0}, 0);
+    enter_call(at, table, (uint32_t[8]){10, 0, kind, 0, 0, limit, start}, 0);
     enter_call(at, table, (uint32_t[8]){9, 0, 40, 1, 0, 0, 0}, 0);
-    if (kind == 5 || (side == 1 && kind != 3)) /* the lock, the one that there is room for */
+    if (kind == 5 || kind == 7 || (side == 1 && kind != 3)) /* the lock, the block, the room */
         enter_call(at, table, (uint32_t[8]){1, 0, 1, side, 2, 0, 1}, 0);
     if (kind == 5)
         enter_call(at, table, (uint32_t[8]){7, 0, 0, 0, 0, 9, 0}, 0);
@@ -1083,7 +1166,7 @@ static void fill_hub(bench *at, uint32_t kind, uint32_t side, int equals)
 static void case_ahead_15(bench *at)
 {
     begin(at, "15 ahead", 0);
-    for (uint32_t kind = 1; kind <= 6; kind++)
+    for (uint32_t kind = 1; kind <= 7; kind++)
         for (uint32_t side = kind < 5 ? 1 : 2; side <= 2; side++)
             for (uint32_t edition = EDITION_2; edition >= EDITION_1; edition--) {
                 set_edition(at, edition);
@@ -1210,9 +1293,10 @@ static void case_high_on_1(bench *at)
         {{10, 0, 4, 0, 0, 8, 0, 1}, {0, 0, 1, 0}, {{148, 4}}},
         {{10, 0, 5, 0, 0, 1, 0, 1}, {0, 0, 1, 0}, {{152, 5}}},
         {{10, 0, 6, 0, 0, 1, 0, 1}, {0, 0, 1, 0}, {{156, 6}}},
+        {{10, 0, 7, 0, 0, 2, 2, 1}, {0, 0, 1, 0}, {{160, 7}, {161, 2}, {162, 2}, {163, 2}}},
         {{11, 0, 0, 0, 0, 0, 0, 1}, {3, 0, 0, 0}, {{0, 0}}},
         {{1, 1, 0, 1, 2, 0, 0, 1}, {4, 0, 0, 0}, {{0, 0}}},
-        {{1, 0, 6, 1, 2, 0, 0, 1}, {5, 0, 0, 0}, {{0, 0}}},
+        {{1, 0, 7, 1, 2, 0, 0, 1}, {5, 0, 0, 0}, {{0, 0}}},
         {{1, 0, 0, 1, 2, 0, 0, 1}, {6, 0, 0, 0}, {{137, 0}}},
         {{1, 0, 0, 2, 2, 0, 0, 1}, {6, 0, 0, 0}, {{15, 0}}},
         {{1, 0, 1, 1, 2, 0, 0, 1}, {6, 0, 0, 0}, {{141, 4}}},
@@ -1226,6 +1310,11 @@ static void case_high_on_1(bench *at)
         {{1, 0, 5, 1, 2, 0, 0, 1}, {6, 0, 0, 0}, {{157, 0}}},
         {{1, 0, 5, 2, 2, 0, 0, 1}, {6, 0, 0, 0}, {{0, 0}}},
         {{1, 0, 5, 3, 2, 0, 0, 1}, {6, 0, 0, 0}, {{0, 0}}},
+        {{1, 0, 6, 2, 2, 0, 0, 0}, {0, 1, 1, 0}, {{161, 1}, {520, 1}}},
+        {{1, 0, 6, 1, 2, 0, 0, 1}, {6, 0, 0, 0}, {{161, 1}, {520, 1}}}, /* before its FAIL, too */
+        {{1, 0, 6, 2, 2, 0, 0, 1}, {6, 0, 0, 0}, {{161, 1}, {521, 0}}},
+        {{1, 0, 6, 3, 2, 0, 0, 0}, {6, 0, 0, 0}, {{0, 0}}},
+        {{1, 0, 6, 1, 2, 0, 0, 0}, {0, 1, 1, 0}, {{161, 2}, {520, 0}}},
         {{1, 0, 3, 1, 2, 0, 77, 0}, {0, 1, 1, 0}, {{149, 1}, {496, 77}}},
         {{6, 0, 0, 0, 0, 0, 0, 1}, {0, 1, 1, 0}, {{0, 0}}},
         {{5, 0, 0, 0, 0, 0, 0, 1}, {0, 2, 1, 0}, {{0, 0}}},
@@ -1317,6 +1406,47 @@ static void case_moves(bench *at)
     go_on(at, table, (uint32_t[8]){6, 1, 0, 0, 0, 0, 0}, (second_reply){0, 1, 2, 0});
     move_on(at, table, 0);
     go_on(at, table, (uint32_t[8]){1, 1, 0, 2, 2, 0, 0}, (second_reply){0, 2, 2, 0});
+    end_run(at, NULL, table);
+    set_edition(at, EDITION_1);
+}
+
+/* M-107 on edition 2: the number is the whole message, so with a high word no block's, in
+ * every mode and while a getter waits; moved up with a block out, and down again. */
+static void case_high_blocks(bench *at)
+{
+    static const uint32_t up[][2] = {
+        {152, 7}, {153, 1}, {154, 2}, {155, 2}, {488, 1}, {489, 0}, {490, 0}, {491, 0}, {14, 0},
+    };
+    static const uint32_t down[][2] = {{136, 7}, {137, 1}, {138, 2}, {139, 2}, {472, 1}, {473, 0}};
+    uint32_t table[WORDS_MOST] = {0};
+
+    begin(at, "blocks moved", 0);
+    ledger_begin(&at->book);
+    set_edition(at, EDITION_1);
+    go_on(at, table, (uint32_t[8]){0}, (second_reply){0, 0, 0, 0});
+    go_on(at, table, (uint32_t[8]){10, 0, 7, 0, 0, 2, 2, MAX}, (second_reply){0, 0, 0, 0});
+    go_on(at, table, (uint32_t[8]){9, 0, 5, 1, 0, 0, 0}, (second_reply){0, 0, 1, 0});
+    go_on(at, table, (uint32_t[8]){1, 0, 0, 2, 2, 0, 0}, (second_reply){0, 1, 1, 0});
+    move_on(at, table, 0);
+    words_are(at, table, up, sizeof up / sizeof *up);
+    go_on(at, table, (uint32_t[8]){1, 0, 0, 1, 1, 0, 0, 1}, (second_reply){0, 2, 1, 0});
+    go_on(at, table, (uint32_t[8]){1, 0, 0, 1, 2, 0, 0, MAX}, (second_reply){0, 2, 1, 0});
+    go_on(at, table, (uint32_t[8]){1, 0, 0, 1, 3, 2, 1, 1}, (second_reply){0, 2, 1, 0});
+    words_are(at, table, up, sizeof up / sizeof *up);
+    go_on(at, table, (uint32_t[8]){1, 0, 0, 2, 2, 0, 0, 5}, (second_reply){0, 1, 1, 0});
+    words_are(at, table, (const uint32_t[][2]){{14, 1}, {15, 0}, {153, 0}, {490, 1}, {491, 0}}, 5);
+    move_on(at, table, 0); /* a number received has no high word */
+    move_on(at, table, 0);
+    go_on(at, table, (uint32_t[8]){9, 0, 3, 1, 0, 0, 0}, (second_reply){0, 0, 2, 0});
+    go_on(at, table, (uint32_t[8]){1, 1, 0, 2, 1, 0, 1, 1}, (second_reply){0, 0, 1, 0});
+    go_on(at, table, (uint32_t[8]){1, 0, 0, 1, 1, 0, 1, 1}, (second_reply){0, 2, 1, 0});
+    move_on(at, table, 0);
+    move_on(at, table, 0);
+    go_on(at, table, (uint32_t[8]){1, 0, 0, 1, 1, 0, 1, 0}, (second_reply){0, 1, 2, 0});
+    words_are(at, table, (const uint32_t[][2]){{23, 1}, {24, 0}, {153, 0}, {490, 1}, {14, 0}}, 5);
+    go_on(at, table, (uint32_t[8]){1, 1, 0, 1, 2, 0, 1, 0}, (second_reply){0, 1, 2, 0});
+    move_on(at, table, 0);
+    words_are(at, table, down, sizeof down / sizeof *down);
     end_run(at, NULL, table);
     set_edition(at, EDITION_1);
 }
@@ -1730,6 +1860,8 @@ static void part_cases(bench *at)
     case_board(at);
     case_readers(at);
     case_readers_15(at);
+    case_blocks(at);
+    case_getters(at);
     case_ahead(at);
     case_ahead_15(at);
     case_ticks(at);
@@ -1738,6 +1870,7 @@ static void part_cases(bench *at)
     case_pairs(at);
     case_high_on_1(at);
     case_moves(at);
+    case_high_blocks(at);
     case_move_lengths(at);
     case_lengths(at);
     case_bytes(at);
@@ -1998,7 +2131,7 @@ static void draw_highs(bench *at, uint32_t *table)
     if (at->form->edition == EDITION_1 || draw < 2)
         return;
     gen_clear_high(table);
-    if (draw < 6)
+    if (draw < 7)
         gen_one_high(&at->random, table);
 }
 
@@ -2257,8 +2390,8 @@ static void run_cases(bench *at)
 
     part_cases(at);
     report("cases",
-           "marked lines, refusal order, lengths, bytes, corners, Stops, Boards, ahead, pairs, "
-           "moves, listings, comparisons",
+           "marked lines, refusal order, lengths, bytes, corners, Stops, Boards, blocks, ahead, "
+           "pairs, moves, listings, comparisons",
            at->calls - calls, "calls", since);
 }
 
@@ -2290,6 +2423,12 @@ static void run_well_formed(bench *at, const scale *to)
     snprintf(what, sizeof what, "%" PRIu32 " requests to a Board, none to 15 readers waiting",
              to->boards);
     report("boards", what, at->calls - calls, "calls", since);
+
+    calls = at->calls, since = seconds();
+    part_met(at, "pools", to->pools, gen_pool);
+    snprintf(what, sizeof what, "%" PRIu32 " blocks put or taken, none to 15 getters waiting",
+             to->pools);
+    report("pools", what, at->calls - calls, "calls", since);
 
     calls = at->calls, since = seconds();
     part_queues(at, to);
