@@ -1918,17 +1918,28 @@ static int word_on_board(gen_random *random, uint32_t *table, const damage *fami
     return 1;
 }
 
-/* A mark above 1 for a block that is out; with field 1 as much above as makes up for another
- * block's, which has none then. */
+/* A mark above 1 for a block that is out (field 1) or isn't (field 0). */
 static int mark_above_1(gen_random *random, uint32_t *table, const damage *family)
 {
-    uint32_t hub = pick_memory(random, table, 1 + family->field, 0);
+    uint32_t hub = pick_memory(random, table, family->field, 1 - family->field);
 
     if (hub == NOBODY)
         return 0;
-    if (family->field == 1)
-        table[pick_mark(random, table, hub, 1)] = 0;
-    table[pick_mark(random, table, hub, 1)] = family->field == 1 ? 2 : at_least(random, 2);
+    size_t place = pick_mark(random, table, hub, family->field);
+    table[place] = at_least(random, 2);
+    return 1;
+}
+
+/* A mark of 2 makes up for that of another block, which has none then. */
+static int mark_for_two(gen_random *random, uint32_t *table, const damage *family)
+{
+    uint32_t hub = pick_memory(random, table, 2, 0);
+
+    (void)family;
+    if (hub == NOBODY)
+        return 0;
+    table[pick_mark(random, table, hub, 1)] = 0;
+    table[pick_mark(random, table, hub, 1)] = 2;
     return 1;
 }
 
@@ -2133,8 +2144,9 @@ static const damage damages[] = {
     {"store: Resource", SECOND_STORE, word_in_store, RESOURCE, 0, 0},
     {"store: Board without a word", SECOND_STORE, word_on_board, 0, 0, 0},
     {"store: Board, a second word", SECOND_STORE, word_on_board, 0, 1, 0},
-    {"store: Memory, a mark above 1", SECOND_STORE, mark_above_1, 0, 0, 0},
-    {"store: Memory, a mark of 2 for two blocks", SECOND_STORE, mark_above_1, 0, 1, 0},
+    {"store: Memory, a mark above 1, a free block's", SECOND_STORE, mark_above_1, 0, 0, 0},
+    {"store: Memory, a mark above 1, a block's that is out", SECOND_STORE, mark_above_1, 0, 1, 0},
+    {"store: Memory, a mark of 2 for two blocks", SECOND_STORE, mark_for_two, 0, 0, 0},
     {"store: Memory, a mark at the limit", SECOND_STORE, mark_past_limit, 0, 0, 0},
     {"store: Memory, a mark past the limit", SECOND_STORE, mark_past_limit, 0, 1, 0},
     {"store: Memory, a mark past the limit for a block's", SECOND_STORE, mark_past_limit, 0, 2, 0},

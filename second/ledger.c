@@ -243,37 +243,69 @@ static void enter_removed(ledger *book, const uint32_t *before, const uint32_t *
         book->hub[hub].owners_removed += (uint32_t)stop_removes_owner(before, call, reply, hub);
 }
 
-/* "Only not now holds back a get, and that exactly when no block is free", and what is its
- * like for a put: met exactly when its block is out. Which blocks are out before the call is
- * known from the meetings alone. */
-static const char *block_right(const ledger_hub *hub, const ledger_request *request,
-                               uint32_t blocks)
+/* "Only not now holds back a get, and that exactly when no block is free": then it waits, or
+ * FAILs under NW; else it takes the lowest. */
+static const char *get_right(const ledger_hub *hub, const ledger_request *request,
+                             uint32_t blocks, const uint32_t *call, const uint32_t *after)
 {
-    uint32_t free = 0;
+    uint32_t lowest = 0;
 
-    for (uint32_t block = 0; block < blocks; block++)
-        free += hub->out[block] == 0;
-    if (request->side == GET && (request->class == IS_MET) != (free > 0))
-        return free > 0 ? "Memory: a get is held back though a block is free"
-                        : "Memory: a get is met though no block is free";
-    if (request->side == GET)
-        return NULL;
+    while (lowest < blocks && hub->out[lowest] != 0)
+        lowest++;
+    if (lowest == blocks && request->class == IS_MET)
+        return "Memory: a get is met though no block is free";
+    if (lowest == blocks)
+        return (request->class == IS_WAITING) == (call[C_MODE] != NW)
+                   ? NULL
+                   : "Memory: a get is held back, and not by not now";
+    if (request->class != IS_MET)
+        return "Memory: a get is held back though a block is free";
+    return task_message(after, request->task) == lowest
+               ? NULL
+               : "Memory: a get doesn't take the lowest free block";
+}
+
+/* "A number not out is FAIL in every mode"; else the put is met. */
+static const char *put_right(const ledger_hub *hub, const ledger_request *request,
+                             uint32_t blocks)
+{
+    int out = request->word < blocks && hub->out[request->word] == 1;
+
     if (request->class == IS_WAITING)
         return "Memory: a put waits";
-    int out = request->word < blocks && hub->out[request->word] == 1;
     if ((request->class == IS_MET) != out)
         return out ? "Memory: a put of a block that is out isn't met"
                    : "Memory: a put of a number that isn't out is met";
     return NULL;
 }
 
-/* Of the call's own request, before its meetings are entered. */
-static const char *blocks_right(const ledger *book, const uint32_t *before, const uint32_t *call)
+/* Of the call's own request, before its meetings are entered: so which blocks are out is
+ * known from the meetings before it alone. */
+static const char *blocks_right(const ledger *book, const uint32_t *before, const uint32_t *call,
+                                const uint32_t *after)
 {
+    const ledger_request *request = &book->request[book->requests - 1];
+    const ledger_hub *hub = &book->hub[call[C_TARGET] % HUBS];
+
     if (call[C_SERVICE] != HUB_REQUEST || kind_of(before, call[C_TARGET]) != MEMORY)
         return NULL;
-    return block_right(&book->hub[call[C_TARGET]], &book->request[book->requests - 1],
-                       before[hub_place(before, call[C_TARGET]) + H_LIMIT]);
+    uint32_t blocks = before[hub_place(before, call[C_TARGET]) + H_LIMIT];
+    return request->side == GET ? get_right(hub, request, blocks, call, after)
+                                : put_right(hub, request, blocks);
+}
+
+/* A get that waits is held back, too: no block is free. */
+static const char *getters_right(const ledger *book, const uint32_t *after)
+{
+    for (uint32_t task = 0; task < after[TASKS_IN_USE_AT]; task++) {
+        const ledger_request *request = book->open[task];
+        if (request == NULL || kind_of(after, request->hub) != MEMORY)
+            continue;
+        for (uint32_t block = 0; block < after[hub_place(after, request->hub) + H_LIMIT]; block++)
+            if (book->hub[request->hub].out[block] == 0)
+                return "Memory: a get waits though a block is free";
+    }
+    return NULL;
 }
 
 /* Per block: met gets that received it less met puts of it is its mark. So no block is out
@@ -399,12 +431,14 @@ const char *ledger_enter(ledger *book, const uint32_t *before, const uint32_t ca
     for (uint32_t task = 0; task < after[TASKS_IN_USE_AT]; task++)
         if ((wrong = enter_task(book, task, before, call, reply, after, &met)) != NULL)
             return wrong;
-    if ((wrong = blocks_right(book, before, call)) != NULL)
+    if ((wrong = blocks_right(book, before, call, after)) != NULL)
         return wrong;
     if ((wrong = enter_meetings(book, &met, call, after)) != NULL)
         return wrong;
     enter_board(book, before, call);
     if ((wrong = reads_right(book, &met, after)) != NULL)
+        return wrong;
+    if ((wrong = getters_right(book, after)) != NULL)
         return wrong;
     enter_removed(book, before, call, reply);
     for (uint32_t hub = 0; hub < after[HUBS_IN_USE_AT]; hub++)
