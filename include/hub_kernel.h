@@ -25,7 +25,7 @@
  * The contents are the edition, tasks T, hubs H, then the word at which each body starts:
  * 8, 136, 200, 216, 472 in edition 1, and 8, 152, 216, 232, 488 in edition 2. A hub record
  * has 4 words and a list 16. A store, one per hub as the waiting lists are, holds up to 8
- * messages.
+ * messages, or the marks of up to 8 blocks, each where a message would stand.
  *
  * A MESSAGE is what a put brings and a get receives. In edition 2 it is a low and a high
  * word, 64 bits, the high one behind the low one wherever a message stands: so a task
@@ -89,10 +89,22 @@
  * that wasn't, or was wiped, has count and store 0. Side 3 at a hub of any other kind is
  * refusal 6. One update may wake up to 15 tasks.
  *
+ * A Memory keeps up to 8 blocks, numbered from 0; the blocks themselves are the host's. Side
+ * 2 takes the lowest block that is free, and its number is the word received; while none is
+ * free it is "not now", and nothing else holds a get back. Side 1 gives a block back, its
+ * number the word put: in edition 2 the whole message, so with a high word it is no block's.
+ * A number that isn't out is FAIL in every mode, be it of a block that is free or past the
+ * last one; so a put never waits. Where tasks wait, the block given back goes to the first,
+ * who is met with its number, and stays out; else it is free and may be taken again. Any task
+ * may give back any block that is out: the kernel doesn't keep who took it, and a task that is
+ * stopped leaves its blocks out. Count is how many blocks are free; in the store the place of
+ * message i has 1 while block i is out (in edition 2 its low word), and all else is 0. A
+ * Memory starts with every block free, so its Add hub has the limit as start too.
+ *
  *   answer 0  nothing yet: the caller waits or sleeps (and always 0 for 0, 8, 9 and 10)
  *   answer 1  OK: the request was met, the service done
- *   answer 2  FAIL: not now under NW, a Resource that refuses, or a condition that
- *             doesn't hold
+ *   answer 2  FAIL: not now under NW, a Resource that refuses, a block that isn't out, or a
+ *             condition that doesn't hold
  *
  * A STEP THAT CAME BACK IS NOT A STEP THAT WAS MET. A caller that waits gets its answer
  * later, in the answer word of its own record, when another call meets it (1) or when a
@@ -169,7 +181,7 @@
  *   6  service 1: side not 1 or 2 (nor 3 where the hub is a Board), mode not 1 to 3,
  *      ticks not 0 under W or NW, ticks outside 1 to 1,000,000 under WT, high above 0 on
  *      edition 1. Service 7: ticks outside that range. Service 9: priority above 255 or
- *      side above 1. Service 10: kind not 1 to 6, limit or start outside the table below
+ *      side above 1. Service 10: kind not 1 to 7, limit or start outside the table below
  *   7  service 9 or 10 with 16 already
  *   8  the listing: the buffer is shorter than it. The comparison: than 3 words an entry
  *   9  the move down: some high word of the source isn't 0
@@ -186,6 +198,7 @@
  *   4 FIFO       words held, 0 to limit      1 to 8         0
  *   5 Resource   0 free, else owner plus 1   1              0
  *   6 Board      0 unwritten, 1 written      1              0
+ *   7 Memory     blocks free, 0 to limit     1 to 8         the limit
  *
  * PROVED, for every length and every content of the tables, every eight numbers, every
  * buffer and every destination: the call returns, reads nothing but the table (the
@@ -303,7 +316,7 @@ enum {
 };
 
 /* Sides of a hub request; at a Board they update, read and wipe, and no other kind takes
- * WIPE. A task that waits at a hub has side 1 or 2 in its record, any other task 0. */
+ * WIPE; at a Memory they give a block back and take one. A task that waits at a hub has side 1 or 2 in its record, any other task 0. */
 enum { HUB_KERNEL_PUT = 1, HUB_KERNEL_GET = 2, HUB_KERNEL_WIPE = 3 };
 
 /* Modes of a hub request: wait, don't wait, wait for some ticks. */
@@ -316,7 +329,8 @@ enum {
     HUB_KERNEL_PORT = 3,
     HUB_KERNEL_FIFO = 4,
     HUB_KERNEL_RESOURCE = 5,
-    HUB_KERNEL_BOARD = 6
+    HUB_KERNEL_BOARD = 6,
+    HUB_KERNEL_MEMORY = 7
 };
 
 /* Answers. TO stands in a task's record only: no call returns it. */

@@ -284,11 +284,10 @@ static const char *put_right(const ledger_hub *hub, const ledger_request *reques
 static const char *blocks_right(const ledger *book, const uint32_t *before, const uint32_t *call,
                                 const uint32_t *after)
 {
-    const ledger_request *request = &book->request[book->requests - 1];
-    const ledger_hub *hub = &book->hub[call[C_TARGET] % HUBS];
-
     if (call[C_SERVICE] != HUB_REQUEST || kind_of(before, call[C_TARGET]) != MEMORY)
         return NULL;
+    const ledger_request *request = &book->request[book->requests - 1];
+    const ledger_hub *hub = &book->hub[call[C_TARGET]];
     uint32_t blocks = before[hub_place(before, call[C_TARGET]) + H_LIMIT];
     return request->side == GET ? get_right(hub, request, blocks, call, after)
                                 : put_right(hub, request, blocks);

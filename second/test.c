@@ -2188,6 +2188,9 @@ static void one_move(bench *at)
     case 3:
         gen_set_up(&at->random, edition, table);
         break;
+    case 4:
+        gen_pool(&at->random, edition, table, call);
+        break;
     default:
         gen_table(&at->random, edition, table);
         break;
@@ -2280,6 +2283,9 @@ static void draw_neighbours(bench *at, pair *of)
         break;
     case 2:
         gen_queue(&at->random, edition, of->first, call);
+        break;
+    case 3:
+        gen_pool(&at->random, edition, of->first, call);
         break;
     default:
         gen_table(&at->random, edition, of->first);

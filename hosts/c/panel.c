@@ -3,7 +3,8 @@
  * came back is not a step that was met. Orders to the drive are messages of 64 bits,
  * on a table of edition 2. Then crews that all want the fan: whoever has to wait is
  * told how many are ahead. Then an old table, of edition 1, that is moved up while
- * requests wait in it, and later back down. Last what single steps changed in the table,
+ * requests wait in it, and later back down. Then two buffers that go from task to task by
+ * their numbers. Last what single steps changed in the table,
  * and a copy of it that is kept up to date by that alone.
  *
  * The host owns the table and acts for the task that `next` names. When no task
@@ -160,9 +161,13 @@ static void add_task(panel *to, uint32_t priority)
     ask(to, 0, (step){.service = HUB_KERNEL_ADD_TASK, .target = priority, .side = 1});
 }
 
+/* Every hub begins empty, but a Memory, which begins with all its blocks. */
 static void add_hub(panel *to, uint32_t kind, uint32_t limit)
 {
-    ask(to, 0, (step){.service = HUB_KERNEL_ADD_HUB, .target = kind, .ticks = limit});
+    ask(to, 0, (step){.service = HUB_KERNEL_ADD_HUB,
+                      .target = kind,
+                      .ticks = limit,
+                      .word = kind == HUB_KERNEL_MEMORY ? limit : 0});
 }
 
 static void set_up(panel *it)
@@ -480,6 +485,67 @@ static void move_the_old_table(void)
     tell(&it, NIGHT_CREW);
 }
 
+/* ---- The buffers ------------------------------------------------------- */
+
+/* The smoke extraction's two fans, the second more urgent, and the buffers for their
+ * readings. The buffers are memory of the host's own; the kernel deals out their numbers, so
+ * that no buffer is in two hands. */
+static const char *const fans[] = {"north fan", "south fan"};
+enum { NORTH, SOUTH };
+enum { BUFFERS = 0, HOW_MANY = 2 }; /* the hub, and its blocks */
+
+static uint32_t free_buffers(const panel *of)
+{
+    return word_at(of, HUB_KERNEL_HUBS_AT_2 + HUB_KERNEL_HUB_BYTES * BUFFERS +
+                           HUB_KERNEL_HUB_COUNT);
+}
+
+/* The number of the buffer is the word received. */
+static void take_buffer(panel *from, uint32_t who)
+{
+    hub_kernel_reply reply = ask(from, who, (step){"", GET(BUFFERS, HUB_KERNEL_W)});
+
+    printf("%-12s asks for a buffer: ", fans[who]);
+    if (reply.answer == HUB_KERNEL_NOTHING_YET)
+        printf("waits, %" PRIu32 " ahead of you\n", reply.ahead);
+    else
+        printf("%s, buffer %" PRIu32 "; %" PRIu32 " free\n", class_of(reply.answer),
+               low_word_of(from, who), free_buffers(from));
+}
+
+static void give_buffer_back(panel *to, uint32_t who, uint32_t buffer)
+{
+    step call = {"", PUT(BUFFERS, HUB_KERNEL_W)};
+
+    call.word = buffer;
+    hub_kernel_reply reply = ask(to, who, call);
+    printf("%-12s gives buffer %" PRIu32 " back: %s; %" PRIu32 " free\n", fans[who], buffer,
+           class_of(reply.answer), free_buffers(to));
+}
+
+/* The north fan has both; one that it gives back goes to the south fan, who waits. There is no
+ * buffer 2, and one that was given back can't be given back again; but it is used again. */
+static void share_buffers(void)
+{
+    panel it;
+
+    printf("%d buffers for smoke readings\n", (int)HOW_MANY);
+    begin(&it, HUB_KERNEL_TABLE_BYTES_2);
+    add_hub(&it, HUB_KERNEL_MEMORY, HOW_MANY);
+    add_task(&it, 20); /* NORTH */
+    take_buffer(&it, NORTH);
+    take_buffer(&it, NORTH);
+    add_task(&it, 10); /* SOUTH */
+    take_buffer(&it, SOUTH);
+    give_buffer_back(&it, NORTH, 2);
+    give_buffer_back(&it, NORTH, 1);
+    printf("%-12s %s, buffer %" PRIu32 "\n", fans[SOUTH], class_of(answer_of(&it, SOUTH)),
+           low_word_of(&it, SOUTH));
+    give_buffer_back(&it, SOUTH, 1);
+    give_buffer_back(&it, SOUTH, 1);
+    take_buffer(&it, SOUTH);
+}
+
 /* ---- What a step changed ----------------------------------------------- */
 
 static const char *const task_names[] = {"checklist", "drive"};
@@ -567,6 +633,7 @@ int main(void)
     walk("the drive hangs", stuck_drive);
     queue_for_the_fan();
     move_the_old_table();
+    share_buffers();
     show_changes();
     return 0;
 }

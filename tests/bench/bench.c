@@ -82,7 +82,7 @@ static int record(load *it, uint64_t seed, uint32_t tasks, uint32_t hubs)
     gen_mood mood;
 
     gen_seed(&random, seed);
-    gen_draw_mood(&random, &mood);
+    gen_draw_mood_of(&random, &mood, BOARD); /* as it was before there were Memories */
     mood.tasks = tasks;
     mood.hubs = hubs;
     mood.refused = 0;

@@ -31,6 +31,7 @@ typedef struct {
     uint32_t tables, table_calls; /* well-formed tables that no run need reach */
     uint32_t stops;               /* the same, and a Stop of an owner first */
     uint32_t boards;              /* the same, and a request to a Board first */
+    uint32_t pools;               /* the same, and a block put or taken first */
     uint32_t queues;              /* the same, with a hub at which many wait, and who asks it */
     uint32_t damages;             /* tables of each family of damage */
     uint32_t flips;               /* tables with a few words changed at random */
@@ -46,14 +47,14 @@ typedef struct {
 } scale;
 
 static const scale scales[] = {
-    {"quick", 40, 300, 1000, 8, 400, 400, 400, 2, 2000, 50, 400, 5, 800, 20, 1, 400, 3, 25000, 2000,
-     3000, 300},
-    {"gate", 1200, 400, 40000, 8, 10000, 10000, 20000, 40, 150000, 750, 15000, 100, 48000, 200, 10,
+    {"quick", 40, 300, 1000, 8, 400, 400, 400, 400, 2, 2000, 50, 400, 5, 800, 20, 1, 400, 3, 25000,
+     2000, 3000, 300},
+    {"gate", 1200, 400, 40000, 8, 10000, 10000, 10000, 20000, 40, 150000, 750, 15000, 100, 48000, 200, 10,
      30000, 30, 1000000, 100000, 200000, 900},
-    {"long", 20000, 1000, 1000000, 8, 300000, 300000, 300000, 800, 4000000, 10000, 400000, 3000,
+    {"long", 20000, 1000, 1000000, 8, 300000, 300000, 300000, 300000, 800, 4000000, 10000, 400000, 3000,
      1500000, 6000, 300, 900000, 1000, 30000000, 3000000, 6000000, 28800},
-    {"campaign", 65000, 1000, 3200000, 8, 1000000, 1000000, 1000000, 2600, 13000000, 32000, 1300000,
-     10000, 5000000, 20000, 1000, 3000000, 3000, 100000000, 10000000, 20000000, 28800},
+    {"campaign", 65000, 1000, 3200000, 8, 1000000, 1000000, 1000000, 1000000, 2600, 13000000, 32000,
+     1300000, 10000, 5000000, 20000, 1000, 3000000, 3000, 100000000, 10000000, 20000000, 28800},
 };
 
 /* Lengths in bytes around both sizes, the sizes among them, and their words. */
@@ -69,8 +70,14 @@ enum { WORDS_ROOM = ENTRY_WORDS * WORDS_MOST + PAST }; /* the longest buffer of 
 enum {
     MET_MOST = TASKS - 2,     /* by one Stop: neither the caller nor the target waits for it */
     READERS_MOST = TASKS - 1, /* by one update: the caller doesn't wait */
+    GETTERS_MOST = TASKS - 1, /* at a Memory, while the caller puts */
     AHEAD_MOST = TASKS - 1    /* of one caller */
 };
+
+/* How a put to a Memory FAILs: its block is in, the number is past the limit, or it has a
+ * high word, which edition 1 refuses. */
+typedef enum { BLOCK_IN, PAST_LIMIT, HIGH_NUMBER, BLOCK_FAILS } block_fail;
+enum { MODES = WT };
 
 /* What came up on one edition. */
 typedef struct {
@@ -78,6 +85,9 @@ typedef struct {
     uint64_t high; /* accepted hub requests with a high word; on edition 1 refused ones */
     uint64_t met_by_stop[MET_MOST + 1], met_by_update[READERS_MOST + 1];
     uint64_t ahead[AHEAD_MOST + 1]; /* of requests that have to wait */
+    uint64_t got[BLOCKS_MAX], freed[BLOCKS_MAX], passed[BLOCKS_MAX]; /* blocks, by number */
+    uint64_t none_free[MODES], block_fails[BLOCK_FAILS * MODES];     /* by mode */
+    uint64_t getters[GETTERS_MOST + 1]; /* who wait while a block that is out is put */
     uint64_t listings, listing_refusals[SHORT_BUFFER + 1], longest;
     uint64_t moves[HIGH_WORD + 1]; /* from this edition to the other, by refusal */
     uint64_t pairs[DIFFERING_EDITIONS + 1]; /* compared, the first of this edition, by refusal */
@@ -233,6 +243,47 @@ static void check_reply(comparison *at, const uint32_t *call, hub_kernel_reply k
         now(at)->answers[kernel.answer]++;
     if (kernel.refusal == ACCEPTED && call[C_SERVICE] == HUB_REQUEST && kernel.answer == NO_ANSWER)
         now(at)->ahead[kernel.ahead]++;
+}
+
+static uint32_t list_length(const uint32_t *list)
+{
+    uint32_t length = 0;
+
+    while (length < LIST_WORDS && list[length] != 0)
+        length++;
+    return length;
+}
+
+/* An accepted put to a Memory, which is met or FAILs. */
+static void tally_put(tally *seen, const uint32_t *before, const uint32_t *call, int met)
+{
+    const uint32_t *hub = before + hub_place(before, call[C_TARGET]);
+    uint32_t getters = list_length(before + list_place(before, call[C_TARGET]));
+    block_fail fail = call[C_HIGH] != 0                ? HIGH_NUMBER
+                      : call[C_WORD] >= hub[H_LIMIT] ? PAST_LIMIT
+                                                     : BLOCK_IN;
+
+    if (!met) {
+        seen->block_fails[fail * MODES + call[C_MODE] - W]++;
+        return;
+    }
+    seen->getters[getters]++;
+    (getters > 0 ? seen->passed : seen->freed)[call[C_WORD]]++;
+}
+
+/* What came of an accepted request to a Memory; both sides agree on it by now. */
+static void tally_blocks(comparison *at, const uint32_t *before, const uint32_t *call,
+                         uint32_t answer, const uint32_t *after)
+{
+    if (call[C_SERVICE] != HUB_REQUEST ||
+        before[hub_place(before, call[C_TARGET]) + H_KIND] != MEMORY)
+        return;
+    if (call[C_SIDE] == PUT)
+        tally_put(now(at), before, call, answer == OK);
+    else if (answer == OK)
+        now(at)->got[after[field_place(after, call[C_CALLER], T_WORD)]]++;
+    else
+        now(at)->none_free[call[C_MODE] - W]++;
 }
 
 static void check_summary(comparison *at, uint32_t hub, second_summary_reply second)
@@ -490,6 +541,8 @@ static second_reply compare(comparison *at, uint32_t *words, const uint32_t *cal
     if (memcmp(at->table, expected, bytes_of(at)) != 0)
         differ_in(at, call, expected);
     check_around(at, call);
+    if (second.refusal == ACCEPTED)
+        tally_blocks(at, before, call, second.answer, words);
     if (at->calls % 16 == 0)
         check_listing(at, expected, draw_room(at, expected));
     if (at->calls % 32 == 0)
@@ -696,6 +749,20 @@ static void part_boards(comparison *at, const scale *to)
     }
 }
 
+/* A put meets the first getter at most, and a get nobody. */
+static void part_pools(comparison *at, const scale *to)
+{
+    uint32_t words[WORDS_MOST], call[CALL_NUMBERS];
+
+    for (uint32_t i = 0; i < to->pools; i++) {
+        begin(at, "pools", i);
+        gen_pool(&at->random, at->form->edition, words, call);
+        uint32_t most = call[C_SIDE] == PUT ? 1 : 0;
+        if (compare_met(at, words, call) > most)
+            differ(at, NULL, "a block met more than one getter, or a get met somebody");
+    }
+}
+
 /* One after the other asks a hub at which none to 15 wait, so its list grows. */
 static void part_queues(comparison *at, const scale *to)
 {
@@ -837,7 +904,7 @@ static void part_moves(comparison *at, const scale *to)
 
     for (uint32_t i = 0; i < to->moves; i++) {
         begin(at, "moves", i);
-        switch (i % 5) {
+        switch (i % 6) {
         case 0:
             gen_stop(&at->random, at->form->edition, words, call);
             break;
@@ -846,6 +913,9 @@ static void part_moves(comparison *at, const scale *to)
             break;
         case 2:
             gen_queue(&at->random, at->form->edition, words, call);
+            break;
+        case 3:
+            gen_pool(&at->random, at->form->edition, words, call);
             break;
         default:
             gen_table(&at->random, at->form->edition, words);
@@ -1067,6 +1137,7 @@ static void parts_of(comparison *at, const scale *to, uint32_t edition)
     part(at, to, "tables", part_tables);
     part(at, to, "stops", part_stops);
     part(at, to, "boards", part_boards);
+    part(at, to, "pools", part_pools);
     part(at, to, "queues", part_queues);
     part(at, to, "damaged", part_damaged);
     part(at, to, "flips", part_flips);
@@ -1102,6 +1173,25 @@ static int check_all(const char *what, const uint64_t *seen, const uint32_t *whi
     return fine;
 }
 
+/* Every block taken, put while nobody waits, and put to a getter; none free in every mode;
+ * every FAIL in every mode. */
+static int check_blocks(const tally *seen, uint32_t edition)
+{
+    static const uint32_t all[] = {0, 1, 2, 3, 4, 5, 6, 7, 8};
+    size_t fails = (edition == EDITION_1 ? HIGH_NUMBER : BLOCK_FAILS) * MODES;
+    int fine = check_all("blocks 0 to 7 taken", seen->got, all, BLOCKS_MAX);
+
+    fine = check_all("blocks 0 to 7 put, nobody waits", seen->freed, all, BLOCKS_MAX) && fine;
+    fine = check_all("blocks 0 to 7 put to a getter", seen->passed, all, BLOCKS_MAX) && fine;
+    fine = check_numbers("blocks put, getters waiting", seen->getters, GETTERS_MOST) && fine;
+    fine = check_all("no block free, under W, NW, WT", seen->none_free, all, MODES) && fine;
+    return check_all(edition == EDITION_1
+                         ? "puts that FAIL, a block that is in, past the limit, each under W, NW, WT"
+                         : "puts that FAIL, a block that is in, past the limit, a high word, each "
+                           "under W, NW, WT",
+                     seen->block_fails, all, fails) && fine;
+}
+
 /* A comparison in which an answer or a refusal never came up shows little. */
 static int check_seen(const tally *seen, const scale *to, uint32_t edition)
 {
@@ -1119,6 +1209,7 @@ static int check_seen(const tally *seen, const scale *to, uint32_t edition)
     fine = check_numbers("Stops that met", seen->met_by_stop, MET_MOST) && fine;
     fine = check_numbers("updates of a Board that met", seen->met_by_update, READERS_MOST) && fine;
     fine = check_numbers("requests that wait, ahead of them", seen->ahead, AHEAD_MOST) && fine;
+    fine = check_blocks(seen, edition) && fine;
     fine = check_all("listings: accepted, refused with 1, 2, 8", seen->listing_refusals, listing,
                      4) && fine;
     fine = check_all(up ? "moves up: done, refused with 1, 2"
