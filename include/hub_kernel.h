@@ -316,7 +316,8 @@ enum {
 };
 
 /* Sides of a hub request; at a Board they update, read and wipe, and no other kind takes
- * WIPE; at a Memory they give a block back and take one. A task that waits at a hub has side 1 or 2 in its record, any other task 0. */
+ * WIPE; at a Memory they give a block back and take one. A task that waits at a hub has side 1
+ * or 2 in its record, any other task 0. */
 enum { HUB_KERNEL_PUT = 1, HUB_KERNEL_GET = 2, HUB_KERNEL_WIPE = 3 };
 
 /* Modes of a hub request: wait, don't wait, wait for some ticks. */

@@ -252,9 +252,9 @@ static void draw_add_hub(gen_random *random, const gen_mood *mood, uint32_t *cal
     call[C_SERVICE] = ADD_HUB;
     call[C_TARGET] = kind;
     call[C_TICKS] = limit;
-    call[C_WORD] = kind == MEMORY                                   ? limit
-                   : kind == SEMAPHORE && gen_chance(random, 50) ? gen_below(random, limit + 1)
-                                                                   : 0;
+    call[C_WORD] = kind == SEMAPHORE && gen_chance(random, 50) ? gen_below(random, limit + 1) : 0;
+    if (kind == MEMORY)
+        call[C_WORD] = limit;
 }
 
 /* The last task that can run seldom waits without limit: a run in which all
@@ -857,6 +857,16 @@ static void build_pool(gen_random *random, uint32_t *table, uint32_t pool, uint3
     build_blocks(random, table, pool, out);
 }
 
+/* All blocks but one are out, whichever that is: else block 7 is seldom the lowest free one. */
+static void leave_one_block(gen_random *random, uint32_t *table, uint32_t pool)
+{
+    uint32_t block = gen_below(random, hub_field(table, pool, H_LIMIT));
+
+    build_blocks(random, table, pool, 100);
+    table[held_place(table, pool, block)] = 0;
+    table[hub_place(table, pool) + H_COUNT] = 1;
+}
+
 void gen_pool(gen_random *random, uint32_t edition, uint32_t *table, uint32_t call[8])
 {
     int all = gen_chance(random, 10); /* all but the caller wait for a block */
@@ -867,6 +877,8 @@ void gen_pool(gen_random *random, uint32_t edition, uint32_t *table, uint32_t ca
     build_contents(table, edition, tasks, hubs);
     build_priorities(random, table, ONE_OF(random, 1, 2, 4, PRIORITY_MAX + 1));
     build_pool(random, table, pool, all ? 100 : ONE_OF(random, 0, 30, 50, 70, 100, 100, 100));
+    if (!all && gen_chance(random, 15))
+        leave_one_block(random, table, pool);
     for (uint32_t task = 0; task < tasks; task++)
         build_task(random, table, task, all ? 100 : waits, pool);
     build_caller(table, gen_below(random, tasks));

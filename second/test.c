@@ -1,7 +1,7 @@
 /* The second program's tests: constructed cases, runs from Blank with demand 3
  * checked, built tables, Stops of owners, requests to Boards, to Memories and to hubs at
- * which many wait, damaged tables, listings, pairs of tables compared, all on both editions; moves from
- * one to the other, in the middle of runs too; coverage.
+ * which many wait, damaged tables, listings, pairs of tables compared, all on both editions;
+ * moves from one to the other, in the middle of runs too; coverage.
  * `test SIZE` runs them all, one line each; the first failure ends the program.
  *
  * Each call is checked against expect.c word for word, and besides for what
@@ -48,7 +48,8 @@ typedef struct {
 } scale;
 
 static const scale scales[] = {
-    {"quick", 60, 400, 1000, 8, 400, 400, 400, 400, 3, 3000, 200, 3, 1500, 40, 500, 3, 40000, 60, 0},
+    {"quick", 60, 400, 1000, 8, 400, 400, 400, 400, 3, 3000, 200, 3, 1500, 40, 500, 3, 40000, 60,
+     0},
     {"gate", 1500, 500, 60000, 8, 20000, 20000, 20000, 25000, 110, 200000, 20000, 80, 100000, 600,
      30000, 60, 1000000, 600, 1},
     {"long", 20000, 1000, 1000000, 8, 400000, 400000, 400000, 400000, 1000, 5000000, 400000, 2000,
@@ -1049,7 +1050,7 @@ static void case_blocks(bench *at)
         {{1, 0, 1, 2, 2, 0, 0}, {0, 1, 1, 0}, {{14, 1}, {141, 0}, {481, 1}}}, /* used again */
         {{1, 0, 1, 1, 3, 1, 2}, {0, 1, 1, 0}, {{14, 0}, {12, 0}, {141, 1}, {482, 0}}},
         {{1, 0, 1, 2, 3, 1, 2}, {0, 1, 1, 0}, {{14, 2}, {141, 0}, {482, 1}, {483, 0}}},
-        {{1, 0, 0, 2, 1, 0, 0}, {0, 1, 1, 0}, {{14, 0}, {137, 7}, {472, 1}, {141, 0}}}, /* hub 0's */
+        {{1, 0, 0, 2, 1, 0, 0}, {0, 1, 1, 0}, {{14, 0}, {137, 7}, {472, 1}, {141, 0}}}, /* hub 0 */
         {{1, 0, 2, 3, 2, 0, 0}, {5, 0, 0, 0}, {{0, 0}}},
         {{1, 0, 1, 3, 2, 0, 0}, {6, 0, 0, 0}, {{0, 0}}}, /* no Board */
         {{1, 0, 1, 1, 1, 1, 0}, {6, 0, 0, 0}, {{480, 1}}},

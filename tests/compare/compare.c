@@ -49,10 +49,10 @@ typedef struct {
 static const scale scales[] = {
     {"quick", 40, 300, 1000, 8, 400, 400, 400, 400, 2, 2000, 50, 400, 5, 800, 20, 1, 400, 3, 25000,
      2000, 3000, 300},
-    {"gate", 1200, 400, 40000, 8, 10000, 10000, 10000, 20000, 40, 150000, 750, 15000, 100, 48000, 200, 10,
-     30000, 30, 1000000, 100000, 200000, 900},
-    {"long", 20000, 1000, 1000000, 8, 300000, 300000, 300000, 300000, 800, 4000000, 10000, 400000, 3000,
-     1500000, 6000, 300, 900000, 1000, 30000000, 3000000, 6000000, 28800},
+    {"gate", 1200, 400, 40000, 8, 10000, 10000, 10000, 20000, 40, 150000, 750, 15000, 100, 48000,
+     200, 10, 30000, 30, 1000000, 100000, 200000, 900},
+    {"long", 20000, 1000, 1000000, 8, 300000, 300000, 300000, 300000, 800, 4000000, 10000, 400000,
+     3000, 1500000, 6000, 300, 900000, 1000, 30000000, 3000000, 6000000, 28800},
     {"campaign", 65000, 1000, 3200000, 8, 1000000, 1000000, 1000000, 1000000, 2600, 13000000, 32000,
      1300000, 10000, 5000000, 20000, 1000, 3000000, 3000, 100000000, 10000000, 20000000, 28800},
 };
@@ -1186,9 +1186,8 @@ static int check_blocks(const tally *seen, uint32_t edition)
     fine = check_numbers("blocks put, getters waiting", seen->getters, GETTERS_MOST) && fine;
     fine = check_all("no block free, under W, NW, WT", seen->none_free, all, MODES) && fine;
     return check_all(edition == EDITION_1
-                         ? "puts that FAIL, a block that is in, past the limit, each under W, NW, WT"
-                         : "puts that FAIL, a block that is in, past the limit, a high word, each "
-                           "under W, NW, WT",
+                         ? "puts that FAIL, block in, past the limit, each by W, NW, WT"
+                         : "puts that FAIL, block in, past the limit, high word, each by W, NW, WT",
                      seen->block_fails, all, fails) && fine;
 }
 
