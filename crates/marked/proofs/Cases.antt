@@ -16,7 +16,7 @@ use Rattle.rules.specs.HubTable.{getFifo, onGet, onPut, onSide, putFifo, verdic
 use Rattle.rules.specs.Lists.{answer, answered, counted, firstFree, firstWaiting, holding, joinHub, joinReady, leave, next, queued, readied, unqueue, waits, wake}
 use Rattle.rules.specs.Refusals.{behind, byRunning, goodHub, goodWait, lastSide, modeOf, need, refusal, refusalAt, refusalFor}
 use Rattle.rules.specs.Reply.{ahead, aheadFor, bearsAnswer, outcome, outcomeOf, replyBy, replyIn, tableBy, tableIn}
-use Rattle.rules.specs.Table.{editionOf, inactive, kindOf, noHub, setHub, setReady, setTask, sideOf, size, two, words}
+use Rattle.rules.specs.Table.{editionOf, inactive, kindOf, noHub, setHub, setReady, setTask, sideOf, size, stored, two, words}
 use Rattle.rules.specs.WellFormed.{bearsWord}
 use Rattle.runner.specs.Runner.{callOf, drillText, replyText, textThrough, zeros}
 use lib.ListN.{length, length-replicate}
@@ -44,7 +44,7 @@ unfolding ahead aheadFor bearsAnswer blank firstFree next numbersOf outcome repl
 blanked ls = rw (blank-accepted zeros (callOf (numbersOf (0 ∷ 0 ∷ 0 ∷ 0 ∷ 0 ∷ 0 ∷ 0 ∷ 0 ∷ []))) (rw zeros-edition zeros-long) refl, zeros-edition)
 
 answered-all : textThrough zeros (linesFrom rows) ≡ outputOf rows
-unfolding addHub addStarted addTask ahead aheadFor answer answered badText bearsAnswer bearsWord behind blank byRunning counted decimal digits firstFree firstWaiting getFifo goodHub goodWait hold holding inactive indexOf insert joinHub joinReady joined kept kindOf lastSide leave linesFrom meetAll modeOf need newHub next noHub numbersOf onGet onPut onSide outcome outcomeOf outputOf printed putFifo queued readied refusal refusalAt refusalFor replyBy replyText rows serve served serviceOf setHub setReady setTask settle sideOf spaced start stateAfter stateBy textFrom tickAll tickBy tickOne unqueue verdict wait waits wake without
+unfolding addHub addStarted addTask ahead aheadFor answer answered badText bearsAnswer bearsWord behind blank byRunning counted decimal digits firstFree firstWaiting getFifo goodHub goodWait hold holding inactive indexOf insert joinHub joinReady joined kept kindOf lastSide leave linesFrom meetAll modeOf need newHub next noHub numbersOf onGet onPut onSide outcome outcomeOf outputOf printed putFifo queued readied refusal refusalAt refusalFor replyBy replyText rows serve served serviceOf setHub setReady setTask settle sideOf spaced start stateAfter stateBy stored textFrom tickAll tickBy tickOne unqueue verdict wait waits wake without
 answered-all = blanked _ ∙ ap (λ (t : List ℕ). printed (0 ∷ 0 ∷ 0 ∷ 0 ∷ []) ++ t) (on-words blank valid-blank _)
 
 -- the twelve, as one input and one output

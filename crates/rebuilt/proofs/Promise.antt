@@ -22,10 +22,10 @@ use Rattle.rules.specs.Editions.{downRefusal, movedDown, movedUp, upRefusal}
 use Rattle.rules.specs.Lists.{firstFree, next}
 use Rattle.rules.specs.Refusals.{goodHub, refusalOf}
 use Rattle.rules.specs.Reply.{ahead, aheadFor, bearsAnswer, outcome, replyBy, replyIn, tableAfter, tableBy, tableIn}
-use Rattle.rules.specs.Table.{Board, Event, Fifo, Hub, Kind, NoKind, Port, Resource, Semaphore, State, editionOf, hub, inactive, kindOf, noHub, one, read, size, stateOf, two, words}
+use Rattle.rules.specs.Table.{Board, Event, Fifo, Hub, Kind, Memory, NoKind, Port, Resource, Semaphore, State, editionOf, hub, inactive, kindOf, noHub, one, read, size, stateOf, two, words}
 use Rattle.rules.specs.WellFormed.{wellFormed, within as between}
 use Rattle.runner.specs.Runner.{callOf, drillText, replyText, tableThrough, textThrough, zeros}
-use borrow.Author.Tests.{eqb-true, le-leb, leb-false, leb-true}
+use borrow.Author.Tests.{eq-eqb, eqb-true, le-leb, leb-false, leb-true}
 use lib.Dec.{eqb, leb}
 use lib.ListN.{List·getD-eq-default, getD, length, length-append, length-map, length-replicate}
 use mathlib.Core.Bool.{Bool, _&&_, and-eq-true-iff, false≢true, true}
@@ -68,6 +68,7 @@ good-range Port T h r = rw (r .1, r .2)
 good-range Fifo T h r = rw (le-leb 1 (h .limit) (r .1), le-leb (h .limit) 8 (r .2), r .3)
 good-range Resource T h r = rw (r .1, r .2)
 good-range Board T h r = rw (r .1, r .2)
+good-range Memory T h r = rw (le-leb 1 (h .limit) (r .0), le-leb (h .limit) 8 (r .1), eq-eqb (h .start) (h .limit) (r .2))
 
 set-up-acceptable : (s : State) → Valid s → Acceptable (setUp s)
 unfolding setUp
@@ -100,13 +101,17 @@ low-by Fifo l s e =
     (omega (arith, leb-true l 8 (both (leb 1 l) (leb l 8) (q .0) .1)), omega (arith, eqb-true s 0 (q .1)))
 low-by Resource l s e = let q = both _ _ e in (omega (arith, eqb-true l 1 (q .0)), omega (arith, eqb-true s 0 (q .1)))
 low-by Board l s e = let q = both _ _ e in (omega (arith, eqb-true l 1 (q .0)), omega (arith, eqb-true s 0 (q .1)))
+low-by Memory l s e =
+    let q = both (between 1 8 l) (eqb s l) e in
+    let m = leb-true l 8 (both (leb 1 l) (leb l 8) (q .0) .1) in
+    (omega (arith, m), omega (arith, m, eqb-true s l (q .1)))
 
-low-kind : (n l s : ℕ) → goodHub (kindOf n) l s ≡ true → n ≤ 6
+low-kind : (n l s : ℕ) → goodHub (kindOf n) l s ≡ true → n ≤ 7
 unfolding goodHub kindOf
 low-kind n l s e =
-    boolCase (leb n 6) (leb-true n 6)
-    (λ b. let far : 7 ≤ n = leb-false n 6 b in
-    absurd (false≢true (rw (List·getD-eq-default (NoKind ∷ Event ∷ Semaphore ∷ Port ∷ Fifo ∷ Resource ∷ Board ∷ []) NoKind far) at e)))
+    boolCase (leb n 7) (leb-true n 7)
+    (λ b. let far : 8 ≤ n = leb-false n 7 b in
+    absurd (false≢true (rw (List·getD-eq-default (NoKind ∷ Event ∷ Semaphore ∷ Port ∷ Fifo ∷ Resource ∷ Board ∷ Memory ∷ []) NoKind far) at e)))
 
 -- ---- its lines: eight numbers each, within the limit, and short
 
