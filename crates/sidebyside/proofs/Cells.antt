@@ -12,7 +12,7 @@ use Rattle.sidebyside.specs.Rows.{Range, cell, covers, differ, differs, 
 use Rattle.sidebyside.specs.declared.Row.the-variants.{Answer, Contents, Holds, Kind, Priority, ReadyList, State, Waiting}
 use Rattle.sidebyside.specs.declared.Row.{Row}
 use Rattle.texts.specs.Cells.{answerText, boardText, contentsText, countText, heldFrom, holdsText, kindText, stageText, stateText, tasksText}
-use borrow.Author.Tests.{eqb-true, ltb-false, ltb-true, not-false}
+use borrow.Author.Tests.{eqb-true, ltb-false, ltb-true, ne-eqb, not-false}
 use lib.Dec.{eqb, ltb}
 use lib.ListN.{drop, getD, length, length-drop, length-take, take}
 use lib.Seq.{ext-getD, getD-drop, getD-take}
@@ -21,6 +21,10 @@ use mathlib.Core.List.{List, [], _∷_}
 use mathlib.Core.Path.{_∙_, _≡_, ap, refl, sym}
 use native.Mathlib.Nat.{mul-le-mul-right, suc-mul}
 use native.Mathlib.Omega.{arith}
+
+-- a Memory hub is no Board
+more-than-6 : (k : ℕ) → eqb k 7 ≡ true → eqb k 6 ≡ false
+more-than-6 k e = ne-eqb k 6 (λ z. omega (arith, eqb-true k 7 e, z))
 
 module _ (a b : List ℕ) where
   -- n words from word p on are the same in both
@@ -137,8 +141,11 @@ module _ (a b : List ℕ) where
         let room : getD b (p + 1) 0 * width ts ≤ storeSize ts = mul-le-mul-right (width ts) (omega (arith, count)) in
         rw (kind, fifo, count, held-same (width ts) q (getD b (p + 1) 0) (storeSize ts) (omega arith) (s .1) room) refl)
         (λ other.
+        boolCase (eqb (getD b p 0) 7)
+        (λ memory. rw (kind, other, memory, more-than-6 (getD b p 0) memory, held-same (width ts) q 8 (storeSize ts) (omega arith) (s .1) (omega arith)) refl)
+        (λ neither.
         let word = message-same (width ts) q (omega arith) (λ k lo hi. word-same q (storeSize ts) k (s .1) lo (omega arith)) in
-        rw (kind, other, count, word) refl)
+        rw (kind, other, neither, count, word) refl))
     text-same (Waiting h) i few u =
         let p = waitsAt ts + h * 16 in
         rw (part-same long p 16 (one-run p 16 (u .words))) refl

@@ -12,7 +12,7 @@ use Rattle.rules.specs.Table.{State, isSuspended, task}
 use Rattle.sidebyside.specs.Rows.{usedText}
 use Rattle.sidebyside.specs.declared.Row.the-variants.{Answer, Contents, Holds, Kind, Priority, ReadyList, State as StateRow, Waiting}
 use Rattle.sidebyside.specs.declared.Row.{Row}
-use Rattle.texts.specs.Cells.{answerText, boardText, contentsText, countText, entriesFrom, entryText, heldFrom, holdsText, kindText, messageText, outcomeText, stageText, stateText, taskText, tasksText, waitsText, wordText, wordsFrom, wordsText}
+use Rattle.texts.specs.Cells.{answerText, blockText, blocksFrom, boardText, contentsText, countText, entriesFrom, entryText, heldFrom, holdsText, kindText, messageText, noneText, outcomeText, stageText, stateText, taskText, tasksText, waitsText, wordText, wordsFrom, wordsText}
 use Rattle.texts.specs.Texts.{bytes}
 use borrow.Author.Tests.{eq-eqb, eqb-false, eqb-true, ne-eqb}
 use lib.Dec.{eqb}
@@ -56,7 +56,7 @@ message-head m rest =
 abbrev unused : List ℕ
 unused = bytes "not in use"
 
--- by the first byte, and the fourth and fifth
+-- by the first byte, and the third to fifth
 byte : {l : List ℕ} (k : ℕ) → l ≡ unused → getD l k 0 ≡ getD unused k 0
 byte k e = ap (λ (l : List ℕ). getD l k 0) e
 
@@ -117,12 +117,23 @@ kind-says x e =
     (λ s.
     boolCase (eqb (x .kind) 5)
     (λ t. let z : _≡_ {A = ℕ} 82 110 = byte 0 (rw (p, q, r, s, t) at e) in omega arith)
-    (λ t. let z : _≡_ {A = ℕ} 66 110 = byte 0 (rw (p, q, r, s, t) at e) in omega arith)))))
+    (λ t.
+    boolCase (eqb (x .kind) 6)
+    (λ u. let z : _≡_ {A = ℕ} 66 110 = byte 0 (rw (p, q, r, s, t, u) at e) in omega arith)
+    (λ u. let z : _≡_ {A = ℕ} 77 110 = byte 0 (rw (p, q, r, s, t, u) at e) in omega arith))))))
 
 words-say : (ms : List ℕ) → wordsText ms ≡ unused → ⊥
 unfolding wordText wordsFrom wordsText
 words-say [] e = let z : _≡_ {A = ℕ} 101 110 = byte 0 e in omega arith
 words-say (m ∷ ms) e = not-digit e (message-head m _)
+
+blocks-say : (b : ℕ) (ms : List ℕ) → blocksFrom 0 b ms ≡ unused → ⊥
+unfolding blockText blocksFrom noneText
+blocks-say b [] e = let z : _≡_ {A = ℕ} 32 116 = byte 2 e in omega arith
+blocks-say b (m ∷ ms) e =
+    boolCase (eqb m 0)
+    (λ p. blocks-say (suc b) ms (rw p at e))
+    (λ p. let z : _≡_ {A = ℕ} 98 110 = byte 0 (rw p at e) in omega arith)
 
 count-says : (x : HubRecord) → countText x ≡ unused → ⊥
 unfolding countText
@@ -154,7 +165,10 @@ holds-say w t from x e =
     boolCase (eqb (x .count) 0)
     (λ r. let z : _≡_ {A = ℕ} 119 105 = byte 4 (rw (p, q, r) at e) in omega arith)
     (λ r. let z : _≡_ {A = ℕ} 119 110 = byte 0 (rw (p, q, r) at e) in omega arith))
-    (λ q. count-says x (rw (p, q) at e)))
+    (λ q.
+    boolCase (eqb (x .kind) 7)
+    (λ r. blocks-say 0 (heldFrom w t from 8) (rw (p, q, r) at e))
+    (λ r. count-says x (rw (p, q, r) at e))))
 
 pub never-unused : (ts : ℕ) (t : List ℕ) (runs : ℕ) (r : Row) → usedText ts t runs r ≡ bytes "not in use" → ⊥
 unfolding contentsText usedText
@@ -170,7 +184,7 @@ never-unused ts t runs (Waiting h) e = tasks-say 0 _ e
 -- ---- what a hub holds says its kind
 
 -- the kind, read from a few bytes of the text: s(et), not s(et); c(ount); noth(ing); e(mpty), or a number; f(ree), o(wner); w(ritten),
--- not w(ritten)
+-- not w(ritten); b(locks out), no (block out)
 unfoldable pub kindSaid : List ℕ → ℕ
 kindSaid l =
     cond (eqb (getD l 0 0) 115) 1
@@ -178,8 +192,9 @@ kindSaid l =
     (cond (eqb (getD l 0 0) 102) 5
     (cond (eqb (getD l 0 0) 111) 5
     (cond (eqb (getD l 0 0) 119) 6
-    (cond (eqb (getD l 0 0) 110) (cond (eqb (getD l 3 0) 104) 3 (cond (eqb (getD l 4 0) 115) 1 6))
-    4)))))
+    (cond (eqb (getD l 0 0) 98) 7
+    (cond (eqb (getD l 0 0) 110) (cond (eqb (getD l 2 0) 32) 7 (cond (eqb (getD l 3 0) 104) 3 (cond (eqb (getD l 4 0) 115) 1 6)))
+    4))))))
 
 digit-said : (l : List ℕ) → Digit (getD l 0 0) → kindSaid l ≡ 4
 unfolding kindSaid
@@ -191,6 +206,7 @@ digit-said l d =
       ne-eqb c 102 (λ z. omega (arith, d .high, z)),
       ne-eqb c 111 (λ z. omega (arith, d .high, z)),
       ne-eqb c 119 (λ z. omega (arith, d .high, z)),
+      ne-eqb c 98 (λ z. omega (arith, d .high, z)),
       ne-eqb c 110 (λ z. omega (arith, d .high, z)),
     ) refl
 
@@ -199,8 +215,13 @@ unfolding kindSaid wordText wordsFrom wordsText
 words-said [] = refl
 words-said (m ∷ ms) = digit-said (messageText m ++ wordsFrom 1 ms) (message-head m (wordsFrom 1 ms))
 
--- of the kinds 1 to 6
-pub kind-said : (w : ℕ) (t : List ℕ) (from : ℕ) (x : HubRecord) → 1 ≤ x .kind → x .kind ≤ 6 → kindSaid (holdsText w t from x) ≡ x .kind
+blocks-said : (b : ℕ) (ms : List ℕ) → kindSaid (blocksFrom 0 b ms) ≡ 7
+unfolding blockText blocksFrom kindSaid noneText
+blocks-said b [] = refl
+blocks-said b (m ∷ ms) = boolCase (eqb m 0) (λ p. rw p (blocks-said (suc b) ms)) (λ p. rw p refl)
+
+-- of the kinds 1 to 7
+pub kind-said : (w : ℕ) (t : List ℕ) (from : ℕ) (x : HubRecord) → 1 ≤ x .kind → x .kind ≤ 7 → kindSaid (holdsText w t from x) ≡ x .kind
 unfolding boardText countText holdsText kindSaid
 kind-said w t from x lo hi =
     boolCase (eqb (x .kind) 4)
@@ -209,17 +230,20 @@ kind-said w t from x lo hi =
     boolCase (eqb (x .kind) 6)
     (λ q. boolCase (eqb (x .count) 0) (λ c. rw (p, q, c) (sym (eqb-true (x .kind) 6 q))) (λ c. rw (p, q, c) (sym (eqb-true (x .kind) 6 q))))
     (λ q.
+    boolCase (eqb (x .kind) 7)
+    (λ m. rw (p, q, m) (blocks-said 0 (heldFrom w t from 8) ∙ sym (eqb-true (x .kind) 7 m)))
+    (λ m.
     boolCase (eqb (x .kind) 1)
-    (λ r. boolCase (eqb (x .count) 0) (λ c. rw (p, q, r, c) (sym (eqb-true (x .kind) 1 r))) (λ c. rw (p, q, r, c) (sym (eqb-true (x .kind) 1 r))))
+    (λ r. boolCase (eqb (x .count) 0) (λ c. rw (p, q, m, r, c) (sym (eqb-true (x .kind) 1 r))) (λ c. rw (p, q, m, r, c) (sym (eqb-true (x .kind) 1 r))))
     (λ r.
     boolCase (eqb (x .kind) 2)
-    (λ s. rw (p, q, r, s) (sym (eqb-true (x .kind) 2 s)))
+    (λ s. rw (p, q, m, r, s) (sym (eqb-true (x .kind) 2 s)))
     (λ s.
     boolCase (eqb (x .kind) 5)
-    (λ u. boolCase (eqb (x .count) 0) (λ c. rw (p, q, r, s, u, c) (sym (eqb-true (x .kind) 5 u))) (λ c. rw (p, q, r, s, u, c) (sym (eqb-true (x .kind) 5 u))))
+    (λ u. boolCase (eqb (x .count) 0) (λ c. rw (p, q, m, r, s, u, c) (sym (eqb-true (x .kind) 5 u))) (λ c. rw (p, q, m, r, s, u, c) (sym (eqb-true (x .kind) 5 u))))
     (λ u.
-    let three : 3 ≡ x .kind = omega (arith, eqb-false (x .kind) 4 p, eqb-false (x .kind) 6 q, eqb-false (x .kind) 1 r, eqb-false (x .kind) 2 s, eqb-false (x .kind) 5 u) in
-    rw (p, q, r, s, u) three)))))
+    let three : 3 ≡ x .kind = omega (arith, eqb-false (x .kind) 4 p, eqb-false (x .kind) 6 q, eqb-false (x .kind) 7 m, eqb-false (x .kind) 1 r, eqb-false (x .kind) 2 s, eqb-false (x .kind) 5 u) in
+    rw (p, q, m, r, s, u) three))))))
 
 -- ---- the ready list says which task runs
 

@@ -66,8 +66,8 @@ ready-is t =
 kind-at : (t : List ℕ) (h : ℕ) → RulesTable.hubsAt (editionOf t) + h * 4 + 0 ≡ hubsAt (sizeOf t) + h * 4
 kind-at t h = omega (arith, laid t .size)
 
--- a hub in use has one of the six kinds
-kind-known : (t : List ℕ) → Formed t → (h : ℕ) → h < getD t 2 0 → (1 ≤ getD t (hubsAt (sizeOf t) + h * 4) 0) × (getD t (hubsAt (sizeOf t) + h * 4) 0 ≤ 6)
+-- a hub in use has one of the seven kinds
+kind-known : (t : List ℕ) → Formed t → (h : ℕ) → h < getD t 2 0 → (1 ≤ getD t (hubsAt (sizeOf t) + h * 4) 0) × (getD t (hubsAt (sizeOf t) + h * 4) 0 ≤ 7)
 unfolding Range hubAt kindOf
 kind-known t f h here =
     let L = editionOf t in
@@ -77,13 +77,13 @@ kind-known t f h here =
       boolCase (eqb k 0)
           (λ q. absurd (rw (eqb-true k 0 q) at range))
           (λ q. omega (arith, eqb-false k 0 q)),
-      boolCase (ltb k 7)
-          (λ q. omega (arith, ltb-true k 7 q))
-          (λ q. absurd (rw (List·getD-eq-default kinds NoKind {n = k} (ltb-false k 7 q)) at range)),
+      boolCase (ltb k 8)
+          (λ q. omega (arith, ltb-true k 8 q))
+          (λ q. absurd (rw (List·getD-eq-default kinds NoKind {n = k} (ltb-false k 8 q)) at range)),
     )
   where
     kinds : List RulesTable.Kind
-    kinds = NoKind ∷ RulesTable.Event ∷ RulesTable.Semaphore ∷ RulesTable.Port ∷ RulesTable.Fifo ∷ RulesTable.Resource ∷ RulesTable.Board ∷ []
+    kinds = NoKind ∷ RulesTable.Event ∷ RulesTable.Semaphore ∷ RulesTable.Port ∷ RulesTable.Fifo ∷ RulesTable.Resource ∷ RulesTable.Board ∷ RulesTable.Memory ∷ []
 
 -- a FIFO holds at most 8 words
 fifo-few : (t : List ℕ) → Formed t → (h : ℕ) → used t (Holds h) ≡ true → getD t (hubsAt (sizeOf t) + h * 4) 0 ≡ 4 → getD t (hubsAt (sizeOf t) + h * 4 + 1) 0 ≤ 8
@@ -214,7 +214,7 @@ module _ (a b : List ℕ) (w : OneEdition a b) where
       let s = some-differs a b k 1 m in
       let here : s .place ≡ k = omega (arith, s .low, s .high) in
       let first = kind-known a (w .first) h (ltb-true h (getD a 2 0) p) in
-      let second : (1 ≤ getD b k 0) × (getD b k 0 ≤ 6) = rw (← w .same) at (kind-known b (w .second) h (ltb-true h (getD b 2 0) q)) in
+      let second : (1 ≤ getD b k 0) × (getD b k 0 ≤ 7) = rw (← w .same) at (kind-known b (w .second) h (ltb-true h (getD b 2 0) q)) in
       let said = ap kindSaid e in
       s .differ (rw here (sym (kind-said _ a _ _ (first .0) (first .1)) ∙ said ∙ kind-said _ b _ _ (second .0) (second .1)))
   more-apart (Waiting h) p q d m e = false≢true m

@@ -88,6 +88,10 @@ module _ {l : List ℕ} {at : ℕ} {m : List ℕ} {end : ℕ} {rest whole : List
     all = append-assoc (w .text) x next ∙ ap (λ (r : List ℕ). w .text ++ r) (sym e) ∙ w .all;
   }
 
+  -- what is left, said otherwise
+  pub joining-same : {next : List ℕ} → rest ≡ next → Joining l at m end next whole
+  joining-same e = rw (← e) w
+
   pub joining-end : rest ≡ [] → Put l at whole end m
   joining-end e = put-as (w .put) (sym (append-nil (w .text)) ∙ ap (λ (r : List ℕ). w .text ++ r) (sym e) ∙ w .all)
 

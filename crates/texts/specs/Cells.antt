@@ -59,7 +59,7 @@ answerText x = outcomeText (x .answer) (x .word) ++ cond (eqb (x .word) 0) [] (b
 
 -- ---- the kind of a hub
 
--- 1 Event, 2 Semaphore, 3 Port, 4 FIFO, 5 Resource, else Board
+-- 1 Event, 2 Semaphore, 3 Port, 4 FIFO, 5 Resource, 6 Board, else Memory
 unfoldable pub kindText : HubRecord → List ℕ
 kindText x =
     cond (eqb (x .kind) 1) (bytes "Event")
@@ -67,7 +67,8 @@ kindText x =
     (cond (eqb (x .kind) 3) (bytes "Port")
     (cond (eqb (x .kind) 4) (bytes "FIFO, limit " ++ decimal (x .limit))
     (cond (eqb (x .kind) 5) (bytes "Resource")
-    (bytes "Board")))))
+    (cond (eqb (x .kind) 6) (bytes "Board")
+    (bytes "Memory, limit " ++ decimal (x .limit)))))))
 
 -- ---- what a hub holds
 
@@ -93,6 +94,21 @@ unfoldable pub boardText : ℕ → List ℕ → ℕ → ℕ → List ℕ
 boardText w t from count =
     cond (eqb count 0) (bytes "not written") (bytes "written: " ++ messageText (messageAt w t from))
 
+-- M-107: the blocks of a Memory hub that are out, from block b on, by their marks; k were named before
+unfoldable pub blockText : ℕ → ℕ → List ℕ
+blockText k b = cond (eqb k 0) (bytes "blocks out: " ++ decimal b) (bytes ", " ++ decimal b)
+
+unfoldable pub noneText : ℕ → List ℕ
+noneText k = cond (eqb k 0) (bytes "no block out") []
+
+unfoldable pub blocksFrom : ℕ → ℕ → List ℕ → List ℕ
+blocksFrom k b [] = noneText k
+blocksFrom k b (m ∷ ms) = cond (eqb m 0) (blocksFrom k (suc b) ms) (blockText k b ++ blocksFrom (suc k) (suc b) ms)
+
+-- a store has eight marks, those behind the limit are 0
+abbrev pub blocksText : ℕ → List ℕ → ℕ → List ℕ
+blocksText w t from = blocksFrom 0 0 (heldFrom w t from 8)
+
 -- of the other kinds the count says all: an Event's, a Semaphore's, a Resource's (its owner plus 1); a Port holds nothing
 unfoldable pub countText : HubRecord → List ℕ
 countText x =
@@ -106,7 +122,8 @@ unfoldable pub holdsText : ℕ → List ℕ → ℕ → HubRecord → List ℕ
 holdsText w t from x =
     cond (eqb (x .kind) 4) (wordsText (heldFrom w t from (x .count)))
     (cond (eqb (x .kind) 6) (boardText w t from (x .count))
-    (countText x))
+    (cond (eqb (x .kind) 7) (blocksText w t from)
+    (countText x)))
 
 -- ---- a list of tasks; `runs` is the running task plus 1, or 0
 

@@ -6,7 +6,7 @@ ghost use Prim.Native.Nat.{_≤_, pred};
 ghost use Rattle.lines.specs.Lines.{decimal};
 ghost use Rattle.lists.specs.Lists.{numbers};
 ghost use Rattle.rules.specs.Table.{part};
-ghost use Rattle.texts.specs.Cells.{answerText, boardText, contentsText, countText, entryText, heldFrom, holdsText, kindText, messageText, outcomeText, stageText, stateText, taskText, tasksText, ticksText, waitsText, wordText, wordsText};
+ghost use Rattle.texts.specs.Cells.{answerText, blockText, blocksText, boardText, contentsText, countText, entryText, heldFrom, holdsText, kindText, messageText, noneText, outcomeText, stageText, stateText, taskText, tasksText, ticksText, waitsText, wordText, wordsText};
 ghost use Rattle.texts.specs.Texts.{Put};
 ghost use mathlib.Core.List.{[], _++_, _∷_};
 ghost use mathlib.Core.Path.{_≡_};
@@ -186,7 +186,10 @@ pub fn put_kind(out: &mut [u8], at: usize, x: HubRecord) -> usize
     if x.kind == rules::RESOURCE {
         return put_bytes(out, at, b"Resource");
     }
-    put_bytes(out, at, b"Board")
+    if x.kind == rules::BOARD {
+        return put_bytes(out, at, b"Board");
+    }
+    put_between(out, at, b"Memory, limit ", x.limit, b"")
 }
 
 // The k-th word of a FIFO, from 0.
@@ -233,7 +236,52 @@ pub fn put_holds(out: &mut [u8], at: usize, t: &[u32], from: usize, w: usize, x:
     if x.kind == rules::BOARD {
         return put_board(out, at, t, from, w, x.count);
     }
+    if x.kind == rules::MEMORY {
+        return put_blocks(out, at, t, from, w);
+    }
     put_count(out, at, x)
+}
+
+// Block b of a Memory hub; k were named before.
+fn put_block(out: &mut [u8], at: usize, k: u32, b: u32) -> usize
+    ensures { λ r. ⌜ Put (now (out .entry)) at (blockText k b) r (now (out .exit)) ⌝ }
+{
+    if k == 0 {
+        return put_between(out, at, b"blocks out: ", b, b"");
+    }
+    put_between(out, at, b", ", b, b"")
+}
+
+// Behind the last block: that none is out, where none was named.
+fn put_none(out: &mut [u8], at: usize, k: u32) -> usize
+    ensures { λ r. ⌜ Put (now (out .entry)) at (noneText k) r (now (out .exit)) ⌝ }
+{
+    if k == 0 {
+        return put_bytes(out, at, b"no block out");
+    }
+    at
+}
+
+// The blocks of a Memory hub that are out, by its eight marks, messages of w words each, the first at word `from`.
+fn put_blocks(out: &mut [u8], at: usize, t: &[u32], from: usize, w: usize) -> usize
+    requires { ⌜ from ≤ 65535 ⌝ }
+    requires { ⌜ w ≤ 2 ⌝ }
+    ensures { λ r. ⌜ Put (now (out .entry)) at (blocksText w (now (t .entry)) from) r (now (out .exit)) ⌝ }
+{
+    let mut end = at;
+    let mut p = from;
+    let mut k = 0;
+    let mut b = 0;
+    while b < rules::MOST_HELD {
+        let m = messages::message(t, p, w);
+        if m != 0 {
+            end = put_block(out, end, k, b);
+            k += 1;
+        }
+        p += w;
+        b += 1;
+    }
+    put_none(out, end, k)
 }
 
 // What a Board holds.

@@ -92,7 +92,23 @@ same-length-6 c = search needs
 
 returns-6 : tie.Need-returns-6
 unfolding kindText
-returns-6 c = rw (ne-eqb _ _ (c .before .before .before .before .before .before .before .before .before .before .before .before .before .if1 .left), ne-eqb _ _ (c .before .before .before .before .before .before .before .before .before .before .before .if2 .left), ne-eqb _ _ (c .before .before .before .before .before .before .before .before .before .if3 .left), ne-eqb _ _ (c .before .before .before .before .before .before .before .if4 .left), ne-eqb _ _ (c .before .before .before .before .before .if5 .left)) (c .before .before .put-bytes4 .ensures)
+returns-6 c = rw (ne-eqb _ _ (c .before .before .before .before .before .before .before .before .before .before .before .before .before .before .before .if1 .left), ne-eqb _ _ (c .before .before .before .before .before .before .before .before .before .before .before .before .before .if2 .left), ne-eqb _ _ (c .before .before .before .before .before .before .before .before .before .before .before .if3 .left), ne-eqb _ _ (c .before .before .before .before .before .before .before .before .before .if4 .left), ne-eqb _ _ (c .before .before .before .before .before .before .before .if5 .left), eq-eqb _ _ (c .before .before .before .before .before .if6 .taken)) (c .before .before .put-bytes4 .ensures)
+
+slice-aggregate-put-between-5 : tie.Need-slice-aggregate-put-between-5
+slice-aggregate-put-between-5 c = search needs
+
+slice-aggregate-put-between-6 : tie.Need-slice-aggregate-put-between-6
+slice-aggregate-put-between-6 c = search needs
+
+put-between-requires-3 : tie.Need-put-between-requires-3
+put-between-requires-3 c κs = search needs
+
+same-length-7 : tie.Need-same-length-7
+same-length-7 c = search needs
+
+returns-7 : tie.Need-returns-7
+unfolding kindText
+returns-7 c = rw (ne-eqb _ _ (c .before .before .before .before .before .before .before .before .before .before .before .before .before .before .before .before .if1 .left), ne-eqb _ _ (c .before .before .before .before .before .before .before .before .before .before .before .before .before .before .if2 .left), ne-eqb _ _ (c .before .before .before .before .before .before .before .before .before .before .before .before .if3 .left), ne-eqb _ _ (c .before .before .before .before .before .before .before .before .before .before .if4 .left), ne-eqb _ _ (c .before .before .before .before .before .before .before .before .if5 .left), ne-eqb _ _ (c .before .before .before .before .before .before .if6 .left)) (put-as (c .before .before .put-between3 .ensures) (append-nil _))
 
 pub put-kind-spec : {M : Type 1} → statement M
 put-kind-spec =
@@ -124,4 +140,9 @@ put-kind-spec =
     slice-aggregate-put-bytes-4
     put-bytes-requires-4
     same-length-6
-    returns-6)
+    returns-6
+    slice-aggregate-put-between-5
+    slice-aggregate-put-between-6
+    put-between-requires-3
+    same-length-7
+    returns-7)
