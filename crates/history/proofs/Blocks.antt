@@ -3,7 +3,7 @@
 -- Not here: the balance itself (Balance.antt, Account.antt), and that it holds in every run (Promise.antt).
 use Prim.Native.Nat.{_+_, _<_, _≤_, pred, suc, zero, ℕ}
 use Rattle.history.proofs.Classes.{class-met}
-use Rattle.history.specs.History.{Class, failed, rowClass}
+use Rattle.history.specs.History.{Class, failed, rowClass, waiting}
 use Rattle.history.specs.Statements.{GoesTo, Lowest, NoneFree}
 use Rattle.lists.proofs.Counting.{before-first, occ-append, occ-at, occ-replicate, same-length}
 use Rattle.lists.proofs.Laws.{boolCase}
@@ -12,12 +12,12 @@ use Rattle.rules.proofs.Accepted.{Asked}
 use Rattle.rules.proofs.Blocks.{lowest-in, lowest-mark, out-in, out-mark}
 use Rattle.rules.proofs.Cases.{sameOr}
 use Rattle.rules.proofs.Hubs.{core, hub-target}
-use Rattle.rules.proofs.Settled.{Waiter, met-first, partners}
+use Rattle.rules.proofs.Settled.{Waiter, met-caller, met-first, partners}
 use Rattle.rules.proofs.Valid.{Held, Range, Valid}
 use Rattle.rules.proofs.Verdicts.{Each as EachMeeting, hubAfter, waitersMet}
 use Rattle.rules.specs.Calls.{settle}
 use Rattle.rules.specs.HubTable.{Verdict, fail, getMemory, giveBack, isOut, lowestFree, message, notNow, onGet, onPut, onSide, putMemory, verdict}
-use Rattle.rules.specs.Lists.{firstWaiting, holding, queued, readied}
+use Rattle.rules.specs.Lists.{answered, firstWaiting, holding, queued, readied}
 use Rattle.rules.specs.Table.{Hub, Memory, State, Task, hub, kindOf, sideOf, stored, task}
 use Rattle.rules.specs.declared.Call.{Call}
 use borrow.Author.Tests.{eq-eqb, eqb-false, lt-ltb, ltb-false, ltb-true, ne-eqb}
@@ -129,6 +129,13 @@ module _ (s : State) (g : Valid s) (h : ℕ) (used : h < length (s .hubs)) (k : 
       (λ p. absurd (not-out (lowestFree x) (lowest-mark x free-count z) (l .lower (lowestFree x) (ltb-true _ b p))))
       (λ p. omega (arith, ltb-false b (lowestFree x) q, ltb-false (lowestFree x) b p)))
 
+  is-lowest : 0 < x .count → Lowest s h (lowestFree x)
+  is-lowest lt = record {
+    inside = omega (arith, many, lowest-in x free-count lt);
+    free = unfold isOut in rw (lowest-mark x free-count lt) refl;
+    lower = λ j l. boolCase (isOut j x) (λ o. o) (λ o. absurd (before-first 0 (x .held) j l (free-mark j o)));
+  }
+
   -- ---- a get and a put at it
 
   module _ (c : Call) (at : c .target ≡ h) where
@@ -165,6 +172,29 @@ module _ (s : State) (g : Valid s) (h : ℕ) (used : h < length (s .hubs)) (k : 
 
     pub lowest-next : c .side ≡ 2 → (b : ℕ) → Lowest s h b → verdict s c ≡ Verdict.met (pred (x .count)) (set (x .held) b 1) b []
     lowest-next e b l = get-row e ∙ get-some (lowest-count b l) ∙ rw (lowest-is b l) refl
+
+    -- a request that its row meets is not told "not now"
+    not-later : (v : Verdict) → rowClass v c ≡ Class.met → v ≢ notNow
+    unfolding rowClass
+    not-later v e q =
+        let m : rowClass notNow c ≡ Class.met = rw q at e in
+        boolCase (eqb (c .mode) 2)
+        (λ b. let z : failed ≡ Class.met = rw b at m in false≢true cc)
+        (λ b. let z : waiting ≡ Class.met = rw b at m in false≢true cc)
+
+    -- a get that is met receives the lowest free block
+    pub lowest-taken : (key : ℕ → ℕ) → Asked s c → c .side ≡ 2 → rowClass (verdict s c) c ≡ Class.met
+        → Lowest s h (task (settle key (verdict s c) s c) (c .caller) .word)
+    unfolding EachMeeting answered
+    lowest-taken key t e m =
+        boolCase (ltb 0 (x .count))
+        (λ b.
+        let lt = ltb-true 0 (x .count) b in
+        let v = get-row e ∙ get-some lt in
+        let w : task (settle key (verdict s c) s c) (c .caller) .word ≡ lowestFree x =
+        ap (λ (v : Verdict). task (settle key v s c) (c .caller) .word) v ∙ ap (λ (t : Task). t .word) (met-caller key s c (t .run) _ _ _ [] tt) in
+        rw w (is-lowest lt))
+        (λ b. absurd (not-later (verdict s c) m (get-row e ∙ get-none (omega (arith, ltb-false 0 (x .count) b)))))
 
     module _ (key : ℕ → ℕ) (t : Asked s c) (put : c .side ≡ 1) where
       abbrev s₁ : State

@@ -4,7 +4,7 @@
 use Prim.Native.Nat.{_+_, _<_, _≤_, suc, zero, ℕ}
 use Rattle.history.proofs.Again.{Entry}
 use Rattle.history.proofs.Balance.{Balanced}
-use Rattle.history.proofs.Blocks.{else-met, goes-back, held-back, lowest-next, mark-low, so-many-out}
+use Rattle.history.proofs.Blocks.{else-met, goes-back, held-back, lowest-next, lowest-taken, mark-low, so-many-out}
 use Rattle.history.proofs.Bound.{bound}
 use Rattle.history.proofs.Following.{continues-history, moves-same, own-place}
 use Rattle.history.proofs.Meetings.{met-in}
@@ -12,7 +12,7 @@ use Rattle.history.proofs.Reasons.{class-own, one-met, turned-failed, t
 use Rattle.history.proofs.Run.{Sound, accepted-service, refusal-other, shown-next, sound-run}
 use Rattle.history.proofs.Those.{each-both, each-imp, occ-those}
 use Rattle.history.specs.History.{Class, History, Request, Step, asked, at, begun, boardWord, failed, history, howMany, isOwned, metCount, metWith, next, nextBy, opened, partOf, passed, removedAt, reread, rowClass, shown, those, timedOut, turned, turnedBy, turnedTo, withdrawn, wordsOf}
-use Rattle.history.specs.Statements.{Asks, Bears, Begins, Blocks, Demand3, Each, EachMet, EachRead, Met, MetBy, OneEach, Own, addedAs, classHad, requestAt}
+use Rattle.history.specs.Statements.{Asks, Bears, Begins, Blocks, Demand3, Each, EachMet, EachRead, Lowest, Met, MetBy, OneEach, Own, addedAs, classHad, requestAt}
 use Rattle.lists.proofs.Laws.{boolCase}
 use Rattle.lists.specs.Lists.{bit, occ}
 use Rattle.rules.proofs.Accepted.{Asked, request-tests}
@@ -180,6 +180,12 @@ module _ (x : History) (g : Sound x) where
     unfolding next nextBy serve
     next-table d c a = rw (a .accepted) (shown-next x c (a .accepted) ∙ rw (a .service) refl)
 
+    taken : (c : Call) → Asks x h 2 c → classHad x c ≡ Class.met → Lowest s h (requestAt (next x c) (length (x .requests)) .received)
+    unfolding asked reread serve
+    taken c a m =
+        rw (own-place x c (a .service) (a .accepted), shown-next x c (a .accepted), a .service)
+        (lowest-taken s (g .valid) h used e c (a .target) (urgency s) (asked-of 2 c a) (a .side) (sym (class-had 2 c a) ∙ m))
+
     sound-blocks : Blocks x h
     unfolding Balanced
     sound-blocks = record {
@@ -187,6 +193,7 @@ module _ (x : History) (g : Sound x) where
       once = λ b. omega (arith, memory h e b, mark-low s (g .valid) h used e b);
       heldBack = λ c a. held-back s (g .valid) h used e c (a .target) (a .side);
       only = λ c a n. class-had 2 c a ∙ else-met s (g .valid) h used e c (a .target) (a .side) n;
+      taken = taken;
       returned = λ c a m. rw (next-table 1 c a) (goes-back s (g .valid) h used e c (a .target) (urgency s) (asked-of 1 c a) (a .side) (sym (class-had 1 c a) ∙ m));
       usedAgain = λ c a. lowest-next s (g .valid) h used e c (a .target) (a .side);
     }

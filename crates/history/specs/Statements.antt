@@ -289,6 +289,8 @@ pub record Blocks (x : History) (h : ℕ) : Type 0 where
   -- "Only "not now" holds back a get, and that exactly when no block is free"
   pub heldBack : (c : Call) → Asks x h 2 c → (verdict (shown (x .table)) c ≡ notNow) ↔ NoneFree (shown (x .table)) h
   pub only : (c : Call) → Asks x h 2 c → (verdict (shown (x .table)) c ≢ notNow) → classHad x c ≡ met
+  -- "takes the lowest free block and receives its number as word"
+  pub taken : (c : Call) → Asks x h 2 c → classHad x c ≡ met → Lowest (shown (x .table)) h (requestAt (next x c) (length (x .requests)) .received)
   -- "a returned block is used again": a met put of it leaves it free, or with the getter that waited first; and the lowest free block is
   -- the next that a get receives
   pub returned : (c : Call) → Asks x h 1 c → classHad x c ≡ met

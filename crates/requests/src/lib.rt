@@ -1,5 +1,6 @@
 // Service 1, a put or a get at a hub or the wipe of a Board, on a table that holds a valid state: what the hub says is read off
-// the table (`judge`), and then carried out (`meet`, `wait_there`). The update of a Board (`update`) meets all its readers.
+// the table (`judge`, of a Memory hub's blocks `judge_block`), and then carried out (`meet`, `wait_there`). The update of a Board
+// (`update`) meets all its readers.
 // What comes back is how many are ahead of the caller: the place that joining promised, or 0.
 // Not here: the hub table itself (crate hubtable), when a call is refused, and the rest of what it gives back.
 use hubtable::Meeting;

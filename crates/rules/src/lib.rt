@@ -73,7 +73,7 @@ pub const NW: u32 = 2;
 
 pub const WT: u32 = 3;
 
-// "priority 0 to 255", "ticks left 0 to 1,000,000", and the limits of a Semaphore and of a FIFO
+// "priority 0 to 255", "ticks left 0 to 1,000,000", and the limits of a Semaphore, and of a FIFO and a Memory hub
 pub const LAST_PRIORITY: u32 = 255;
 
 pub const MOST_TICKS: u32 = 1000000;
