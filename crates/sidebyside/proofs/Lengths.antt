@@ -15,7 +15,7 @@ use Rattle.sidebyside.specs.Rows.{cell, hubRows, lineText, markText, mar
 use Rattle.sidebyside.specs.declared.Row.the-variants.{Answer, Contents, Holds, Kind, Priority, ReadyList, State, Waiting}
 use Rattle.sidebyside.specs.declared.Row.{Row}
 use Rattle.texts.proofs.Lists.{numbers-end, numbers-next}
-use Rattle.texts.specs.Cells.{answerText, boardText, contentsText, countText, entriesFrom, entryText, heldFrom, holdsText, kindText, messageText, outcomeText, stageText, stateText, taskText, tasksText, ticksText, waitsText, wordText, wordsFrom, wordsText}
+use Rattle.texts.specs.Cells.{answerText, blockText, blocksFrom, boardText, contentsText, countText, entriesFrom, entryText, heldFrom, holdsText, kindText, messageText, noneText, outcomeText, stageText, stateText, taskText, tasksText, ticksText, waitsText, wordText, wordsFrom, wordsText}
 use Rattle.texts.specs.Texts.{bytes}
 use borrow.Author.Tests.{eqb-false, eqb-true, ltb-true}
 use lib.Dec.{eqb, ltb}
@@ -159,7 +159,24 @@ kind-most x h g =
     (most-cond 45 (eqb (x .kind) 2) _ _ (most-append 35 10 _ _ (between-most 17 8 (x .limit) (bytes "Semaphore, limit ") (bytes ", start ") h (lit (bytes "Semaphore, limit ")) (lit (bytes ", start "))) (number-most (x .start) g))
     (most-cond 45 (eqb (x .kind) 3) _ _ (most-more 4 45 _ (omega arith) (lit (bytes "Port")))
     (most-cond 45 (eqb (x .kind) 4) _ _ (most-more 22 45 _ (omega arith) (most-append 12 10 (bytes "FIFO, limit ") _ (lit (bytes "FIFO, limit ")) (number-most (x .limit) h)))
-    (most-cond 45 (eqb (x .kind) 5) _ _ (most-more 8 45 _ (omega arith) (lit (bytes "Resource"))) (most-more 5 45 _ (omega arith) (lit (bytes "Board")))))))
+    (most-cond 45 (eqb (x .kind) 5) _ _ (most-more 8 45 _ (omega arith) (lit (bytes "Resource")))
+    (most-cond 45 (eqb (x .kind) 6) _ _ (most-more 5 45 _ (omega arith) (lit (bytes "Board"))) (most-more 24 45 _ (omega arith) (most-append 14 10 (bytes "Memory, limit ") _ (lit (bytes "Memory, limit ")) (number-most (x .limit) h))))))))
+
+blocks-most : (n k b : ℕ) (ms : List ℕ) → length ms ≡ n → Word (b + n) → Most (12 + n * 22) (blocksFrom k b ms)
+unfolding blockText blocksFrom noneText
+blocks-most n k b [] l h = most-more 12 (12 + n * 22) _ (omega arith) (most-cond 12 (eqb k 0) _ _ (lit (bytes "no block out")) (none 12))
+blocks-most zero k b (m ∷ ms) l h = absurd (omega arith)
+blocks-most (suc n) k b (m ∷ ms) l h =
+    let number = number-most b (omega arith) in
+    let head : Most 22 (blockText k b) = most-cond 22 (eqb k 0) _ _ (most-append 12 10 (bytes "blocks out: ") _ (lit (bytes "blocks out: ")) number) (most-more 12 22 _ (omega arith) (most-append 2 10 (bytes ", ") _ (lit (bytes ", ")) number)) in
+    most-cond (12 + suc n * 22) (eqb m 0) _ _
+    (most-more (12 + n * 22) (12 + suc n * 22) _ (omega arith) (blocks-most n k (suc b) ms (omega arith) (omega arith)))
+    (most-more (22 + (12 + n * 22)) (12 + suc n * 22) _ (omega arith) (most-append 22 (12 + n * 22) _ _ head (blocks-most n (suc k) (suc b) ms (omega arith) (omega arith))))
+
+held-long : (w : ℕ) (t : List ℕ) (p n : ℕ) → length (heldFrom w t p n) ≡ n
+unfolding heldFrom
+held-long w t p zero = refl
+held-long w t p (suc n) = ap suc (held-long w t (p + w) n)
 
 count-most : (x : HubRecord) → Word (x .count) → Most 22 (countText x)
 unfolding countText
@@ -214,10 +231,12 @@ module _ (ts : ℕ) (t : List ℕ) (b : Bounded ts t) (runs : ℕ) where
       (λ q. rw q (held-most t (b .low) (width ts) from (getD t (hubsAt ts + h * 4 + 1) 0) (b .few h i (eqb-true (getD t (hubsAt ts + h * 4) 0) 4 q))))
       (λ q.
       rw q
+      (most-cond 224 (eqb (getD t (hubsAt ts + h * 4) 0) 6) _ _
       (most-more 35 224 _ (omega arith)
-      (most-cond 35 (eqb (getD t (hubsAt ts + h * 4) 0) 6) _ _
-      (most-cond 35 (eqb (getD t (hubsAt ts + h * 4 + 1) 0) 0) _ _ (most-more 11 35 _ (omega arith) (lit (bytes "not written"))) (most-append 9 26 (bytes "written: ") _ (lit (bytes "written: ")) (message-most _ (stored t (b .low) (width ts) from))))
-      (most-more 22 35 _ (omega arith) (count-most _ (b .low (hubsAt ts + h * 4 + 1)))))))
+      (most-cond 35 (eqb (getD t (hubsAt ts + h * 4 + 1) 0) 0) _ _ (most-more 11 35 _ (omega arith) (lit (bytes "not written"))) (most-append 9 26 (bytes "written: ") _ (lit (bytes "written: ")) (message-most _ (stored t (b .low) (width ts) from)))))
+      (most-cond 224 (eqb (getD t (hubsAt ts + h * 4) 0) 7) _ _
+      (most-more 188 224 _ (omega arith) (blocks-most 8 0 0 (heldFrom (width ts) t from 8) (held-long (width ts) t from 8) (omega arith)))
+      (most-more 22 224 _ (omega arith) (count-most _ (b .low (hubsAt ts + h * 4 + 1)))))))
   used-most (Waiting h) i = tasks-most t (b .low) 0 (waitsAt ts + h * 16)
 
   cell-most : (r : Row) → Most (cellMost r) (cell ts t runs r)
