@@ -20,7 +20,8 @@
  *                                                                  met, word 77 high 3
  *   hub 1    kind        kind, limit and start                     Semaphore, limit 5, start 2
  *   hub 1    holds       count and store                           count 3; set; 77, 78 high 3;
- *                                                                  owner: task 2; written: 77
+ *                                                                  owner: task 2; written: 77;
+ *                                                                  blocks out: 0, 2
  *   hub 1    waiting     the waiting list                          task 3, task 5; nobody
  *
  * A task or a hub that one of the tables doesn't use is there `not in use`; what neither uses has
@@ -33,7 +34,8 @@
  * nothing, and gives length 0 and marked 0.
  *
  * Of the host is assumed what hub_kernel.h assumes for hub_kernel_compare, `text` being bytes, at
- * any address. */
+ * any address, and 80 kB of stack: the text is written into a buffer of 64 kB there first, so that
+ * a refusal leaves `text` as it was. */
 #ifndef HUB_KERNEL_ROWS_H
 #define HUB_KERNEL_ROWS_H
 

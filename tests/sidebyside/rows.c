@@ -128,11 +128,11 @@ static void tell_answer(cell *to, const uint32_t *table, uint32_t task)
 static void tell_kind(cell *to, const uint32_t *table, uint32_t hub)
 {
     static const char *const kinds[] = {"", "Event", "Semaphore", "Port", "FIFO", "Resource",
-                                        "Board"};
+                                        "Board", "Memory"};
     uint32_t kind = hub_field(table, hub, H_KIND);
 
     say(to, "%s", kinds[kind]);
-    if (kind == SEMAPHORE || kind == FIFO)
+    if (kind == SEMAPHORE || kind == FIFO || kind == MEMORY)
         say(to, ", limit %" PRIu32, hub_field(table, hub, H_LIMIT));
     if (kind == SEMAPHORE)
         say(to, ", start %" PRIu32, hub_field(table, hub, H_START));
@@ -146,6 +146,20 @@ static void say_held(cell *to, const uint32_t *table, uint32_t hub, uint32_t cou
         say(to, i == 0 ? "" : ", ");
         say_message(to, message_at(table, held_place(table, hub, i)));
     }
+}
+
+/* Which blocks are out: their marks aren't 0. */
+static void say_blocks(cell *to, const uint32_t *table, uint32_t hub)
+{
+    uint32_t limit = hub_field(table, hub, H_LIMIT), out = 0;
+
+    for (uint32_t block = 0; block < limit; block++) {
+        if (message_at(table, held_place(table, hub, block)) == 0)
+            continue;
+        say(to, out++ == 0 ? "blocks out: %" PRIu32 : ", %" PRIu32, block);
+    }
+    if (out == 0)
+        say(to, "no block out");
 }
 
 static void tell_holds(cell *to, const uint32_t *table, uint32_t hub)
@@ -175,6 +189,9 @@ static void tell_holds(cell *to, const uint32_t *table, uint32_t hub)
         say(to, count == 0 ? "not written" : "written: ");
         if (count != 0)
             say_message(to, message_at(table, store_place(table, hub)));
+        break;
+    case MEMORY:
+        say_blocks(to, table, hub);
         break;
     }
 }
