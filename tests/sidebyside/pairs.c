@@ -6,7 +6,7 @@
  *   what hub_kernel_compare (M-106) says and what is marked agree: the place of every entry lies
  *   in a row that is shown and marked; a marked row has an entry in it, but for the three cases
  *   that `text_alone` names;
- *   a marked row's two texts differ, an unmarked row's are equal;
+ *   a marked row's two texts differ, but for what `words_alone` names; an unmarked row's are equal;
  *   refused pairs are refused with the comparison's number.
  *
  * In which row a place lies is written down here once more, from the papers: neither rows.c nor
@@ -186,6 +186,17 @@ static int text_alone(const row rows[ROWS], int number)
            (rows[number].in_one_only || (number >= HUB_ROWS && number == subject + 1));
 }
 
+/* Whether a marked row may have two equal texts: what two Memory hubs hold, of other limits: the
+ * same blocks are out, and others are free. The limits are in the row before. */
+static int words_alone(const row rows[ROWS], int number)
+{
+    const row *kind = &rows[number - 1];
+
+    return number >= HUB_ROWS && (number - HUB_ROWS) % 3 == 1 && kind->marked && kind->entry &&
+           kind->left_length > 6 && memcmp(kind->left, "Memory", 6) == 0 &&
+           kind->right_length > 6 && memcmp(kind->right, "Memory", 6) == 0;
+}
+
 static void check_rows(state *at, row rows[ROWS], const uint32_t *places, uint32_t count)
 {
     for (uint32_t i = 0; i < count; i++) {
@@ -200,7 +211,7 @@ static void check_rows(state *at, row rows[ROWS], const uint32_t *places, uint32
             continue;
         int equal = it->left_length == it->right_length &&
                     memcmp(it->left, it->right, it->left_length) == 0;
-        if (it->marked && equal)
+        if (it->marked && equal && !words_alone(rows, i))
             fail(at, "a marked row whose two texts are equal");
         if (!it->marked && !equal)
             fail(at, "a row that isn't marked, and two texts");
