@@ -1,4 +1,4 @@
-/* The tests' own working-out of document 01 and requests M-100, M-101 and M-103 to M-107;
+/* The tests' own working-out of document 01 and requests M-100, M-101 and M-103 to M-108;
  * expect.h says how it differs. */
 #include "expect.h"
 
@@ -98,6 +98,37 @@ static void lay_words(const wide *w, uint32_t *table, size_t words)
     }
 }
 
+/* ---- Effective priorities ---------------------------------------------- */
+
+/* Who waits for whom, directly at first: waits[j][i] when j waits for a Resource of i. */
+typedef struct {
+    uint32_t tasks, own[16];
+    uint8_t waits[16][16];
+} relation;
+
+/* "Directly or through others": whoever waits for k waits for whom k waits for, with one
+ * task after the other as k. A ring makes a task wait for itself, and that ends it. */
+static void through_others(relation *r)
+{
+    for (uint32_t k = 0; k < r->tasks; k++)
+        for (uint32_t j = 0; j < r->tasks; j++)
+            for (uint32_t i = 0; i < r->tasks && r->waits[j][k]; i++)
+                r->waits[j][i] |= r->waits[k][i];
+}
+
+/* "The smallest own priority among itself and all tasks that wait ... for a Resource it
+ * owns", of each task. */
+static void effective(relation *r, uint32_t *priorities)
+{
+    through_others(r);
+    for (uint32_t i = 0; i < r->tasks; i++) {
+        priorities[i] = r->own[i];
+        for (uint32_t j = 0; j < r->tasks; j++)
+            if (r->waits[j][i] && r->own[j] < priorities[i])
+                priorities[i] = r->own[j];
+    }
+}
+
 /* ---- Well formed, sentence by sentence --------------------------------- */
 
 static const uint32_t contents_of[2][8] = {
@@ -150,10 +181,24 @@ static int task_holds(const wide *w, const written_task *t)
     return is_zero(t->word) || (t->side == 1 && (kind == 3 || kind == 4));
 }
 
+/* Of a table whose records hold. */
+static void effective_of_wide(const wide *w, uint32_t *priorities)
+{
+    relation r = {w->contents[1], {0}, {{0}}};
+
+    for (uint32_t j = 0; j < r.tasks; j++) {
+        const uint32_t *hub = w->task[j].state == 3 ? w->hub[w->task[j].hub - 1] : NULL;
+        r.own[j] = w->task[j].priority;
+        if (hub && hub[0] == 5)
+            r.waits[j][hub[1] - 1] = 1;
+    }
+    effective(&r, priorities);
+}
+
 /* "exactly the tasks in state 2" (hub 0), or "in state 3 at that hub" (hub
  * plus 1): every task stands in the list once if it belongs there, else not
- * at all; the entries stand first; the priority numbers don't fall. */
-static int list_holds(const wide *w, uint32_t hub)
+ * at all; the entries stand first; the effective priority numbers don't fall. */
+static int list_holds(const wide *w, uint32_t hub, const uint32_t *priorities)
 {
     const uint32_t *list = hub == 0 ? w->ready : w->list[hub - 1];
     uint32_t entries = 0;
@@ -171,8 +216,7 @@ static int list_holds(const wide *w, uint32_t hub)
     for (uint32_t i = 0; i < 16; i++) {
         if ((list[i] != 0) != (i < entries))
             return 0;
-        if (i > 0 && i < entries &&
-            w->task[list[i - 1] - 1].priority > w->task[list[i] - 1].priority)
+        if (i > 0 && i < entries && priorities[list[i - 1] - 1] > priorities[list[i] - 1])
             return 0;
     }
     return 1;
@@ -253,13 +297,16 @@ static int hub_holds(const wide *w, uint32_t hub)
 static int wide_holds(const wide *w, size_t words)
 {
     int holds = contents_hold(w, words);
+    uint32_t priorities[16];
 
     for (uint32_t task = 0; holds && task < w->contents[1]; task++)
         holds = task_holds(w, &w->task[task]);
     for (uint32_t hub = 0; holds && hub < w->contents[2]; hub++)
         holds = hub_holds(w, hub);
+    if (holds)
+        effective_of_wide(w, priorities);
     for (uint32_t list = 0; holds && list <= w->contents[2]; list++)
-        holds = list_holds(w, list);
+        holds = list_holds(w, list, priorities);
     return holds;
 }
 
@@ -291,7 +338,21 @@ typedef struct {
     uint32_t tasks, hubs, joined;
     thing_task task[16];
     thing_hub hub[16];
+    uint32_t urgency[16]; /* what tasks are sorted by: effective priorities as they were last */
 } world;
+
+static void effective_of_world(const world *w, uint32_t *priorities)
+{
+    relation r = {w->tasks, {0}, {{0}}};
+
+    for (uint32_t j = 0; j < w->tasks; j++) {
+        const thing_hub *awaited = w->task[j].hub != 0 ? &w->hub[w->task[j].hub - 1] : NULL;
+        r.own[j] = w->task[j].priority;
+        if (awaited && awaited->kind == RESOURCE)
+            r.waits[j][awaited->count - 1] = 1;
+    }
+    effective(&r, priorities);
+}
 
 /* Of a well-formed table. */
 static void read_world(world *w, const uint32_t *table, size_t words)
@@ -319,11 +380,14 @@ static void read_world(world *w, const uint32_t *table, size_t words)
                 w->task[from.list[hub][i] - 1].rank = i;
     }
     w->joined = 16;
+    effective_of_world(w, w->urgency);
 }
 
-static int stands_before(const thing_task *a, const thing_task *b)
+static int stands_before(const world *w, const thing_task *a, const thing_task *b)
 {
-    return a->priority != b->priority ? a->priority < b->priority : a->rank < b->rank;
+    uint32_t of_a = w->urgency[a - w->task], of_b = w->urgency[b - w->task];
+
+    return of_a != of_b ? of_a < of_b : a->rank < b->rank;
 }
 
 /* First of the tasks in this state at this hub that stands behind `after`. */
@@ -333,8 +397,8 @@ static thing_task *following(world *w, uint32_t state, uint32_t hub, const thing
 
     for (uint32_t i = 0; i < w->tasks; i++) {
         thing_task *t = &w->task[i];
-        if (t->state == state && t->hub == hub && (!after || stands_before(after, t)) &&
-            (!first || stands_before(t, first)))
+        if (t->state == state && t->hub == hub && (!after || stands_before(w, after, t)) &&
+            (!first || stands_before(w, t, first)))
             first = t;
     }
     return first;
@@ -645,7 +709,7 @@ static void serve(world *w, const uint32_t *call)
         tick(w);
         break;
     case 9:
-        w->task[w->tasks].priority = call[2];
+        w->task[w->tasks].priority = w->urgency[w->tasks] = call[2];
         w->task[w->tasks].state = INACTIVE;
         if (call[3] == 1)
             to_ready(w, &w->task[w->tasks], 0, nothing);
@@ -660,6 +724,22 @@ static void serve(world *w, const uint32_t *call)
     }
 }
 
+/* "All tasks whose effective priority changed are taken out of their lists, then put back
+ * behind their equals in task number order": they come last of all, one after the other, so
+ * last among those that they are equal to now. */
+static void sort_anew(world *w)
+{
+    uint32_t priorities[16];
+
+    effective_of_world(w, priorities);
+    for (uint32_t i = 0; i < w->tasks; i++) {
+        if (priorities[i] == w->urgency[i])
+            continue;
+        w->urgency[i] = priorities[i];
+        w->task[i].rank = w->joined++;
+    }
+}
+
 /* "How many requests stand before it in that list": those who wait at the same hub and
  * stand before it, wherever their records are. */
 static uint32_t ahead_of(const world *w, const thing_task *waiter)
@@ -668,7 +748,7 @@ static uint32_t ahead_of(const world *w, const thing_task *waiter)
 
     for (uint32_t i = 0; i < w->tasks; i++)
         ahead += w->task[i].state == WAITING && w->task[i].hub == waiter->hub &&
-                 stands_before(&w->task[i], waiter);
+                 stands_before(w, &w->task[i], waiter);
     return ahead;
 }
 
@@ -684,6 +764,7 @@ second_reply expect_call(uint32_t *table, size_t words, const uint32_t call[8])
     } else {
         read_world(&w, table, words);
         serve(&w, call);
+        sort_anew(&w);
     }
     write_world(&w, table, words);
     if (call[0] >= 1 && call[0] <= 7)

@@ -1,7 +1,8 @@
 /* What the tests expect of a call, a listing, a move and a comparison, worked out a second way:
  * slowly, and with none of second.c's mechanisms. Well formed is read sentence
  * by sentence with counts over all entries; lists are never shifted: a task has
- * a rank, and a list is its members sorted by priority and rank. A message is a pair of
+ * a rank, and a list is its members sorted by effective priority and rank. Who waits for
+ * whom is a relation of all tasks, closed task by task. A message is a pair of
  * words, not a number; a table of either edition is laid out wide first, and a move is the
  * same things written the other way. A comparison is the mending of a copy. */
 #ifndef EXPECT_H

@@ -662,16 +662,42 @@ static void build_task(gen_random *random, uint32_t *table, uint32_t number, uin
     task[T_SUSPENDED] = task[T_STATE] != INACTIVE && gen_chance(random, 20);
 }
 
-/* Puts a task into a list at a right place: behind those before it in
- * priority, before, between or behind its equals. */
-static void insert(gen_random *random, uint32_t *table, uint32_t *list, uint32_t task)
+/* Whom a task waits for: the owner of the Resource at which it waits, or NOBODY. */
+static uint32_t awaited_owner(const uint32_t *table, uint32_t task)
 {
-    uint32_t at = 0, length = list_length(list), own = task_field(table, task, T_PRIORITY);
+    uint32_t hub = task_field(table, task, T_HUB);
 
-    while (at < length && task_field(table, list[at] - 1, T_PRIORITY) < own)
+    if (task_field(table, task, T_STATE) != WAITING ||
+        hub_field(table, hub - 1, H_KIND) != RESOURCE)
+        return NOBODY;
+    return hub_field(table, hub - 1, H_COUNT) - 1;
+}
+
+/* The tasks' effective priorities (M-108): each task lowers the number of the owner that it
+ * waits for, of the one that this one waits for, and so on, 16 owners at most, among which a
+ * ring has all of its own. */
+static void rank_tasks(const uint32_t *table, uint32_t ranks[TASKS])
+{
+    for (uint32_t task = 0; task < tasks_in_use(table); task++)
+        ranks[task] = task_field(table, task, T_PRIORITY);
+    for (uint32_t task = 0; task < tasks_in_use(table); task++) {
+        uint32_t own = task_field(table, task, T_PRIORITY), steps = 0;
+        uint32_t owner = awaited_owner(table, task);
+        for (; owner != NOBODY && steps < TASKS; steps++, owner = awaited_owner(table, owner))
+            if (own < ranks[owner])
+                ranks[owner] = own;
+    }
+}
+
+/* Puts a task into a list at a right place: behind those before it by these ranks, before,
+ * between or behind its equals. */
+static void insert(gen_random *random, const uint32_t *ranks, uint32_t *list, uint32_t task)
+{
+    uint32_t at = 0, length = list_length(list);
+
+    while (at < length && ranks[list[at] - 1] < ranks[task])
         at++;
-    while (at < length && task_field(table, list[at] - 1, T_PRIORITY) == own &&
-           gen_chance(random, 50))
+    while (at < length && ranks[list[at] - 1] == ranks[task] && gen_chance(random, 50))
         at++;
     memmove(list + at + 1, list + at, (length - at) * sizeof *list);
     list[at] = task + 1;
@@ -698,12 +724,15 @@ static void build_priorities(gen_random *random, uint32_t *table, uint32_t prior
 
 static void build_lists(gen_random *random, uint32_t *table)
 {
+    uint32_t ranks[TASKS];
+
+    rank_tasks(table, ranks);
     for (uint32_t task = 0; task < tasks_in_use(table); task++) {
         uint32_t state = task_field(table, task, T_STATE), hub = task_field(table, task, T_HUB);
         if (state == READY)
-            insert(random, table, table + ready_place(table), task);
+            insert(random, ranks, table + ready_place(table), task);
         else if (state == WAITING)
-            insert(random, table, table + list_place(table, hub - 1), task);
+            insert(random, ranks, table + list_place(table, hub - 1), task);
     }
 }
 
@@ -1706,11 +1735,12 @@ static int missing_in_list(gen_random *random, uint32_t *table, const damage *fa
 static int stranger_in_list(gen_random *random, uint32_t *table, const damage *family)
 {
     uint32_t *list = pick_list(random, table, family, 0, LIST_WORDS - 1);
-    uint32_t stranger = pick_task(random, table, T_STATE, family->field);
+    uint32_t stranger = pick_task(random, table, T_STATE, family->field), ranks[TASKS];
 
     if (list == NULL || stranger == NOBODY)
         return 0;
-    insert(random, table, list, stranger);
+    rank_tasks(table, ranks);
+    insert(random, ranks, list, stranger);
     return 1;
 }
 
@@ -1718,13 +1748,14 @@ static int stranger_in_list(gen_random *random, uint32_t *table, const damage *f
 static int in_another_list(gen_random *random, uint32_t *table, const damage *family)
 {
     uint32_t task = pick_task(random, table, T_STATE, WAITING);
-    uint32_t hub = pick_hub(random, table, ANY, 0);
+    uint32_t hub = pick_hub(random, table, ANY, 0), ranks[TASKS];
 
     (void)family;
     if (task == NOBODY || hub == task_field(table, task, T_HUB) - 1)
         return 0;
+    rank_tasks(table, ranks);
     take_out(list_of(table, task), place_in(list_of(table, task), task));
-    insert(random, table, table + list_place(table, hub), task);
+    insert(random, ranks, table + list_place(table, hub), task);
     return 1;
 }
 
@@ -1758,7 +1789,9 @@ static int wrong_order(gen_random *random, uint32_t *table, const damage *family
     if (list == NULL)
         return 0;
     uint32_t at = gen_below(random, list_length(list) - 1), first = list[at], then = list[at + 1];
-    if (task_field(table, first - 1, T_PRIORITY) == task_field(table, then - 1, T_PRIORITY))
+    uint32_t ranks[TASKS];
+    rank_tasks(table, ranks);
+    if (ranks[first - 1] == ranks[then - 1])
         return 0;
     list[at] = then;
     list[at + 1] = first;

@@ -1,6 +1,6 @@
-/* The hub kernel of document 01 with M-100, M-101 and M-103 to M-107, from the papers alone:
- * messages, well formed, lists, hubs, services, refusals, the listing, the moves, the
- * comparison, edges, in that order. The contract is second.h.
+/* The hub kernel of document 01 with M-100, M-101 and M-103 to M-108, from the papers alone:
+ * messages, effective priorities, well formed, lists, hubs, services, refusals, the listing,
+ * the moves, the comparison, edges, in that order. The contract is second.h.
  *
  * Both editions run through the same rules: where a place depends on the edition, it is
  * asked of the table, and a message is one number of 64 bits, which edition 1 writes in
@@ -52,6 +52,46 @@ static size_t answer_at(const uint32_t *table) { return is_wide(table) ? 8 : 7; 
 static size_t store_words(const uint32_t *table)
 {
     return HELD_MOST * layout_of(table)->message_words;
+}
+
+/* ---- Effective priorities ---------------------------------------------- */
+
+/* The owner of the Resource that the task waits for, plus 1, or 0. */
+static uint32_t waits_for(const uint32_t *table, uint32_t number)
+{
+    const uint32_t *task = table + task_place(table, number);
+
+    if (task[T_STATE] != WAITING)
+        return 0;
+    const uint32_t *hub = table + hub_place(table, task[T_HUB] - 1);
+    return hub[H_KIND] == RESOURCE ? hub[H_COUNT] : 0;
+}
+
+/* The smallest own priority among each task and all that wait for it, directly or through
+ * others (M-108). Whoever waits hands its number on to the owner that it waits for, and the
+ * owner in turn, until nobody has a smaller one to hand on; numbers only fall, so a ring of
+ * locks ends too. Asked of a table in which all but the order of the lists is right. */
+static void effective_priorities(const uint32_t *table, uint32_t effective[TASKS])
+{
+    uint32_t waiter[TASKS], owner[TASKS], links = 0;
+    int more;
+
+    for (uint32_t task = 0; task < table[TASKS_IN_USE_AT]; task++) {
+        uint32_t awaited = waits_for(table, task);
+        effective[task] = table[task_place(table, task) + T_PRIORITY];
+        if (awaited != 0) {
+            waiter[links] = task;
+            owner[links++] = awaited - 1;
+        }
+    }
+    do {
+        more = 0;
+        for (uint32_t i = 0; i < links; i++)
+            if (effective[waiter[i]] < effective[owner[i]]) {
+                effective[owner[i]] = effective[waiter[i]];
+                more = 1;
+            }
+    } while (more);
 }
 
 /* ---- Well formed ------------------------------------------------------- */
@@ -161,12 +201,10 @@ static int task_clause(const uint32_t *table, uint32_t number, census *seen)
     }
 }
 
-/* The list has exactly these members, each once, by rising priority number,
- * then zeros. Each entry strikes its task off the members still to come, so
- * the walk is as long as the set and needs no count. */
-static int list_clause(const uint32_t *table, const uint32_t *list, uint32_t members, int wrong)
+/* The list has exactly these members, each once, then zeros. Each entry strikes its task
+ * off the members still to come, so the walk is as long as the set and needs no count. */
+static int list_clause(const uint32_t *list, uint32_t members, int wrong)
 {
-    uint32_t priority = 0;
     size_t length = 0;
 
     if (members == 0)
@@ -176,13 +214,23 @@ static int list_clause(const uint32_t *table, const uint32_t *list, uint32_t mem
         if (task >= TASKS || (members >> task & 1) == 0)
             return wrong;
         members ^= UINT32_C(1) << task;
-        if (table[task_place(table, task) + T_PRIORITY] < priority)
-            return SECOND_ORDER;
-        priority = table[task_place(table, task) + T_PRIORITY];
     }
     while (length < LIST_WORDS)
         if (list[length++] != 0)
             return wrong;
+    return SECOND_RIGHT;
+}
+
+/* The effective priority numbers rise along the list, which has the tasks it should have. */
+static int order_clause(const uint32_t *list, const uint32_t effective[TASKS])
+{
+    uint32_t priority = 0;
+
+    for (size_t i = 0; i < LIST_WORDS && list[i] != 0; i++) {
+        if (effective[list[i] - 1] < priority)
+            return SECOND_ORDER;
+        priority = effective[list[i] - 1];
+    }
     return SECOND_RIGHT;
 }
 
@@ -260,7 +308,7 @@ static int hub_clause(const uint32_t *table, uint32_t number, const census *seen
         return SECOND_OWNER;
 
     const uint32_t *list = table + list_place(table, number);
-    int clause = list_clause(table, list, waiters, SECOND_WAITING_LIST);
+    int clause = list_clause(list, waiters, SECOND_WAITING_LIST);
     if (clause != SECOND_RIGHT)
         return clause;
     if (waiters != 0) {
@@ -279,7 +327,9 @@ static int hub_clause(const uint32_t *table, uint32_t number, const census *seen
     return all_zero(table + behind, end - behind) ? SECOND_RIGHT : SECOND_STORE;
 }
 
-int second_well_formed(const uint32_t *table, size_t words)
+/* Gives the effective priorities, too, of a table that is right but for its order. They are
+ * asked for when each list is known to have its tasks, and only then the order. */
+static int first_broken(const uint32_t *table, size_t words, uint32_t effective[TASKS])
 {
     const layout *of = layout_for(words);
     census seen = {0, 0, 0, {0}};
@@ -297,7 +347,21 @@ int second_well_formed(const uint32_t *table, size_t words)
     for (uint32_t hub = 0; hub < table[HUBS_IN_USE_AT]; hub++)
         if ((clause = hub_clause(table, hub, &seen)) != SECOND_RIGHT)
             return clause;
-    return list_clause(table, table + ready_place(table), seen.ready, SECOND_READY_LIST);
+    if ((clause = list_clause(table + ready_place(table), seen.ready, SECOND_READY_LIST)) !=
+        SECOND_RIGHT)
+        return clause;
+    effective_priorities(table, effective);
+    for (uint32_t hub = 0; hub < table[HUBS_IN_USE_AT]; hub++)
+        if ((clause = order_clause(table + list_place(table, hub), effective)) != SECOND_RIGHT)
+            return clause;
+    return order_clause(table + ready_place(table), effective);
+}
+
+int second_well_formed(const uint32_t *table, size_t words)
+{
+    uint32_t effective[TASKS];
+
+    return first_broken(table, words, effective);
 }
 
 /* ---- Lists ------------------------------------------------------------- */
@@ -313,7 +377,8 @@ static uint32_t running(const uint32_t *table)
     return 0;
 }
 
-/* Behind all entries of its own or a more urgent priority. */
+/* Behind all entries of its own or a more urgent priority; which is the effective one while
+ * the records wear it. */
 static void join(uint32_t *table, size_t list, uint32_t task)
 {
     uint32_t *entry = table + list, carried = task + 1;
@@ -615,8 +680,7 @@ static void blank(uint32_t *table, const layout *of)
     write_contents(table, of);
 }
 
-/* Gives how many are ahead of the caller. */
-static uint32_t wait_at_hub(uint32_t *table, const uint32_t *call)
+static void wait_at_hub(uint32_t *table, const uint32_t *call)
 {
     uint32_t *caller = table + task_place(table, call[C_CALLER]), hub = call[C_TARGET];
     int keeps_word = call[C_SIDE] == PUT && carries_words(table[hub_place(table, hub) + H_KIND]);
@@ -629,11 +693,9 @@ static uint32_t wait_at_hub(uint32_t *table, const uint32_t *call)
     set_message(table, word_place(table, call[C_CALLER]), keeps_word ? sent(call) : 0);
     caller[answer_at(table)] = NO_ANSWER;
     join(table, list_place(table, hub), call[C_CALLER]);
-    return entries_before(table, list_place(table, hub), call[C_CALLER]);
 }
 
-/* Gives how many are ahead of the caller; a request that doesn't wait has nobody ahead. */
-static uint32_t hub_request(uint32_t *table, const uint32_t *call)
+static void hub_request(uint32_t *table, const uint32_t *call)
 {
     uint32_t *caller = table + task_place(table, call[C_CALLER]);
     uint64_t received = 0;
@@ -643,11 +705,12 @@ static uint32_t hub_request(uint32_t *table, const uint32_t *call)
                       ? get(table, call[C_TARGET], call[C_CALLER], &received)
                       : board_wipe(table, call[C_TARGET]); /* no other kind knows side 3 */
 
-    if (out == NOT_NOW && call[C_MODE] != NW)
-        return wait_at_hub(table, call);
+    if (out == NOT_NOW && call[C_MODE] != NW) {
+        wait_at_hub(table, call);
+        return;
+    }
     caller[answer_at(table)] = out == MET ? OK : FAIL;
     set_message(table, word_place(table, call[C_CALLER]), received);
-    return 0;
 }
 
 static int start(uint32_t *table, uint32_t target)
@@ -855,13 +918,15 @@ static int room_left(const uint32_t *table, uint32_t service)
     return 1;
 }
 
-static uint32_t refusal_of(const uint32_t *table, size_t words, const uint32_t *call)
+/* Gives the effective priorities, too, unless it is Blank or the table isn't well formed. */
+static uint32_t refusal_of(const uint32_t *table, size_t words, const uint32_t *call,
+                           uint32_t effective[TASKS])
 {
     if (layout_for(words) == NULL)
         return BAD_LENGTH;
     if (call[C_SERVICE] == BLANK)
         return ACCEPTED;
-    if (second_well_formed(table, words) != SECOND_RIGHT)
+    if (first_broken(table, words, effective) != SECOND_RIGHT)
         return NOT_WELL_FORMED;
     if (call[C_SERVICE] > ADD_HUB)
         return NO_SUCH_SERVICE;
@@ -880,17 +945,11 @@ static uint32_t refusal_of(const uint32_t *table, size_t words, const uint32_t *
     return ACCEPTED;
 }
 
-/* Gives how many are ahead of the caller: none but in a hub request. */
-static uint32_t serve(uint32_t *table, const layout *of, const uint32_t *call)
+static void serve(uint32_t *table, const uint32_t *call)
 {
-    uint32_t ahead = 0;
-
     switch (call[C_SERVICE]) {
-    case BLANK:
-        blank(table, of);
-        break;
     case HUB_REQUEST:
-        ahead = hub_request(table, call);
+        hub_request(table, call);
         break;
     case SLEEP:
         sleep(table, call);
@@ -908,7 +967,68 @@ static uint32_t serve(uint32_t *table, const layout *of, const uint32_t *call)
         task_service(table, call);
         break;
     }
-    return ahead;
+}
+
+/* ---- Order ------------------------------------------------------------- */
+
+/* The first so many tasks' records get these numbers as priorities. */
+static void wear(uint32_t *table, uint32_t tasks, const uint32_t priority[TASKS])
+{
+    for (uint32_t task = 0; task < tasks; task++)
+        table[task_place(table, task) + T_PRIORITY] = priority[task];
+}
+
+static void join_any_list(uint32_t *table, uint32_t number)
+{
+    const uint32_t *task = table + task_place(table, number);
+
+    if (task[T_STATE] == READY)
+        join(table, ready_place(table), number);
+    else if (task[T_STATE] == WAITING)
+        join(table, list_place(table, task[T_HUB] - 1), number);
+}
+
+/* "All tasks whose effective priority changed are taken out of their lists, then put back
+ * behind their equals in task number order." The records wear the new ones. */
+static void put_back(uint32_t *table, uint32_t tasks, const uint32_t *old, const uint32_t *new)
+{
+    for (uint32_t task = 0; task < tasks; task++)
+        if (new[task] != old[task])
+            leave_any_list(table, task);
+    for (uint32_t task = 0; task < tasks; task++)
+        if (new[task] != old[task])
+            join_any_list(table, task);
+}
+
+/* "During a call each task joins by its effective priority before the call": while it is
+ * served the records wear those, and nothing but join reads them. A task that the call adds
+ * has its own, which isn't touched here; nobody waits for it, so it doesn't change either. */
+static void serve_in_order(uint32_t *table, const uint32_t *call, const uint32_t old[TASKS])
+{
+    uint32_t own[TASKS], new[TASKS], tasks = table[TASKS_IN_USE_AT];
+
+    for (uint32_t task = 0; task < tasks; task++)
+        own[task] = table[task_place(table, task) + T_PRIORITY];
+    wear(table, tasks, old);
+    serve(table, call);
+    wear(table, tasks, own);
+    effective_priorities(table, new);
+    wear(table, tasks, new);
+    put_back(table, tasks, old, new);
+    wear(table, tasks, own);
+}
+
+/* Read when the lists are in order again; nobody is ahead of a request that doesn't wait. */
+static uint32_t ahead_of_caller(const uint32_t *table, const uint32_t *call)
+{
+    uint32_t hub = call[C_TARGET];
+
+    if (call[C_SERVICE] != HUB_REQUEST)
+        return 0;
+    const uint32_t *caller = table + task_place(table, call[C_CALLER]);
+    if (caller[T_STATE] != WAITING)
+        return 0;
+    return entries_before(table, list_place(table, hub), call[C_CALLER]);
 }
 
 /* ---- The listing ------------------------------------------------------- */
@@ -1088,13 +1208,18 @@ second_compare_reply second_compare(const uint32_t *first, size_t first_words,
 
 second_reply second_call(uint32_t *table, size_t words, const uint32_t call[8])
 {
-    second_reply reply = {refusal_of(table, words, call), 0, 0, 0};
+    uint32_t effective[TASKS];
+    second_reply reply = {refusal_of(table, words, call, effective), 0, 0, 0};
 
     if (reply.refusal != ACCEPTED)
         return reply;
-    reply.ahead = serve(table, layout_for(words), call);
+    if (call[C_SERVICE] == BLANK)
+        blank(table, layout_for(words));
+    else
+        serve_in_order(table, call, effective);
     if (has_caller(call[C_SERVICE]))
         reply.answer = table[task_place(table, call[C_CALLER]) + answer_at(table)];
+    reply.ahead = ahead_of_caller(table, call);
     reply.next = running(table);
     return reply;
 }

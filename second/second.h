@@ -1,5 +1,5 @@
 /* The second program: the hub kernel of document 01 again, with requests M-100, M-101 and
- * M-103 to M-107, in C11, written from the papers alone. It is what the proved kernel is
+ * M-103 to M-108, in C11, written from the papers alone. It is what the proved kernel is
  * compared with.
  *
  * Ownership: the caller owns the table and lends it for one call. No globals,
@@ -11,12 +11,19 @@
  * mode, ticks, word, high. The high word is read by hub requests only; in edition 2 a
  * message is word + 2^32 * high. numbers.h has the places and the names of all values.
  *
+ * A task's effective priority is the smallest own one among itself and all tasks that wait,
+ * directly or through others, for a Resource it owns (M-108). Lists are ordered by it. In a
+ * call every task joins by its effective priority before the call; then all whose effective
+ * priority the call changed are taken out of their lists and put back behind their equals,
+ * in task number order. Ahead and next are read after that.
+ *
  * Refusals, tested in this order, but for the comparison, whose order stands with it; a
  * refused call answers 0, next 0, ahead 0 (mask 0, count 0; length 0) and writes nothing:
  *   1  a length that is neither size
  *   2  table not well formed (never for Blank, which makes the edition that fits the
  *      length); so is, since M-101, one in which an inactive task owns a Resource: Stop
- *      left such tables before
+ *      left such tables before; and since M-108 one whose lists are ordered by own priority
+ *      where the effective ones say another order
  *   3  service above 10
  *   4  services 1 to 7: caller isn't the running task
  *   5  service 1 and the summary: hub not in use; 2 to 5: task not in use
@@ -73,13 +80,14 @@ typedef enum {
     SECOND_OWNER,        /* a Resource's owner is inactive */
     SECOND_READY_LIST,   /* not exactly the ready tasks, each once, then zeros */
     SECOND_WAITING_LIST, /* not exactly the hub's waiters, each once, then zeros */
-    SECOND_ORDER,        /* a list's priority numbers fall */
     SECOND_ONE_SIDE,     /* putters and getters in one list */
     SECOND_GETTERS,      /* getters wait where none may */
     SECOND_PUTTERS,      /* putters wait where none may */
     SECOND_STORE,        /* a store holds more than its FIFO's words, or its Board's word, or
                           * something but a 1 for a block */
-    SECOND_BLOCKS        /* a Memory's count isn't how many of its blocks have no mark */
+    SECOND_BLOCKS,       /* a Memory's count isn't how many of its blocks have no mark */
+    SECOND_ORDER         /* a list's effective priority numbers fall: asked last, when every
+                          * list has its tasks (M-108) */
 } second_clause;
 
 second_reply second_call(uint32_t *table, size_t words, const uint32_t call[8]);

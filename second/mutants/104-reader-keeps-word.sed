@@ -1,3 +1,3 @@
 # A waiting reader keeps the word of its call.
 # Demand 3 alone catches it.
-/^static uint32_t wait_at_hub/,/^}/s/keeps_word ? sent/keeps_word || table[hub_place(table, hub) + H_KIND] == BOARD ? sent/
+/^static void wait_at_hub/,/^}/s/keeps_word ? sent/keeps_word || table[hub_place(table, hub) + H_KIND] == BOARD ? sent/

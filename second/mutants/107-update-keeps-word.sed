@@ -1,2 +1,2 @@
 # The caller of an update keeps the word.
-/^static uint32_t hub_request/,/^}/s/call\[C_CALLER\]), received);/call[C_CALLER]), call[C_SIDE] == PUT \&\& table[hub_place(table, call[C_TARGET]) + H_KIND] == BOARD ? sent(call) : received);/
+/^static void hub_request/,/^}/s/call\[C_CALLER\]), received);/call[C_CALLER]), call[C_SIDE] == PUT \&\& table[hub_place(table, call[C_TARGET]) + H_KIND] == BOARD ? sent(call) : received);/

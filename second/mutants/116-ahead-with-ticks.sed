@@ -1,2 +1,2 @@
 # Ahead leaves out those without limit.
-/^static uint32_t wait_at_hub/,/^}/s/^    return entries_before.*/    uint32_t some = 0; for (size_t at = list_place(table, hub); table[at] != call[C_CALLER] + 1; at++) some += table[task_place(table, table[at] - 1) + T_TICKS] != 0; return some;/
+/^static uint32_t ahead_of_caller/,/^}/s/^    return entries_before.*/    uint32_t some = 0; for (size_t at = list_place(table, hub); table[at] != call[C_CALLER] + 1; at++) some += table[task_place(table, table[at] - 1) + T_TICKS] != 0; return some;/

@@ -1,2 +1,2 @@
 # Ahead is how many of lower number wait there.
-/^static uint32_t wait_at_hub/,/^}/s/^    return entries_before.*/    uint32_t some = 0; for (size_t at = list_place(table, hub); at < list_place(table, hub) + LIST_WORDS \&\& table[at] != 0; at++) some += table[at] <= call[C_CALLER]; return some;/
+/^static uint32_t ahead_of_caller/,/^}/s/^    return entries_before.*/    uint32_t some = 0; for (size_t at = list_place(table, hub); at < list_place(table, hub) + LIST_WORDS \&\& table[at] != 0; at++) some += table[at] <= call[C_CALLER]; return some;/

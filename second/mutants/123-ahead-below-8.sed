@@ -1,2 +1,2 @@
 # Ahead is cut to three bits.
-/^static uint32_t wait_at_hub/,/^}/s/^    return entries_before.*/    return entries_before(table, list_place(table, hub), call[C_CALLER]) \& 7;/
+/^static uint32_t ahead_of_caller/,/^}/s/^    return entries_before.*/    return entries_before(table, list_place(table, hub), call[C_CALLER]) \& 7;/

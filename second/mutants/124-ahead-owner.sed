@@ -1,2 +1,2 @@
 # The owner of a Resource counts as ahead.
-/^static uint32_t wait_at_hub/,/^}/s/^    return entries_before.*/    return (table[hub_place(table, hub) + H_KIND] == RESOURCE) + entries_before(table, list_place(table, hub), call[C_CALLER]);/
+/^static uint32_t ahead_of_caller/,/^}/s/^    return entries_before.*/    return (table[hub_place(table, hub) + H_KIND] == RESOURCE) + entries_before(table, list_place(table, hub), call[C_CALLER]);/

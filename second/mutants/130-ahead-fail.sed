@@ -1,2 +1,2 @@
 # FAIL of a Resource says how many wait for it.
-/^static uint32_t hub_request/,/^}/s/^    return 0;/    uint32_t all = 0; while (all < LIST_WORDS \&\& table[list_place(table, call[C_TARGET]) + all] != 0) all++; return out == FAILED ? all : 0;/
+/^static uint32_t ahead_of_caller/,/^}/s/^    if (caller\[T_STATE\] != WAITING)/    uint32_t all = 0; while (all < LIST_WORDS \&\& table[list_place(table, hub) + all] != 0) all++; if (caller[answer_at(table)] == FAIL \&\& table[hub_place(table, hub) + H_KIND] == RESOURCE \&\& (call[C_SIDE] == PUT || table[hub_place(table, hub) + H_COUNT] == call[C_CALLER] + 1)) return all; if (caller[T_STATE] != WAITING)/

@@ -1,2 +1,2 @@
 # The contents say the edition, whatever the length is.
-/^int second_well_formed/,/^}/s/= layout_for(words);/= layout_for(words) == NULL ? NULL : layout_of(table);/
+/^static int first_broken/,/^}/s/= layout_for(words);/= layout_for(words) == NULL ? NULL : layout_of(table);/

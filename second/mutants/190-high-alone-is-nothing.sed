@@ -1,3 +1,3 @@
 # A message received without a low word is taken for none.
 # Demand 3 alone catches it.
-/^static uint32_t hub_request/,/^}/s/call\[C_CALLER\]), received);/call[C_CALLER]), (uint32_t)received == 0 ? 0 : received);/
+/^static void hub_request/,/^}/s/call\[C_CALLER\]), received);/call[C_CALLER]), (uint32_t)received == 0 ? 0 : received);/

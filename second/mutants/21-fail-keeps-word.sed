@@ -1,2 +1,2 @@
 # A failed request leaves the caller's word.
-/^static uint32_t hub_request/,/^}/s/^    set_message(/    if (out == MET) set_message(/
+/^static void hub_request/,/^}/s/^    set_message(/    if (out == MET) set_message(/

@@ -1,2 +1,2 @@
 # A met caller's put leaves its word.
-/^static uint32_t hub_request/,/^}/s/received = 0;/received = call[C_SIDE] == PUT ? call[C_WORD] : 0;/
+/^static void hub_request/,/^}/s/received = 0;/received = call[C_SIDE] == PUT ? call[C_WORD] : 0;/

@@ -1,2 +1,2 @@
 # Not now under NW waits.
-/^static uint32_t hub_request/,/^}/s/ && call\[C_MODE\] != NW)/)/
+/^static void hub_request/,/^}/s/ && call\[C_MODE\] != NW)/)/

@@ -1,2 +1,2 @@
 # Well formed wants equal priorities never.
-s/T_PRIORITY\] < priority)/T_PRIORITY] <= priority)/
+/^static int order_clause/,/^}/s/- 1\] < priority)/- 1] <= priority)/

@@ -1,2 +1,2 @@
 # Well formed lets a list fall.
-s/T_PRIORITY\] < priority)/T_PRIORITY] + PRIORITY_MAX < priority)/
+/^static int order_clause/,/^}/s/- 1\] < priority)/- 1] + PRIORITY_MAX < priority)/
