@@ -29,7 +29,7 @@ typedef enum { CLASS_0, LOW_ONLY, HIGH_ONLY, BOTH_WORDS, CLASSES } message_class
  * Rows that stand alone, wipes among them. Those above them are products: services,
  * kind by side by outcome, kind by side, kind by side by how many are ahead, and those of
  * M-105: services and kinds with a high word, messages; of M-106: services between the
- * tables compared; those below are the families of damaged tables. Of a move the edition is
+ * tables compared; of M-108: lengths of chains and rings, how many change, where; those below are the families of damaged tables. Of a move the edition is
  * its source's, of a comparison its first table's. */
 #define SINGLE_ROWS(ROW)                                                        \
     ROW(MEETS_SUSPENDED, "request: meets a suspended waiter")                   \
@@ -497,7 +497,46 @@ typedef enum { CLASS_0, LOW_ONLY, HIGH_ONLY, BOTH_WORDS, CLASSES } message_class
     ROW(PAIR_KIND, "listings differ: one kind")                                 \
     ROW(PAIR_LIMIT, "listings differ: one limit")                               \
     ROW(PAIR_START, "listings differ: one start")                               \
-    ROW(PAIR_OTHER, "listings differ: another table")
+    ROW(PAIR_OTHER, "listings differ: another table")                           \
+    ROW(HEIR_RUNS, "inherit: who runs is before one more urgent by its own")    \
+    ROW(HEIR_READY_FALLS, "inherit: the ready list falls by own priorities")    \
+    ROW(HEIR_LIST_FALLS, "inherit: a hub's list falls by own priorities")       \
+    ROW(HEIR_2_LOCKS, "inherit: of one owner 2 locks are awaited")              \
+    ROW(HEIR_3_LOCKS, "inherit: of one owner 3 locks and more are awaited")     \
+    ROW(HEIR_2_WAITERS, "inherit: 2 and more wait for one lock")                \
+    ROW(HEIR_THROUGH, "inherit: from one who waits through others")             \
+    ROW(HEIR_FROM_SUSPENDED, "inherit: from a suspended waiter")                \
+    ROW(HEIR_SUSPENDED, "inherit: by a suspended owner")                        \
+    ROW(HEIR_SLEEPS, "inherit: by a sleeping owner")                            \
+    ROW(HEIR_ELSEWHERE, "inherit: by an owner who waits, and for no lock")      \
+    ROW(RISE_BY_WAIT, "inherit: rises, a request waits")                        \
+    ROW(RISE_NONE, "inherit: none rises, a request waits for a lock")           \
+    ROW(FALL_BY_UNLOCK, "inherit: falls, an unlock")                            \
+    ROW(FALL_BY_STOP, "inherit: falls, a Stop")                                 \
+    ROW(FALL_BY_TICK, "inherit: falls, a Tick")                                 \
+    ROW(FALL_TICK_TWO, "inherit: falls, two who waited for locks time out")     \
+    ROW(UNLOCKER_PASSED, "inherit: an unlocker loses its place, another runs")  \
+    ROW(UNLOCKER_STILL, "inherit: an unlocker falls and runs all the same")     \
+    ROW(UNLOCKER_KEEPS, "inherit: an unlocker falls not, an equal behind it")   \
+    ROW(BACK_TWO, "inherit: 2 and more are put back into one list")             \
+    ROW(BACK_EQUALS, "inherit: 2 are put back into one list as equals")         \
+    ROW(BACK_TURNED, "inherit: the same, who stood against number order")       \
+    ROW(BACK_BEHIND, "inherit: one is put back behind an equal that stayed")    \
+    ROW(BACK_BOTH, "inherit: into the ready list and a hub's in one call")      \
+    ROW(BACK_JOINED, "inherit: one who became ready in the call is put back")   \
+    ROW(JOIN_MET, "inherit: an heir met joins before one of its own priority")  \
+    ROW(JOIN_TO, "inherit: an heir timed out joins before one of its own")      \
+    ROW(JOIN_YIELD, "inherit: an heir yields and stays before one of its own")  \
+    ROW(JOIN_WAIT, "inherit: an heir waits before one of its own priority")     \
+    ROW(JOIN_ADDED, "inherit: a task added, started, joins behind an heir")     \
+    ROW(AHEAD_HEIR, "inherit: one ahead would be behind by its own")            \
+    ROW(STOP_LINK, "inherit: Stop of one who waits for a lock, and is awaited") \
+    ROW(STOP_HEIR, "inherit: Stop passes a lock on to one who has inherited")   \
+    ROW(SUSPEND_LINK, "inherit: Suspend of one who waits, and is awaited")      \
+    ROW(RESUME_LINK, "inherit: Resume of one who waits, and is awaited")        \
+    ROW(RING_CLOSED, "inherit: a request closes a ring")                        \
+    ROW(RING_TICK, "inherit: a Tick breaks a ring")                             \
+    ROW(RING_STOP, "inherit: a Stop breaks a ring")
 
 enum {
     SERVICE_ROWS = 0,
@@ -510,7 +549,11 @@ enum {
     MESSAGE_ROWS = HIGH_REFUSED_ROWS + MEMORY * WIPE,
     CLEARED_ROWS = MESSAGE_ROWS + PATHS * CLASSES,
     COMPARE_ROWS = CLEARED_ROWS + SLEEP * CLASSES, /* M-106, neighbours: services */
-    BEFORE_SINGLE_ROWS = COMPARE_ROWS + ADD_HUB,
+    CHAIN_ROWS = COMPARE_ROWS + ADD_HUB + 1, /* M-108, tasks in the longest chain, 2 to 16, */
+    RING_ROWS = CHAIN_ROWS + TASKS - 1,      /* in a ring, 2 to 16, */
+    CHANGED_ROWS = RING_ROWS + TASKS - 1,    /* changed in one call, 1 to 15, */
+    PLACE_ROWS = CHANGED_ROWS + TASKS - 1,   /* rises and falls by place: no list, ready, kinds */
+    BEFORE_SINGLE_ROWS = PLACE_ROWS + 2 * (MEMORY + 2) - 1,
 #define ROW(symbol, name) symbol,
     SINGLE_ROWS(ROW)
 #undef ROW
@@ -618,7 +661,26 @@ static int row_reachable(uint32_t edition, size_t row)
 static const char *const services[] = {"Blank", "Hub request", "Start", "Stop", "Suspend",
                                        "Resume", "Yield", "Sleep", "Tick", "Add task", "Add hub"};
 
-/* The rows of M-105 and M-106 that are products. */
+/* The rows of M-108 that are products. */
+static void inherit_row_name(size_t row, char *name, size_t size)
+{
+    size_t place = (row - PLACE_ROWS) / 2;
+
+    if (row < RING_ROWS)
+        snprintf(name, size, "inherit: the longest chain has %zu tasks", row - CHAIN_ROWS + 2);
+    else if (row < CHANGED_ROWS)
+        snprintf(name, size, "inherit: a ring of %zu tasks", row - RING_ROWS + 2);
+    else if (row < PLACE_ROWS)
+        snprintf(name, size, "inherit: %zu change in one call", row - CHANGED_ROWS + 1);
+    else
+        snprintf(name, size, "inherit: %s in %s%s", (row - PLACE_ROWS) % 2 == 0 ? "rises" : "falls",
+                 place == 0   ? "no list, asleep"
+                 : place == 1 ? "the ready list"
+                              : "a list of kind ",
+                 place < 2 ? "" : kinds[place - 2]);
+}
+
+/* The rows of M-105, M-106 and M-108 that are products. */
 static void high_row_name(size_t row, char *name, size_t size)
 {
     static const char *const paths[] = {
@@ -643,8 +705,10 @@ static void high_row_name(size_t row, char *name, size_t size)
         snprintf(name, size, "message: the caller's own before %s, %s",
                  services[HUB_REQUEST + (row - CLEARED_ROWS) / CLASSES],
                  classes[(row - CLEARED_ROWS) % CLASSES]);
-    else
+    else if (row < CHAIN_ROWS)
         snprintf(name, size, "compare: before and after %s", services[row - COMPARE_ROWS]);
+    else
+        inherit_row_name(row, name, size);
 }
 
 static void row_name(size_t row, char *name, size_t size)
@@ -732,6 +796,291 @@ static void hit_message(cover *seen, message_path path, uint64_t message)
     hit(seen, MESSAGE_ROWS + path * CLASSES + class_of(message));
 }
 
+/* ---- Inherited priorities ---------------------------------------------- */
+
+enum { NOBODY_AWAITED = TASKS };
+
+/* The owner of the lock that a task waits for, or NOBODY_AWAITED. */
+static uint32_t awaited(const uint32_t *table, uint32_t task)
+{
+    if (task_word(table, task, T_STATE) != WAITING || kind_awaited(table, task) != RESOURCE)
+        return NOBODY_AWAITED;
+    return table[hub_place(table, task_word(table, task, T_HUB) - 1) + H_COUNT] - 1;
+}
+
+static int some_lock_awaited(const uint32_t *table)
+{
+    for (uint32_t task = 0; task < table[TASKS_IN_USE_AT]; task++)
+        if (awaited(table, task) != NOBODY_AWAITED)
+            return 1;
+    return 0;
+}
+
+/* The effective priority: the least own one of all from whom a way of owners leads here. */
+static uint32_t urgency(const uint32_t *table, uint32_t task)
+{
+    uint32_t least = task_word(table, task, T_PRIORITY), locks = 0;
+
+    for (uint32_t hub = 0; hub < table[HUBS_IN_USE_AT]; hub++)
+        locks += owns(table, task, hub) && table[list_place(table, hub)] != 0;
+    for (uint32_t other = 0; locks > 0 && other < table[TASKS_IN_USE_AT]; other++) {
+        uint32_t at = other;
+        for (int steps = 0; steps < TASKS && at != task && at != NOBODY_AWAITED; steps++)
+            at = awaited(table, at);
+        if (at == task && task_word(table, other, T_PRIORITY) < least)
+            least = task_word(table, other, T_PRIORITY);
+    }
+    return least;
+}
+
+/* What the rows read of a table: effective priorities, the longest chain and ring, and per
+ * task how many tasks wait for it directly. */
+typedef struct {
+    uint32_t least[TASKS], waiters[TASKS], longest, ring;
+} standing;
+
+static void read_standing(standing *of, const uint32_t *table)
+{
+    memset(of, 0, sizeof *of);
+    for (uint32_t task = 0; task < table[TASKS_IN_USE_AT]; task++) {
+        uint32_t at = task, seen = 0, length = 0;
+        of->least[task] = urgency(table, task);
+        for (; at != NOBODY_AWAITED && (seen >> at & 1) == 0; at = awaited(table, at)) {
+            seen |= UINT32_C(1) << at;
+            length++;
+        }
+        if (length > of->longest)
+            of->longest = length;
+        if (at == task && length > of->ring)
+            of->ring = length;
+        if (awaited(table, task) != NOBODY_AWAITED)
+            of->waiters[awaited(table, task)]++;
+    }
+}
+
+static int falls_by_own(const uint32_t *table, const uint32_t *list)
+{
+    for (uint32_t i = 1; i < length_of(list); i++)
+        if (task_word(table, list[i] - 1, T_PRIORITY) <
+            task_word(table, list[i - 1] - 1, T_PRIORITY))
+            return 1;
+    return 0;
+}
+
+static int is_heir(const uint32_t *table, const standing *of, uint32_t task)
+{
+    return of->least[task] < task_word(table, task, T_PRIORITY);
+}
+
+/* The list where a task stands, or NULL. */
+static const uint32_t *list_of(const uint32_t *table, uint32_t task)
+{
+    switch (task_word(table, task, T_STATE)) {
+    case READY:
+        return table + ready_place(table);
+    case WAITING:
+        return table + list_place(table, task_word(table, task, T_HUB) - 1);
+    default:
+        return NULL;
+    }
+}
+
+static uint32_t place_of(const uint32_t *list, uint32_t task)
+{
+    uint32_t at = 0;
+    while (list[at] != task + 1)
+        at++;
+    return at;
+}
+
+/* Somebody behind the task in its list is, by own priorities, not less urgent. */
+static int passes_by_own(const uint32_t *table, uint32_t task)
+{
+    const uint32_t *list = list_of(table, task);
+
+    for (uint32_t at = place_of(list, task) + 1; at < length_of(list); at++)
+        if (task_word(table, list[at] - 1, T_PRIORITY) <= task_word(table, task, T_PRIORITY))
+            return 1;
+    return 0;
+}
+
+/* Who inherits from whom, in the table that an accepted call left. */
+static void cover_heirs(cover *seen, const uint32_t *table, const standing *of, uint32_t next)
+{
+    hit_if(seen, next != 0 && is_heir(table, of, next - 1) && passes_by_own(table, next - 1),
+           HEIR_RUNS);
+    hit_if(seen, falls_by_own(table, table + ready_place(table)), HEIR_READY_FALLS);
+    for (uint32_t hub = 0; hub < table[HUBS_IN_USE_AT]; hub++) {
+        uint32_t length = length_of(table + list_place(table, hub));
+        hit_if(seen, falls_by_own(table, table + list_place(table, hub)), HEIR_LIST_FALLS);
+        hit_if(seen, table[hub_place(table, hub) + H_KIND] == RESOURCE && length > 1,
+               HEIR_2_WAITERS);
+    }
+    for (uint32_t task = 0; task < table[TASKS_IN_USE_AT]; task++) {
+        uint32_t locks = 0, direct = UINT32_MAX, owner = awaited(table, task);
+        for (uint32_t hub = 0; hub < table[HUBS_IN_USE_AT]; hub++)
+            locks += owns(table, task, hub) && table[list_place(table, hub)] != 0;
+        for (uint32_t other = 0; other < table[TASKS_IN_USE_AT]; other++)
+            if (awaited(table, other) == task && task_word(table, other, T_PRIORITY) < direct)
+                direct = task_word(table, other, T_PRIORITY);
+        hit_if(seen, locks == 2, HEIR_2_LOCKS);
+        hit_if(seen, locks > 2, HEIR_3_LOCKS);
+        hit_if(seen, owner != NOBODY_AWAITED && task_word(table, task, T_SUSPENDED) == 1 &&
+                         is_heir(table, of, owner) && of->least[owner] == of->least[task],
+               HEIR_FROM_SUSPENDED);
+        if (!is_heir(table, of, task))
+            continue;
+        hit_if(seen, of->least[task] < direct, HEIR_THROUGH);
+        hit_if(seen, task_word(table, task, T_SUSPENDED) == 1, HEIR_SUSPENDED);
+        hit_if(seen, task_word(table, task, T_STATE) == SLEEPING, HEIR_SLEEPS);
+        hit_if(seen, task_word(table, task, T_STATE) == WAITING && owner == NOBODY_AWAITED,
+               HEIR_ELSEWHERE);
+    }
+}
+
+/* Where those stand who changed, and who stood where among them. */
+static void cover_put_back(cover *seen, const uint32_t *before, const standing *old,
+                           const uint32_t *after, const standing *new)
+{
+    uint32_t count = 0, places = 0;
+
+    for (uint32_t task = 0; task < before[TASKS_IN_USE_AT]; task++) {
+        const uint32_t *list = list_of(after, task), *stood = list_of(before, task);
+        uint32_t state = task_word(after, task, T_STATE);
+        if (new->least[task] == old->least[task] || state == INACTIVE)
+            continue;
+        uint32_t place = state == SLEEPING ? 0 : state == READY ? 1 : kind_awaited(after, task) + 1;
+        hit(seen, PLACE_ROWS + 2 * place + (new->least[task] > old->least[task]));
+        count++;
+        if (list == NULL)
+            continue;
+        places |= state == READY ? 1 : 2;
+        hit_if(seen, state == READY && task_word(before, task, T_STATE) != READY, BACK_JOINED);
+        uint32_t at = place_of(list, task);
+        for (uint32_t i = 0; i < at; i++) {
+            uint32_t other = list[i] - 1;
+            int changed = other < before[TASKS_IN_USE_AT] && new->least[other] != old->least[other];
+            int equal = new->least[other] == new->least[task];
+            hit_if(seen, changed, BACK_TWO);
+            hit_if(seen, changed && equal, BACK_EQUALS);
+            hit_if(seen, changed && equal && stood != NULL && stood == list_of(before, other) &&
+                             place_of(stood, other) > place_of(stood, task),
+                   BACK_TURNED);
+            hit_if(seen, !changed && equal, BACK_BEHIND);
+        }
+    }
+    hit_if(seen, places == 3, BACK_BOTH);
+    if (count > 0)
+        hit(seen, CHANGED_ROWS + count - 1);
+}
+
+static int waits_and_is_awaited(const uint32_t *table, const standing *of, uint32_t task)
+{
+    return awaited(table, task) != NOBODY_AWAITED && of->waiters[task] > 0;
+}
+
+/* The caller's request to a Resource: it waits, or the caller unlocks. */
+static void cover_lock(cover *seen, const uint32_t *before, const standing *old,
+                       const uint32_t *call, second_reply reply, const uint32_t *after,
+                       const standing *new)
+{
+    uint32_t caller = call[C_CALLER], behind = place_of(before + ready_place(before), caller) + 1;
+    uint32_t next = before[ready_place(before) + behind % LIST_WORDS];
+    int rises = 0;
+
+    for (uint32_t task = 0; task < before[TASKS_IN_USE_AT]; task++)
+        rises |= new->least[task] < old->least[task];
+    if (task_word(after, caller, T_STATE) == WAITING) {
+        hit(seen, rises ? RISE_BY_WAIT : RISE_NONE);
+        hit_if(seen, new->ring > old->ring, RING_CLOSED);
+    }
+    if (call[C_SIDE] != PUT || reply.answer != OK)
+        return;
+    int falls = new->least[caller] > old->least[caller];
+    hit_if(seen, falls, FALL_BY_UNLOCK);
+    hit_if(seen, falls && reply.next != caller + 1, UNLOCKER_PASSED);
+    hit_if(seen, falls && reply.next == caller + 1, UNLOCKER_STILL);
+    hit_if(seen, !falls && behind < LIST_WORDS && next != 0 &&
+                     old->least[next - 1] == old->least[caller] && reply.next == caller + 1 &&
+                     before[list_place(before, call[C_TARGET])] != 0,
+           UNLOCKER_KEEPS);
+}
+
+static void cover_loss(cover *seen, const uint32_t *before, const standing *old,
+                       const uint32_t *call, const uint32_t *after, const standing *new)
+{
+    uint32_t target = call[C_TARGET], links = 0;
+    int falls = 0, stops = call[C_SERVICE] == STOP;
+
+    for (uint32_t task = 0; task < before[TASKS_IN_USE_AT]; task++) {
+        falls |= new->least[task] > old->least[task] && !(stops && task == target);
+        links += awaited(before, task) != NOBODY_AWAITED &&
+                 task_word(after, task, T_STATE) != WAITING;
+        hit_if(seen, stops && awaited(before, task) == target &&
+                         task_word(after, task, T_STATE) == READY && is_heir(before, old, task),
+               STOP_HEIR);
+    }
+    hit_if(seen, falls, stops ? FALL_BY_STOP : FALL_BY_TICK);
+    hit_if(seen, falls && !stops && links > 1, FALL_TICK_TWO);
+    hit_if(seen, stops && waits_and_is_awaited(before, old, target), STOP_LINK);
+    hit_if(seen, old->ring > 0 && new->ring == 0, stops ? RING_STOP : RING_TICK);
+}
+
+/* Who joins by an inherited priority, before one whom its own wouldn't pass. */
+static void cover_joins(cover *seen, const uint32_t *before, const standing *old,
+                        const uint32_t *call, second_reply reply, const uint32_t *after)
+{
+    const uint32_t *list = after + list_place(after, call[C_TARGET]);
+    uint32_t caller = call[C_CALLER], last = after[TASKS_IN_USE_AT] - 1;
+
+    for (uint32_t task = 0; task < before[TASKS_IN_USE_AT]; task++) {
+        uint32_t was = task_word(before, task, T_STATE);
+        if ((was != WAITING && was != SLEEPING) || task_word(after, task, T_STATE) != READY)
+            continue;
+        int passes = is_heir(before, old, task) && passes_by_own(after, task);
+        hit_if(seen, passes, call[C_SERVICE] == TICK ? JOIN_TO : JOIN_MET);
+    }
+    if (call[C_SERVICE] == YIELD)
+        hit_if(seen, is_heir(before, old, caller) && passes_by_own(after, caller), JOIN_YIELD);
+    if (call[C_SERVICE] == ADD_TASK && call[C_SIDE] == 1)
+        hit_if(seen, place_of(after + ready_place(after), last) > 0 &&
+                         is_heir(before, old, after[ready_place(after)] - 1),
+               JOIN_ADDED);
+    if (call[C_SERVICE] != HUB_REQUEST || task_word(after, caller, T_STATE) != WAITING)
+        return;
+    hit_if(seen, is_heir(before, old, caller) && passes_by_own(after, caller), JOIN_WAIT);
+    for (uint32_t i = 0; i < reply.ahead; i++)
+        hit_if(seen, task_word(after, list[i] - 1, T_PRIORITY) >
+                         task_word(after, caller, T_PRIORITY),
+               AHEAD_HEIR);
+}
+
+static void cover_inherited(cover *seen, const uint32_t *before, const uint32_t *call,
+                            second_reply reply, const uint32_t *after)
+{
+    standing old, new;
+
+    if (call[C_SERVICE] == BLANK || (!some_lock_awaited(before) && !some_lock_awaited(after)))
+        return;
+    read_standing(&old, before);
+    read_standing(&new, after);
+    if (old.longest >= 2)
+        hit(seen, CHAIN_ROWS + old.longest - 2);
+    if (old.ring >= 2)
+        hit(seen, RING_ROWS + old.ring - 2);
+    cover_heirs(seen, after, &new, reply.next);
+    cover_put_back(seen, before, &old, after, &new);
+    cover_joins(seen, before, &old, call, reply, after);
+    if (call[C_SERVICE] == HUB_REQUEST &&
+        before[hub_place(before, call[C_TARGET]) + H_KIND] == RESOURCE)
+        cover_lock(seen, before, &old, call, reply, after, &new);
+    if (call[C_SERVICE] == TICK || (call[C_SERVICE] == STOP && reply.answer == OK))
+        cover_loss(seen, before, &old, call, after, &new);
+    if ((call[C_SERVICE] == SUSPEND || call[C_SERVICE] == RESUME) && reply.answer == OK)
+        hit_if(seen, waits_and_is_awaited(before, &old, call[C_TARGET]),
+               call[C_SERVICE] == SUSPEND ? SUSPEND_LINK : RESUME_LINK);
+}
+
 /* ---- Accepted calls ---------------------------------------------------- */
 
 /* How many of the first entries have this in that field. */
@@ -745,14 +1094,23 @@ static uint32_t entries_with(const uint32_t *table, const uint32_t *list, uint32
     return with;
 }
 
+static uint32_t equals_among(const uint32_t *table, const uint32_t *list, uint32_t entries,
+                             uint32_t priority)
+{
+    uint32_t equals = 0;
+
+    for (uint32_t i = 0; i < entries; i++)
+        equals += urgency(table, list[i] - 1) == priority;
+    return equals;
+}
+
 /* Who they are that stand ahead of the caller, and behind it. */
 static void cover_ahead(cover *seen, const uint32_t *call, second_reply reply,
                         const uint32_t *after)
 {
     const uint32_t *list = after + list_place(after, call[C_TARGET]);
     uint32_t ahead = reply.ahead, behind = length_of(list) - ahead - 1;
-    uint32_t own = task_word(after, call[C_CALLER], T_PRIORITY);
-    uint32_t equals = entries_with(after, list, ahead, T_PRIORITY, own);
+    uint32_t equals = equals_among(after, list, ahead, urgency(after, call[C_CALLER]));
     uint32_t suspended = entries_with(after, list, ahead, T_SUSPENDED, 1);
     uint32_t unlimited = entries_with(after, list, ahead, T_TICKS, 0);
 
@@ -820,11 +1178,11 @@ static void cover_not_ahead(cover *seen, const uint32_t *before, const uint32_t 
 static void cover_waits(cover *seen, const uint32_t *call, const uint32_t *after)
 {
     const uint32_t *list = after + list_place(after, call[C_TARGET]);
-    uint32_t at = 0, length = length_of(list), own = task_word(after, call[C_CALLER], T_PRIORITY);
+    uint32_t at = 0, length = length_of(list), own = urgency(after, call[C_CALLER]);
 
     while (list[at] != call[C_CALLER] + 1)
         at++;
-    hit_if(seen, at > 0 && task_word(after, list[at - 1] - 1, T_PRIORITY) == own,
+    hit_if(seen, at > 0 && urgency(after, list[at - 1] - 1) == own,
            JOINS_BEHIND_EQUAL);
     hit_if(seen, at + 1 < length, JOINS_BEFORE);
     hit_if(seen, length >= 8, LIST_OF_8);
@@ -848,9 +1206,9 @@ static void cover_readers(cover *seen, const uint32_t *before, const uint32_t *l
                           const uint32_t *call, const uint32_t *after)
 {
     for (uint32_t i = 0; i < length_of(list); i++) {
-        uint32_t reader = list[i] - 1, own = task_word(before, reader, T_PRIORITY);
+        uint32_t reader = list[i] - 1, own = urgency(before, reader);
         const uint32_t *ready = after + ready_place(after);
-        int equals = i > 0 && task_word(before, list[i - 1] - 1, T_PRIORITY) == own;
+        int equals = i > 0 && urgency(before, list[i - 1] - 1) == own;
 
         while (*ready != reader + 1)
             ready++;
@@ -861,7 +1219,7 @@ static void cover_readers(cover *seen, const uint32_t *before, const uint32_t *l
         hit_if(seen, equals && list[i - 1] > list[i], UPDATE_MEETS_EQUALS);
         hit_if(seen, ready > after + ready_place(after) &&
                          task_word(before, ready[-1] - 1, T_STATE) == READY &&
-                         task_word(before, ready[-1] - 1, T_PRIORITY) == own,
+                         urgency(before, ready[-1] - 1) == own,
                UPDATE_BEHIND_EQUAL);
     }
 }
@@ -1148,8 +1506,7 @@ static void cover_passed(cover *seen, const uint32_t *before, const locks *of, u
         hit_if(seen, task_word(before, waiter, T_SUSPENDED) == 1, STOP_MEETS_SUSPENDED);
         hit(seen, task_word(before, waiter, T_TICKS) > 0 ? STOP_MEETS_TICKS : STOP_MEETS_NO_LIMIT);
         hit_if(seen, of->second[i] != 0, STOP_LEAVES_SECOND);
-        hit_if(seen, last > waiter && task_word(before, last, T_PRIORITY) ==
-                                          task_word(before, waiter, T_PRIORITY),
+        hit_if(seen, last > waiter && urgency(before, last) == urgency(before, waiter),
                STOP_MEETS_EQUALS);
         hit_if(seen, hub != 0 && owns(before, waiter, hub - 1), STOP_RING);
     }
@@ -1237,13 +1594,13 @@ static void cover_resume(cover *seen, const uint32_t *before, const uint32_t *ca
 
 static void cover_yield(cover *seen, const uint32_t *before, const uint32_t *call)
 {
-    uint32_t own = task_word(before, call[C_CALLER], T_PRIORITY), equals = 0, suspended = 0;
+    uint32_t own = urgency(before, call[C_CALLER]), equals = 0, suspended = 0;
     const uint32_t *entry = before + ready_place(before), *end = entry + LIST_WORDS;
 
     while (*entry != call[C_CALLER] + 1)
         entry++;
     for (entry++; entry < end && *entry != 0; entry++) {
-        if (task_word(before, *entry - 1, T_PRIORITY) != own)
+        if (urgency(before, *entry - 1) != own)
             break;
         equals++;
         suspended += task_word(before, *entry - 1, T_SUSPENDED);
@@ -1309,6 +1666,7 @@ static void cover_accepted(cover *seen, const uint32_t *before, const uint32_t *
                       class_of(task_message(before, call[C_CALLER])));
     hit_if(seen, reply.next != 0 && reply.next != after[ready_place(after)], NEXT_NOT_FIRST);
     cover_not_ahead(seen, before, call, reply, after);
+    cover_inherited(seen, before, call, reply, after);
     switch (call[C_SERVICE]) {
     case HUB_REQUEST:
         cover_request(seen, before, call, reply, after);

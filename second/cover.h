@@ -8,7 +8,7 @@
 
 #include "second.h"
 
-enum { COVER_LEAST = 100, COVER_ROWS_MAX = 1664 };
+enum { COVER_LEAST = 100, COVER_ROWS_MAX = 1792 };
 
 /* A table of rows for each edition. Hits go to the one that `edition` says, which the tests
  * set; it isn't read from the tables, some of which lie about it. */

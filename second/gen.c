@@ -182,6 +182,31 @@ static int owns_any(const uint32_t *table, uint32_t task)
     return 0;
 }
 
+/* Whom a task waits for: the owner of the Resource at which it waits, or NOBODY. */
+static uint32_t awaited_owner(const uint32_t *table, uint32_t task)
+{
+    uint32_t hub = task_field(table, task, T_HUB);
+
+    if (task_field(table, task, T_STATE) != WAITING ||
+        hub_field(table, hub - 1, H_KIND) != RESOURCE)
+        return NOBODY;
+    return hub_field(table, hub - 1, H_COUNT) - 1;
+}
+
+/* How many owners stand before a task, one waiting for the next, up to one that waits for no
+ * lock; in a ring all of them, 16. *meets says whether this task is among them. */
+static uint32_t owners_before(const uint32_t *table, uint32_t task, uint32_t other, int *meets)
+{
+    uint32_t owners = 0;
+
+    *meets = task == other;
+    while (owners < TASKS && (task = awaited_owner(table, task)) != NOBODY) {
+        *meets |= task == other;
+        owners++;
+    }
+    return owners;
+}
+
 /* ---- Calls ------------------------------------------------------------- */
 
 void gen_turn(gen_random *random, gen_mood *mood)
@@ -195,7 +220,7 @@ void gen_turn(gen_random *random, gen_mood *mood)
 void gen_draw_mood_of(gen_random *random, gen_mood *mood, uint32_t kinds)
 {
     mood->kinds = kinds;
-    mood->high = 0;
+    mood->high = mood->locks = 0;
     mood->tasks = gen_chance(random, 30) ? TASKS : from_to(random, 1, TASKS);
     mood->hubs = gen_chance(random, 20) ? HUBS : from_to(random, 1, 6);
     mood->priorities = ONE_OF(random, 1, 2, 4, PRIORITY_MAX + 1);
@@ -207,6 +232,17 @@ void gen_draw_mood_of(gen_random *random, gen_mood *mood, uint32_t kinds)
 void gen_draw_mood(gen_random *random, gen_mood *mood)
 {
     gen_draw_mood_of(random, mood, MEMORY);
+}
+
+void gen_draw_lock_mood(gen_random *random, gen_mood *mood)
+{
+    gen_draw_mood(random, mood);
+    mood->tasks = gen_chance(random, 50) ? TASKS : from_to(random, 3, TASKS);
+    mood->hubs = gen_chance(random, 50) ? HUBS : from_to(random, 3, HUBS);
+    mood->kind = RESOURCE;
+    mood->priorities = ONE_OF(random, 2, 4, 16, PRIORITY_MAX + 1);
+    mood->refused = ONE_OF(random, 0, 2);
+    mood->locks = ONE_OF(random, 40, 75, 90, 97);
 }
 
 static uint32_t draw_ticks(gen_random *random, const gen_mood *mood)
@@ -323,6 +359,65 @@ static void draw_request(gen_random *random, const gen_mood *mood, const uint32_
     draw_mode(random, mood, table, call);
 }
 
+/* A Resource that is free (owner 0) or that this task owns (its number plus 1), or NOBODY. */
+static uint32_t pick_lock(gen_random *random, const uint32_t *table, uint32_t owner)
+{
+    uint32_t hubs = hubs_in_use(table), first = gen_below(random, hubs);
+
+    for (uint32_t i = 0; i < hubs; i++) {
+        uint32_t hub = (first + i) % hubs;
+        if (hub_field(table, hub, H_KIND) == RESOURCE && hub_field(table, hub, H_COUNT) == owner)
+            return hub;
+    }
+    return NOBODY;
+}
+
+/* A Resource of another task, mostly of the one with the most owners before it: to wait for
+ * it makes the longest chain. Seldom one that closes a ring. */
+static uint32_t pick_awaited(gen_random *random, const uint32_t *table, uint32_t caller)
+{
+    uint32_t hubs = hubs_in_use(table), first = gen_below(random, hubs), best = NOBODY, most = 0;
+    int longest = gen_chance(random, 80), rings = gen_chance(random, 12), meets;
+
+    for (uint32_t i = 0; i < hubs; i++) {
+        uint32_t hub = (first + i) % hubs, owner = hub_field(table, hub, H_COUNT) - 1;
+        if (hub_field(table, hub, H_KIND) != RESOURCE || owner == NOBODY || owner == caller)
+            continue;
+        uint32_t owners = owners_before(table, owner, caller, &meets);
+        if ((meets && !rings) || (best != NOBODY && (!longest || owners <= most)))
+            continue;
+        best = hub;
+        most = owners;
+    }
+    return best;
+}
+
+/* Who owns no lock takes a free one first, then waits for another's; at times it gives one
+ * back. The last that can run seldom waits without limit. */
+static void draw_lock(gen_random *random, const gen_mood *mood, const uint32_t *table,
+                      uint32_t *call)
+{
+    uint32_t own = pick_lock(random, table, call[C_CALLER] + 1);
+    uint32_t free = pick_lock(random, table, 0);
+    uint32_t other = pick_awaited(random, table, call[C_CALLER]);
+    int last = tasks_with(table, T_STATE, READY) < 2, waits = gen_chance(random, last ? 30 : 80);
+
+    if (own == NOBODY && free == NOBODY && other == NOBODY)
+        return;
+    call[C_SERVICE] = HUB_REQUEST;
+    call[C_SIDE] = GET;
+    if (free != NOBODY && (own == NOBODY || gen_chance(random, 15)))
+        call[C_TARGET] = free;
+    else if (other != NOBODY && (own == NOBODY || waits))
+        call[C_TARGET] = other;
+    else
+        call[C_TARGET] = own != NOBODY ? own : free;
+    if (call[C_TARGET] == own)
+        call[C_SIDE] = PUT;
+    call[C_MODE] = gen_chance(random, 4) ? NW : gen_chance(random, last ? 5 : 60) ? W : WT;
+    call[C_TICKS] = call[C_MODE] == WT ? draw_ticks(random, mood) : 0;
+}
+
 /* Start, Stop, Suspend and Resume: mostly a task that the service can change; Stop
  * often a Resource's owner, if there is one besides the caller. */
 static void draw_on_task(gen_random *random, const uint32_t *table, uint32_t service,
@@ -403,6 +498,9 @@ static void draw_good(gen_random *random, const gen_mood *mood, const uint32_t *
         draw_idle(random, mood, table, call);
     else
         draw_service(random, mood, table, call);
+    if (mood->locks > 0 && call[C_CALLER] != NOBODY && call[C_SERVICE] < ADD_TASK &&
+        hubs_in_use(table) > 0 && gen_chance(random, mood->locks))
+        draw_lock(random, mood, table, call);
 }
 
 /* A request, Sleep or Add whose arguments are right, to be spoiled. */
@@ -662,31 +760,26 @@ static void build_task(gen_random *random, uint32_t *table, uint32_t number, uin
     task[T_SUSPENDED] = task[T_STATE] != INACTIVE && gen_chance(random, 20);
 }
 
-/* Whom a task waits for: the owner of the Resource at which it waits, or NOBODY. */
-static uint32_t awaited_owner(const uint32_t *table, uint32_t task)
-{
-    uint32_t hub = task_field(table, task, T_HUB);
-
-    if (task_field(table, task, T_STATE) != WAITING ||
-        hub_field(table, hub - 1, H_KIND) != RESOURCE)
-        return NOBODY;
-    return hub_field(table, hub - 1, H_COUNT) - 1;
-}
-
 /* The tasks' effective priorities (M-108): each task lowers the number of the owner that it
- * waits for, of the one that this one waits for, and so on, 16 owners at most, among which a
- * ring has all of its own. */
-static void rank_tasks(const uint32_t *table, uint32_t ranks[TASKS])
+ * waits for, of the one that this one waits for, and so on. So many owners at most: with 16 a
+ * ring has all of its own among them; with fewer it is what a wrong program has. */
+static void rank_to_depth(const uint32_t *table, uint32_t owners, uint32_t ranks[TASKS])
 {
     for (uint32_t task = 0; task < tasks_in_use(table); task++)
         ranks[task] = task_field(table, task, T_PRIORITY);
     for (uint32_t task = 0; task < tasks_in_use(table); task++) {
-        uint32_t own = task_field(table, task, T_PRIORITY), steps = 0;
-        uint32_t owner = awaited_owner(table, task);
-        for (; owner != NOBODY && steps < TASKS; steps++, owner = awaited_owner(table, owner))
+        uint32_t own = task_field(table, task, T_PRIORITY), owner = awaited_owner(table, task);
+        for (uint32_t i = 0; i < owners && owner != NOBODY; i++) {
             if (own < ranks[owner])
                 ranks[owner] = own;
+            owner = awaited_owner(table, owner);
+        }
     }
+}
+
+static void rank_tasks(const uint32_t *table, uint32_t ranks[TASKS])
+{
+    rank_to_depth(table, TASKS, ranks);
 }
 
 /* Puts a task into a list at a right place: behind those before it by these ranks, before,
@@ -972,6 +1065,187 @@ void gen_queue(gen_random *random, uint32_t edition, uint32_t *table, uint32_t c
         hub = build_queue(random, table);
     } while (side_at(table, hub, running_task(table)) == NO_SIDE);
     gen_ask(random, table, hub, call);
+}
+
+/* ---- Chains and rings of locks ----------------------------------------- */
+
+/* The numbers 0 to count - 1, in any order. */
+static void shuffle(gen_random *random, uint32_t *numbers, uint32_t count)
+{
+    for (uint32_t i = 0; i < count; i++) {
+        uint32_t at = gen_below(random, i + 1);
+        numbers[i] = numbers[at];
+        numbers[at] = i;
+    }
+}
+
+/* Tasks and hubs in any order: the first `length` tasks are the chain, from its head on. Each
+ * owns the lock of its place and waits for that of another place, or for none as a head. */
+typedef struct {
+    uint32_t task[TASKS], lock[HUBS], awaits[TASKS], length;
+} chain;
+
+/* One behind the other, a ring, or several heads with some behind each. */
+static void draw_links(gen_random *random, chain *of)
+{
+    uint32_t draw = gen_below(random, 100);
+
+    for (uint32_t i = 0; i < of->length; i++)
+        of->awaits[i] = i == 0 ? NOBODY : i - 1;
+    if (draw < 28)
+        of->awaits[0] = of->length - 1;
+    for (uint32_t i = 1; draw >= 70 && i < of->length; i++)
+        of->awaits[i] = gen_chance(random, 30) ? (uint32_t)NOBODY : gen_below(random, i);
+}
+
+/* Along the chain they are any, ever more urgent, ever less, or equal but for one; or the
+ * heads are equals, less urgent than all who wait. */
+static void build_chain_priorities(gen_random *random, uint32_t *table, const chain *of)
+{
+    uint32_t draw = gen_below(random, 8), step = from_to(random, 1, 8);
+    uint32_t urgent = gen_below(random, of->length);
+
+    build_priorities(random, table, ONE_OF(random, 2, 4, 16, PRIORITY_MAX + 1));
+    for (uint32_t i = 0; i < of->length; i++) {
+        uint32_t *own = table + task_place(table, of->task[i]) + T_PRIORITY;
+        if (draw < 3)
+            *own = 200 - step * i;
+        else if (draw == 3)
+            *own = 40 + step * i;
+        else if (draw == 4)
+            *own = i == urgent ? 50 : 100;
+        else if (draw < 7 && of->awaits[i] == NOBODY)
+            *own = PRIORITY_MAX;
+    }
+}
+
+/* The hubs that aren't the chain's locks are any, half of them Resources, often of tasks in
+ * it, so that one owns several. */
+static void build_chain_hubs(gen_random *random, uint32_t *table, const chain *of)
+{
+    for (uint32_t i = 0; i < hubs_in_use(table); i++) {
+        if (i >= of->length && gen_chance(random, 50)) {
+            build_hub(random, table, of->lock[i], from_to(random, EVENT, MEMORY));
+            continue;
+        }
+        build_hub(random, table, of->lock[i], RESOURCE);
+        uint32_t from = gen_chance(random, 60) ? of->length : tasks_in_use(table);
+        uint32_t owner = i < of->length ? i : gen_below(random, from);
+        table[hub_place(table, of->lock[i]) + H_COUNT] = of->task[owner] + 1;
+    }
+}
+
+/* A hub that is no Resource and at which one may wait, or one that isn't in use. */
+static uint32_t pick_beside(gen_random *random, const uint32_t *table, const chain *of)
+{
+    uint32_t hubs = hubs_in_use(table), first = gen_below(random, hubs);
+
+    for (uint32_t i = 0; i < hubs; i++) {
+        uint32_t hub = (first + i) % hubs;
+        if (hub_field(table, hub, H_KIND) != RESOURCE &&
+            side_at(table, hub, of->task[0]) != NO_SIDE)
+            return hub;
+    }
+    return hubs;
+}
+
+/* A head runs mostly, else sleeps, or waits at a hub that is no lock, the same for all. */
+static void build_links(gen_random *random, uint32_t *table, const chain *of)
+{
+    uint32_t beside = pick_beside(random, table, of), waits = ONE_OF(random, 20, 80);
+
+    for (uint32_t i = 0; i < of->length; i++) {
+        int head = of->awaits[i] == NOBODY;
+        build_task(random, table, of->task[i], head ? waits : 100,
+                   head ? beside : of->lock[of->awaits[i]]);
+    }
+}
+
+/* Beside the chain: some wait for one of its locks, or at any hub. One runs mostly, and is
+ * often more urgent than all. */
+static void build_beside(gen_random *random, uint32_t *table, const chain *of)
+{
+    uint32_t waits = ONE_OF(random, 0, 30, 60, 90), tasks = tasks_in_use(table);
+
+    for (uint32_t i = of->length; i < tasks; i++)
+        build_task(random, table, of->task[i], waits,
+                   gen_chance(random, 60) ? of->lock[gen_below(random, of->length)]
+                                          : gen_below(random, hubs_in_use(table)));
+    if (of->length == tasks || gen_chance(random, 20))
+        return;
+    uint32_t caller = of->task[from_to(random, of->length, tasks - 1)];
+    build_caller(table, caller);
+    if (gen_chance(random, 40))
+        table[task_place(table, caller) + T_PRIORITY] = 0;
+}
+
+/* Who waits in the chain has one tick left so that a Tick breaks it: none, the last, each
+ * with a chance, or all. */
+static void build_ticks(gen_random *random, uint32_t *table, const chain *of)
+{
+    uint32_t percent = ONE_OF(random, 0, 10, 70, 100);
+    int last = gen_chance(random, 30);
+
+    for (uint32_t i = 0; i < of->length; i++) {
+        uint32_t *task = table + task_place(table, of->task[i]);
+        uint32_t ticks = ONE_OF(random, 0, 0, 5, TICKS_MAX);
+        int out = gen_chance(random, percent) || (last && i == of->length - 1);
+        if (task[T_STATE] == WAITING)
+            task[T_TICKS] = out ? 1 : ticks;
+    }
+}
+
+/* Services 1 to 6 on what the chain has, a Tick, or any call. */
+static void draw_on_chain(gen_random *random, const uint32_t *table, const chain *of,
+                          uint32_t *call)
+{
+    uint32_t member = of->task[gen_below(random, of->length)], draw = gen_below(random, 100);
+    uint32_t caller = running_task(table), own = pick_lock(random, table, caller + 1);
+    uint32_t other = pick_awaited(random, table, caller);
+    int many = tasks_with(table, T_TICKS, 1) > 2 && gen_chance(random, 40);
+    gen_mood mood;
+
+    gen_draw_mood(random, &mood);
+    mood.tasks = mood.hubs = mood.refused = 0;
+    draw_ignored(random, call);
+    draw_any_mode(random, call);
+    call[C_CALLER] = caller;
+    call[C_SERVICE] = HUB_REQUEST;
+    if (caller == NOBODY || many || draw < 18) {
+        call[C_SERVICE] = TICK;
+    } else if (draw < 45 && own != NOBODY) {
+        call[C_TARGET] = own;
+        call[C_SIDE] = PUT;
+    } else if (draw < 70) {
+        call[C_TARGET] = other != NOBODY && gen_chance(random, 50) ? other
+                                                                   : of->lock[of->length - 1];
+        call[C_SIDE] = GET;
+    } else if (draw < 85) {
+        call[C_SERVICE] = ONE_OF(random, STOP, STOP, STOP, SUSPEND, RESUME);
+        call[C_TARGET] = member;
+    } else {
+        gen_call(random, &mood, table, call);
+    }
+}
+
+void gen_chain(gen_random *random, uint32_t edition, uint32_t *table, uint32_t call[8])
+{
+    chain of = {.length = gen_chance(random, 20) ? TASKS : from_to(random, 2, TASKS)};
+    uint32_t tasks = gen_chance(random, 40) ? of.length : from_to(random, of.length, TASKS);
+    uint32_t hubs = from_to(random, of.length, HUBS);
+
+    build_contents(table, edition, tasks, hubs);
+    shuffle(random, of.task, tasks);
+    shuffle(random, of.lock, hubs);
+    draw_links(random, &of);
+    build_chain_priorities(random, table, &of);
+    build_chain_hubs(random, table, &of);
+    build_links(random, table, &of);
+    build_beside(random, table, &of);
+    build_ticks(random, table, &of);
+    build_lists(random, table);
+    draw_on_chain(random, table, &of, call);
+    draw_high(random, edition == EDITION_2 ? 60 : 0, call);
 }
 
 /* ---- High words -------------------------------------------------------- */
@@ -1798,6 +2072,91 @@ static int wrong_order(gen_random *random, uint32_t *table, const damage *family
     return 1;
 }
 
+/* Order by inherited priorities. `which` is READY, WAITING, or ANY for all lists. */
+
+static void sort_list(uint32_t *list, const uint32_t *ranks)
+{
+    for (uint32_t i = 1; i < list_length(list); i++)
+        for (uint32_t j = i; j > 0 && ranks[list[j] - 1] < ranks[list[j - 1] - 1]; j--) {
+            uint32_t moved = list[j];
+            list[j] = list[j - 1];
+            list[j - 1] = moved;
+        }
+}
+
+static int falls(const uint32_t *list, const uint32_t *ranks)
+{
+    for (uint32_t i = 1; i < list_length(list); i++)
+        if (ranks[list[i] - 1] < ranks[list[i - 1] - 1])
+            return 1;
+    return 0;
+}
+
+/* Lists as a program orders them that looks only so many owners far: own priority with 0,
+ * direct waiters with 1. */
+static int wrong_ranks(gen_random *random, uint32_t *table, const damage *family)
+{
+    uint32_t ranks[TASKS], wrong[TASKS], call[CALL_NUMBERS];
+    int any = 0;
+
+    gen_chain(random, edition_of(table), table, call);
+    rank_tasks(table, ranks);
+    rank_to_depth(table, family->field, wrong);
+    if (family->which != WAITING) {
+        sort_list(table + ready_place(table), wrong);
+        any = falls(table + ready_place(table), ranks);
+    }
+    for (uint32_t hub = 0; family->which != READY && hub < hubs_in_use(table); hub++) {
+        sort_list(table + list_place(table, hub), wrong);
+        any |= falls(table + list_place(table, hub), ranks);
+    }
+    return any;
+}
+
+/* Two neighbours exchanged, one of which has inherited; with field 1 their ranks are one
+ * apart; with field 2 it is in a ring. */
+static int wrong_inherited(gen_random *random, uint32_t *table, const damage *family)
+{
+    uint32_t ranks[TASKS], call[CALL_NUMBERS], *list;
+    int ring;
+
+    gen_chain(random, edition_of(table), table, call);
+    if ((list = pick_list(random, table, family, 2, LIST_WORDS)) == NULL)
+        return 0;
+    uint32_t at = gen_below(random, list_length(list) - 1), first = list[at], then = list[at + 1];
+    uint32_t heir = gen_chance(random, 50) ? first - 1 : then - 1;
+    rank_tasks(table, ranks);
+    if (ranks[first - 1] == ranks[then - 1] || ranks[heir] == task_field(table, heir, T_PRIORITY))
+        return 0;
+    if (family->field == 1 && ranks[then - 1] != ranks[first - 1] + 1)
+        return 0;
+    if (family->field == 2 && owners_before(table, heir, NOBODY, &ring) < TASKS)
+        return 0;
+    list[at] = then;
+    list[at + 1] = first;
+    return 1;
+}
+
+/* A ring of 16 in whose lists stand 16 tasks each, all of them, or all but the owner, or one
+ * 16 times: whoever asks such lists who waits for whom is asked 16 times at each of 16
+ * tasks. */
+static int crowded_lists(gen_random *random, uint32_t *table, const damage *family)
+{
+    build_contents(table, edition_of(table), TASKS, HUBS);
+    build_priorities(random, table, PRIORITY_MAX + 1);
+    for (uint32_t hub = 0; hub < HUBS; hub++)
+        memcpy(table + hub_place(table, hub), ((uint32_t[]){RESOURCE, hub + 1, 1, 0}),
+               HUB_WORDS * sizeof *table);
+    for (uint32_t task = 0; task < TASKS; task++)
+        build_waiter(random, table, task, (task + 1) % HUBS);
+    for (uint32_t hub = 0; hub < HUBS; hub++)
+        for (uint32_t i = 0, at = 0; i < TASKS; i++)
+            if (family->field != 1 || i != hub)
+                table[list_place(table, hub) + at++] =
+                    family->field == 2 ? (hub + TASKS - 1) % TASKS + 1 : i + 1;
+    return 1;
+}
+
 /* Who may wait. */
 
 /* One waiter of kind which turns to the other side. */
@@ -2157,6 +2516,21 @@ static const damage damages[] = {
     {"waiting list: no task behind", SECOND_WAITING_LIST, no_task_in_list, WAITING, 0, 0},
     {"waiting list: no task for another", SECOND_WAITING_LIST, no_task_for_another, WAITING, 0, 0},
     {"waiting list: order", SECOND_ORDER, wrong_order, WAITING, 0, 0},
+    {"ready list: by own priority", SECOND_ORDER, wrong_ranks, READY, 0, 0},
+    {"waiting list: by own priority", SECOND_ORDER, wrong_ranks, WAITING, 0, 0},
+    {"all lists: by own priority", SECOND_ORDER, wrong_ranks, ANY, 0, 0},
+    {"ready list: by direct waiters", SECOND_ORDER, wrong_ranks, READY, 1, 0},
+    {"waiting list: by direct waiters", SECOND_ORDER, wrong_ranks, WAITING, 1, 0},
+    {"ready list: by 8 tasks deep", SECOND_ORDER, wrong_ranks, READY, 7, 0},
+    {"waiting list: by 8 tasks deep", SECOND_ORDER, wrong_ranks, WAITING, 7, 0},
+    {"ready list: order, inherited", SECOND_ORDER, wrong_inherited, READY, 0, 0},
+    {"ready list: order by one, inherited", SECOND_ORDER, wrong_inherited, READY, 1, 0},
+    {"waiting list: order, inherited", SECOND_ORDER, wrong_inherited, WAITING, 0, 0},
+    {"waiting list: order by one, inherited", SECOND_ORDER, wrong_inherited, WAITING, 1, 0},
+    {"waiting list: order in a ring", SECOND_ORDER, wrong_inherited, WAITING, 2, 0},
+    {"waiting lists: everybody in each", SECOND_WAITING_LIST, crowded_lists, 0, 0, 0},
+    {"waiting lists: all but the owner in each", SECOND_WAITING_LIST, crowded_lists, 0, 1, 0},
+    {"waiting lists: one 16 times in each", SECOND_WAITING_LIST, crowded_lists, 0, 2, 0},
 
     {"two sides: Event", SECOND_ONE_SIDE, two_sides, EVENT, 0, 0},
     {"two sides: Semaphore", SECOND_ONE_SIDE, two_sides, SEMAPHORE, 0, 0},

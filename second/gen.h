@@ -17,6 +17,8 @@
  *   j  pairs of tables to be compared (M-106): any two of the above, a table before and after
  *      a call, and gen_one_word, gen_apart, gen_last_word
  *   k  blocks put to and taken from a Memory (M-107): gen_pool
+ *   l  chains and rings of locks (M-108): gen_chain; and runs with many locks, a with
+ *      gen_draw_lock_mood
  */
 #ifndef GEN_H
 #define GEN_H
@@ -46,6 +48,8 @@ typedef struct {
     uint32_t waits;          /* percent of requests under W or WT */
     uint32_t refused;        /* percent of calls meant to be refused */
     uint32_t high;           /* percent of calls with a high word; drawn as 0, the tests' to set */
+    uint32_t locks;          /* percent of calls that lock and unlock on purpose, 0 but in runs
+                              * with many locks */
 } gen_mood;
 
 void gen_draw_mood(gen_random *random, gen_mood *mood);
@@ -54,6 +58,10 @@ void gen_draw_mood(gen_random *random, gen_mood *mood);
  * were Boards, BOARD those from before there were Memories. */
 void gen_draw_mood_of(gen_random *random, gen_mood *mood, uint32_t kinds);
 void gen_turn(gen_random *random, gen_mood *mood);
+
+/* Of a run with many locks: mostly Resources, and tasks that take one each and then wait for
+ * one of a task that waits, so that chains grow, up to 16 tasks, and close to rings. */
+void gen_draw_lock_mood(gen_random *random, gen_mood *mood);
 
 /* The next call on this table: Blank unless the table's edition is 1 or 2. With mood->high
  * 0 every high word is 0, and edition 1 is drawn as it was before M-105. */
@@ -84,6 +92,14 @@ void gen_pool(gen_random *random, uint32_t edition, uint32_t *table, uint32_t ca
  * Tick where nobody runs. One of twenty comes from another task than the running one. */
 void gen_queue(gen_random *random, uint32_t edition, uint32_t *table, uint32_t call[8]);
 void gen_ask(gen_random *random, const uint32_t *table, uint32_t hub, uint32_t call[8]);
+
+/* A well-formed table with a chain of 2 to 16 tasks, each of which waits for a lock of the one
+ * before it, with a ring of so many, or with several heads and some behind each; others wait
+ * beside them for the same locks or for more that they own, run, sleep, or wait elsewhere.
+ * And a call that touches it: a lock given
+ * back, one more that waits, a Tick, a Stop, Suspend or Resume of one in it, or any. In a
+ * ring of 16 nobody runs. */
+void gen_chain(gen_random *random, uint32_t edition, uint32_t *table, uint32_t call[8]);
 
 /* An edition 2 table without its high words; and then with one, where a message may be: a
  * ready task's received, a waiting putter's, one that a FIFO holds, a Board's. Gives 0

@@ -1,5 +1,6 @@
 /* Demand 3's bookkeeping, with M-101's balance of each Resource, M-103's word of each
- * Board, M-105's messages and moves, and M-107's balance of each block; ledger.h says what it
+ * Board, M-105's messages and moves, M-107's balance of each block, and M-108's sentences on
+ * who runs; ledger.h says what it
  * reads and what it doesn't. */
 #include "ledger.h"
 
@@ -42,6 +43,70 @@ static int stop_removes_owner(const uint32_t *before, const uint32_t *call, seco
 
     return call[C_SERVICE] == STOP && reply.answer == OK && record[H_KIND] == RESOURCE &&
            record[H_COUNT] == call[C_TARGET] + 1;
+}
+
+/* ---- Urgency ----------------------------------------------------------- */
+
+/* The smallest own priority among a task and all that wait for it: it asks each waiter of
+ * each of its Resources, who asks in turn, but for those in `asked`, who are being asked. */
+static uint32_t most_urgent(const uint32_t *table, uint32_t task, uint32_t asked)
+{
+    uint32_t least = task_word(table, task, T_PRIORITY);
+
+    asked |= UINT32_C(1) << task;
+    for (uint32_t other = 0; other < table[TASKS_IN_USE_AT]; other++) {
+        if (!waits(table, other) || (asked >> other & 1) != 0)
+            continue;
+        const uint32_t *hub = table + hub_place(table, task_word(table, other, T_HUB) - 1);
+        if (hub[H_KIND] != RESOURCE || hub[H_COUNT] != task + 1)
+            continue;
+        uint32_t of_other = most_urgent(table, other, asked);
+        least = of_other < least ? of_other : least;
+    }
+    return least;
+}
+
+static int may_run(const uint32_t *table, uint32_t task)
+{
+    return task_word(table, task, T_STATE) == READY && task_word(table, task, T_SUSPENDED) == 0;
+}
+
+/* The owner that a task waits for, or the task itself. */
+static uint32_t owner_awaited(const uint32_t *table, uint32_t task)
+{
+    const uint32_t *hub;
+
+    if (!waits(table, task))
+        return task;
+    hub = table + hub_place(table, task_word(table, task, T_HUB) - 1);
+    return hub[H_KIND] == RESOURCE ? hub[H_COUNT] - 1 : task;
+}
+
+/* Nobody who may run stands before the owner in the ready list and is less urgent. */
+static int runs_before(const uint32_t *table, const uint32_t *least, uint32_t owner,
+                       uint32_t urgency)
+{
+    for (size_t at = ready_place(table); table[at] != owner + 1; at++)
+        if (may_run(table, table[at] - 1) && least[table[at] - 1] > urgency)
+            return 0;
+    return 1;
+}
+
+const char *ledger_urgency(const uint32_t *table, uint32_t next)
+{
+    uint32_t least[TASKS];
+
+    for (uint32_t task = 0; task < table[TASKS_IN_USE_AT]; task++)
+        least[task] = most_urgent(table, task, 0);
+    for (uint32_t task = 0; task < table[TASKS_IN_USE_AT]; task++) {
+        uint32_t owner = owner_awaited(table, task);
+        if (may_run(table, task) && (next == 0 || least[task] < least[next - 1]))
+            return "another ready task is more urgent than the one that runs";
+        if (owner != task && may_run(table, owner) &&
+            !runs_before(table, least, owner, least[task]))
+            return "a task less urgent than a waiter stands before the owner of its lock";
+    }
+    return NULL;
 }
 
 /* ---- Classes ----------------------------------------------------------- */
@@ -426,6 +491,8 @@ const char *ledger_enter(ledger *book, const uint32_t *before, const uint32_t ca
         ledger_begin(book);
         return NULL;
     }
+    if ((wrong = ledger_urgency(after, reply.next)) != NULL)
+        return wrong;
 
     for (uint32_t task = 0; task < after[TASKS_IN_USE_AT]; task++)
         if ((wrong = enter_task(book, task, before, call, reply, after, &met)) != NULL)

@@ -53,6 +53,12 @@ const char *ledger_enter(ledger *book, const uint32_t *before, const uint32_t ca
 /* Enters an accepted move: the run goes on in the new table (M-105). */
 const char *ledger_move(const ledger *book, const uint32_t *before, const uint32_t *after);
 
+/* M-108's two sentences for users, of a table after an accepted call: who runs has the least
+ * effective priority among the ready tasks that aren't suspended; and no such task that is
+ * less urgent than a waiter stands before the ready owner of the lock that it waits for.
+ * Gives what is wrong, or NULL. ledger_enter asks it, too. */
+const char *ledger_urgency(const uint32_t *table, uint32_t next);
+
 /* Adds everything up again from the requests alone. */
 const char *ledger_end(const ledger *book, const uint32_t *table);
 

@@ -1,13 +1,14 @@
 /* The second program's tests: constructed cases, runs from Blank with demand 3
  * checked, built tables, Stops of owners, requests to Boards, to Memories and to hubs at
- * which many wait, damaged tables, listings, pairs of tables compared, all on both editions;
+ * which many wait, chains and rings of locks, runs with many of them, damaged tables, listings, pairs of tables compared, all on both editions;
  * moves from one to the other, in the middle of runs too; coverage.
  * `test SIZE` runs them all, one line each; the first failure ends the program.
  *
  * Each call is checked against expect.c word for word, and besides for what
  * must hold whatever expect.c says: an accepted call leaves a well-formed
- * table, a refused one leaves every word, no answer is 3, and ahead is where the
- * list has the caller (M-104).
+ * table, a refused one leaves every word, no answer is 3, ahead is where the
+ * list has the caller (M-104), and the most urgent runs, who is before every task less urgent
+ * than one that waits for its lock (M-108, ledger_urgency).
  *
  * A listing is checked against expect.c byte for byte, the buffer's other bytes
  * with it, and for what it is for: the drill runner builds the set-up from it.
@@ -37,6 +38,7 @@ typedef struct {
     uint32_t tables, table_calls; /* family b */
     uint32_t stops, boards;       /* families f and g */
     uint32_t pools, queues;       /* families k and h */
+    uint32_t chains, lock_runs;   /* family l: tables; runs, of as many calls as family a's */
     uint32_t damages, flips;      /* family c: tables per family; tables with flips */
     uint32_t set_ups, rooms;      /* family e: tables listed; tables listed into every room */
     uint32_t moves, moved_runs;   /* family i: tables moved, so many done each way at least;
@@ -48,11 +50,11 @@ typedef struct {
 } scale;
 
 static const scale scales[] = {
-    {"quick", 60, 400, 1000, 8, 400, 400, 400, 400, 3, 3000, 200, 3, 1500, 40, 500, 3, 40000, 60,
+    {"quick", 60, 400, 1000, 8, 400, 400, 400, 400, 1500, 30, 3, 3000, 200, 3, 1500, 40, 500, 3, 40000, 60,
      0},
-    {"gate", 1500, 500, 60000, 8, 20000, 20000, 20000, 25000, 110, 200000, 20000, 80, 100000, 600,
+    {"gate", 1500, 500, 60000, 8, 20000, 20000, 20000, 25000, 40000, 400, 110, 200000, 20000, 80, 100000, 600,
      30000, 60, 1000000, 600, 1},
-    {"long", 20000, 1000, 1000000, 8, 400000, 400000, 400000, 400000, 1000, 5000000, 400000, 2000,
+    {"long", 20000, 1000, 1000000, 8, 400000, 400000, 400000, 400000, 800000, 8000, 1000, 5000000, 400000, 2000,
      2000000, 10000, 600000, 1500, 30000000, 14400, 1},
 };
 
@@ -504,6 +506,7 @@ static second_reply check_call(bench *at, uint32_t *table, const uint32_t *call)
 {
     uint32_t before[WORDS_MOST], expected[WORDS_MOST];
     size_t words = words_of(at);
+    const char *urgency;
 
     memcpy(before, table, bytes_of(at));
     memcpy(expected, table, bytes_of(at));
@@ -527,6 +530,8 @@ static second_reply check_call(bench *at, uint32_t *table, const uint32_t *call)
         fail(at, call, "next isn't the running task");
     if (reply.refusal == ACCEPTED && reply.ahead != ahead_read(call, table))
         fail(at, call, "ahead isn't how many stand before the caller in the list");
+    if (reply.refusal == ACCEPTED && (urgency = ledger_urgency(table, reply.next)) != NULL)
+        fail(at, call, urgency);
     if (!same_reply(reply, expects))
         fail(at, call, "another reply was expected");
     if (!same_words(at, table, expected))
@@ -1891,13 +1896,20 @@ static void draw_mood(bench *at, gen_mood *mood)
     mood->high = at->form->edition == EDITION_1 ? 5 : 60;
 }
 
+/* The same of a run with many locks. */
+static void draw_lock_mood(bench *at, gen_mood *mood)
+{
+    gen_draw_lock_mood(&at->random, mood);
+    mood->high = at->form->edition == EDITION_1 ? 2 : 60;
+}
+
 /* mutants/run asks whether demand 3 alone catches what breaks it. */
-static void one_run(bench *at, uint32_t calls, int alone)
+static void one_run(bench *at, uint32_t calls, void (*draw)(bench *, gen_mood *), int alone)
 {
     uint32_t table[WORDS_MOST] = {0}, call[8];
     gen_mood mood;
 
-    draw_mood(at, &mood);
+    draw(at, &mood);
     ledger_begin(&at->book);
     for (uint32_t i = 0; i < calls; i++) {
         if (i % 64 == 63)
@@ -1915,7 +1927,15 @@ static void part_runs(bench *at, const scale *to, int alone)
 {
     for (uint32_t run = 0; run < to->runs; run++) {
         begin(at, alone ? "demand 3" : "runs", run);
-        one_run(at, to->calls, alone);
+        one_run(at, to->calls, draw_mood, alone);
+    }
+}
+
+static void part_lock_runs(bench *at, const scale *to, int alone)
+{
+    for (uint32_t run = 0; run < to->lock_runs; run++) {
+        begin(at, alone ? "demand 3, locks" : "lock runs", run);
+        one_run(at, to->calls, draw_lock_mood, alone);
     }
 }
 
@@ -2176,7 +2196,10 @@ static void one_move(bench *at)
     uint32_t table[WORDS_MOST] = {0}, moved[WORDS_MOST], call[8], edition = at->form->edition;
     size_t from = words_of(at), to = other_form(at)->words, families = gen_damages(edition);
 
-    switch (gen_below(&at->random, 8)) {
+    switch (gen_below(&at->random, 9)) {
+    case 8:
+        gen_chain(&at->random, edition, table, call);
+        break;
     case 0:
         gen_stop(&at->random, edition, table, call);
         break;
@@ -2275,7 +2298,10 @@ static void draw_neighbours(bench *at, pair *of)
 
     draw_mood(at, &mood);
     mood.tasks = mood.hubs = gen_chance(&at->random, 20) ? TASKS : 0; /* something to add, or not */
-    switch (gen_below(&at->random, 6)) {
+    switch (gen_below(&at->random, 7)) {
+    case 6:
+        gen_chain(&at->random, edition, of->first, call);
+        break;
     case 0:
         gen_stop(&at->random, edition, of->first, call);
         break;
@@ -2442,6 +2468,18 @@ static void run_well_formed(bench *at, const scale *to)
     snprintf(what, sizeof what, "%" PRIu32 " hubs at which none to 15 wait, asked again and again",
              to->queues);
     report("queues", what, at->calls - calls, "calls", since);
+
+    calls = at->calls, since = seconds();
+    part_met(at, "chains", to->chains, gen_chain);
+    snprintf(what, sizeof what, "%" PRIu32 " chains and rings of 2 to 16 tasks", to->chains);
+    report("chains", what, at->calls - calls, "calls", since);
+
+    calls = at->calls, requests = at->requests, since = seconds();
+    part_lock_runs(at, to, 0);
+    snprintf(what, sizeof what,
+             "%" PRIu32 " runs from Blank with many locks, demand 3 over %" PRIu64 " requests",
+             to->lock_runs, at->requests - requests);
+    report("lock runs", what, at->calls - calls, "calls", since);
 }
 
 static void run_damaged(bench *at, const scale *to)
@@ -2533,6 +2571,7 @@ int main(int count, char **words)
             for (uint32_t edition = EDITION_1; edition <= EDITION_2; edition++) {
                 set_edition(&at, edition);
                 part_runs(&at, &scales[i], alone);
+                part_lock_runs(&at, &scales[i], alone);
             }
             part_moved_runs(&at, &scales[i], alone);
             return 0;
