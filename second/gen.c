@@ -2137,6 +2137,29 @@ static int wrong_inherited(gen_random *random, uint32_t *table, const damage *fa
     return 1;
 }
 
+/* All 16 tasks in one list, the ready list or a Port's, and the last two exchanged. */
+static int wrong_at_end(gen_random *random, uint32_t *table, const damage *family)
+{
+    build_contents(table, edition_of(table), TASKS, HUBS);
+    build_priorities(random, table, PRIORITY_MAX + 1);
+    for (uint32_t hub = 0; hub < HUBS; hub++)
+        build_hub(random, table, hub, PORT);
+    for (uint32_t task = 0; task < TASKS; task++) {
+        build_caller(table, task);
+        if (family->which == WAITING)
+            build_waiter(random, table, task, 0);
+    }
+    build_lists(random, table);
+    uint32_t *last = pick_list(random, table, family, LIST_WORDS, LIST_WORDS);
+    if (last == NULL)
+        return 0;
+    last += LIST_WORDS - 1;
+    uint32_t before = last[-1];
+    last[-1] = *last;
+    *last = before;
+    return task_field(table, last[-1] - 1, T_PRIORITY) != task_field(table, *last - 1, T_PRIORITY);
+}
+
 /* A ring of 16 in whose lists stand 16 tasks each, all of them, or all but the owner, or one
  * 16 times: whoever asks such lists who waits for whom is asked 16 times at each of 16
  * tasks. */
@@ -2528,6 +2551,8 @@ static const damage damages[] = {
     {"waiting list: order, inherited", SECOND_ORDER, wrong_inherited, WAITING, 0, 0},
     {"waiting list: order by one, inherited", SECOND_ORDER, wrong_inherited, WAITING, 1, 0},
     {"waiting list: order in a ring", SECOND_ORDER, wrong_inherited, WAITING, 2, 0},
+    {"ready list: order, the 16th", SECOND_ORDER, wrong_at_end, READY, 0, 0},
+    {"waiting list: order, the 16th", SECOND_ORDER, wrong_at_end, WAITING, 0, 0},
     {"waiting lists: everybody in each", SECOND_WAITING_LIST, crowded_lists, 0, 0, 0},
     {"waiting lists: all but the owner in each", SECOND_WAITING_LIST, crowded_lists, 0, 1, 0},
     {"waiting lists: one 16 times in each", SECOND_WAITING_LIST, crowded_lists, 0, 2, 0},

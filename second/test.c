@@ -1181,6 +1181,126 @@ static void case_ahead_15(bench *at)
             }
 }
 
+/* A low task holds the fan lock, a middle one is ready, an urgent one waits for the lock: the
+ * low one runs before the middle one until it gives the lock back, and then loses its place. */
+static void case_inherit(bench *at)
+{
+    static const step steps[] = {
+        {{0, 0, 0, 0, 0, 0, 0}, {0, 0, 0, 0}, {{0, 0}}},
+        {{10, 0, 5, 0, 0, 1, 0}, {0, 0, 0, 0}, {{0, 0}}},
+        {{9, 0, 9, 1, 0, 0, 0}, {0, 0, 1, 0}, {{0, 0}}},
+        {{1, 0, 0, 2, 1, 0, 0}, {0, 1, 1, 0}, {{137, 1}}},
+        {{9, 0, 5, 1, 0, 0, 0}, {0, 0, 2, 0}, {{200, 2}, {201, 1}}},
+        {{9, 0, 1, 1, 0, 0, 0}, {0, 0, 3, 0}, {{200, 3}, {201, 2}, {202, 1}}},
+        {{1, 2, 0, 2, 1, 0, 0}, {0, 0, 1, 0}, {{200, 1}, {201, 2}, {202, 0}, {216, 3}}},
+        {{6, 1, 0, 0, 0, 0, 0}, {4, 0, 0, 0}, {{0, 0}}},
+        {{6, 0, 0, 0, 0, 0, 0}, {0, 1, 1, 0}, {{10, 9}, {200, 1}, {201, 2}}},
+        {{9, 0, 1, 1, 0, 0, 0}, {0, 0, 1, 0}, {{200, 1}, {201, 4}, {202, 2}}}, /* an equal */
+        {{9, 0, 0, 1, 0, 0, 0}, {0, 0, 5, 0}, {{200, 5}, {201, 1}, {202, 4}, {203, 2}}},
+        {{1, 4, 0, 2, 2, 0, 0}, {0, 2, 5, 0}, {{200, 5}, {201, 1}, {137, 1}}}, /* NW: no heir */
+        {{7, 4, 0, 0, 0, 9, 0}, {0, 0, 1, 0}, {{200, 1}, {201, 4}, {202, 2}}},
+        {{1, 0, 0, 1, 1, 0, 0}, {0, 1, 4, 0}, {{137, 3}, {200, 4}, {201, 3}, {202, 2}}},
+        {{1, 3, 0, 1, 1, 0, 0}, {0, 2, 4, 0}, {{137, 3}, {203, 1}}},
+    };
+    TAKE_STEPS(at, "inherited by an owner", steps);
+}
+
+/* Task 0 owns lock 0 and waits at a Semaphore behind task 1; task 2 owns lock 1 and waits for
+ * lock 0; task 3 waits for lock 1, and times out. The Semaphore's list turns, and back. */
+static void case_inherit_3(bench *at)
+{
+    static const step steps[] = {
+        {{0, 0, 0, 0, 0, 0, 0}, {0, 0, 0, 0}, {{0, 0}}},
+        {{10, 0, 5, 0, 0, 1, 0}, {0, 0, 0, 0}, {{0, 0}}},
+        {{10, 0, 5, 0, 0, 1, 0}, {0, 0, 0, 0}, {{0, 0}}},
+        {{10, 0, 2, 0, 0, 1, 0}, {0, 0, 0, 0}, {{0, 0}}},
+        {{9, 0, 8, 1, 0, 0, 0}, {0, 0, 1, 0}, {{0, 0}}},
+        {{1, 0, 0, 2, 1, 0, 0}, {0, 1, 1, 0}, {{137, 1}}},
+        {{1, 0, 2, 2, 1, 0, 0}, {0, 0, 0, 0}, {{248, 1}}},
+        {{9, 0, 5, 1, 0, 0, 0}, {0, 0, 2, 0}, {{0, 0}}},
+        {{1, 1, 2, 2, 1, 0, 0}, {0, 0, 0, 0}, {{248, 2}, {249, 1}}},
+        {{9, 0, 7, 1, 0, 0, 0}, {0, 0, 3, 0}, {{0, 0}}},
+        {{1, 2, 1, 2, 1, 0, 0}, {0, 1, 3, 0}, {{141, 3}}},
+        {{1, 2, 0, 2, 1, 0, 0}, {0, 0, 0, 0}, {{216, 3}, {248, 2}, {249, 1}}},
+        {{9, 0, 1, 1, 0, 0, 0}, {0, 0, 4, 0}, {{0, 0}}},
+        {{1, 3, 1, 2, 3, 1, 0}, {0, 0, 0, 0}, {{232, 4}, {248, 1}, {249, 2}}},
+        {{8, 0, 0, 0, 0, 0, 0}, {0, 0, 4, 0}, {{232, 0}, {248, 2}, {249, 1}, {39, 3}}},
+        {{1, 3, 1, 2, 1, 0, 0}, {0, 0, 0, 0}, {{232, 4}, {248, 1}, {249, 2}}},
+        {{9, 0, 6, 1, 0, 0, 0}, {0, 0, 5, 0}, {{0, 0}}},
+        {{1, 4, 2, 2, 1, 0, 0}, {0, 0, 0, 2}, {{248, 1}, {249, 2}, {250, 5}}}, /* 2 ahead */
+        {{9, 0, 0, 1, 0, 0, 0}, {0, 0, 6, 0}, {{0, 0}}},
+        {{3, 5, 2, 0, 0, 0, 0}, {0, 1, 6, 0}, {{141, 4}, {216, 0}, {248, 2}, {249, 5}}},
+        {{4, 5, 3, 0, 0, 0, 0}, {0, 1, 6, 0}, {{250, 1}, {200, 6}, {201, 4}}},
+    };
+    TAKE_STEPS(at, "inherited through others", steps);
+}
+
+/* Two owners, whose waiters time out in one Tick: B stood before A, and they are put back in
+ * task number order, behind those who timed out. Then a ring of two. */
+static void case_put_back(bench *at)
+{
+    static const step steps[] = {
+        {{0, 0, 0, 0, 0, 0, 0}, {0, 0, 0, 0}, {{0, 0}}},
+        {{10, 0, 5, 0, 0, 1, 0}, {0, 0, 0, 0}, {{0, 0}}},
+        {{10, 0, 5, 0, 0, 1, 0}, {0, 0, 0, 0}, {{0, 0}}},
+        {{9, 0, 9, 1, 0, 0, 0}, {0, 0, 1, 0}, {{0, 0}}},
+        {{1, 0, 0, 2, 1, 0, 0}, {0, 1, 1, 0}, {{137, 1}}},
+        {{9, 0, 9, 1, 0, 0, 0}, {0, 0, 1, 0}, {{0, 0}}},
+        {{6, 0, 0, 0, 0, 0, 0}, {0, 1, 2, 0}, {{200, 2}, {201, 1}}},
+        {{1, 1, 1, 2, 1, 0, 0}, {0, 1, 2, 0}, {{141, 2}}},
+        {{9, 0, 3, 1, 0, 0, 0}, {0, 0, 3, 0}, {{0, 0}}},
+        {{1, 2, 0, 2, 3, 2, 0}, {0, 0, 1, 0}, {{200, 1}, {201, 2}}},
+        {{9, 0, 2, 1, 0, 0, 0}, {0, 0, 4, 0}, {{0, 0}}},
+        {{1, 3, 1, 2, 3, 2, 0}, {0, 0, 2, 0}, {{200, 2}, {201, 1}}},
+        {{8, 0, 0, 0, 0, 0, 0}, {0, 0, 2, 0}, {{200, 2}, {201, 1}}},
+        {{8, 0, 0, 0, 0, 0, 0}, {0, 0, 4, 0}, {{200, 4}, {201, 3}, {202, 1}, {203, 2}}},
+        {{7, 3, 0, 0, 0, 9, 0}, {0, 0, 3, 0}, {{0, 0}}},
+        {{7, 2, 0, 0, 0, 9, 0}, {0, 0, 1, 0}, {{200, 1}, {201, 2}}},
+        {{1, 0, 1, 2, 1, 0, 0}, {0, 0, 2, 0}, {{232, 1}}},        /* A waits for B */
+        {{1, 1, 0, 2, 3, 7, 0}, {0, 0, 0, 0}, {{216, 2}, {200, 0}}}, /* and B for A */
+        {{9, 0, 4, 1, 0, 0, 0}, {0, 0, 5, 0}, {{0, 0}}},
+        {{1, 4, 1, 2, 1, 0, 0}, {0, 0, 0, 0}, {{232, 5}, {233, 1}}}, /* before A, who rises too */
+    };
+    TAKE_STEPS(at, "put back in number order", steps);
+}
+
+/* A call that has to be accepted, and what it says. */
+static void chain_call(bench *at, uint32_t *table, const uint32_t *call, uint32_t answer,
+                       uint32_t next)
+{
+    if (!same_reply(enter_call(at, table, call, 0), (second_reply){0, answer, next, 0}))
+        fail(at, call, "the chain: another reply was expected");
+}
+
+/* Chains of 2 to 15 tasks, and a task besides that is more urgent than all of them but the
+ * last: when that waits, the head runs. With 16 there is no task besides, whatever its list. */
+static void case_chains(bench *at)
+{
+    for (uint32_t i = 0; i < 2 * 14; i++) {
+        uint32_t table[WORDS_MOST] = {0}, tasks = 2 + i / 2;
+
+        set_edition(at, EDITION_1 + i % 2);
+        at->part = "chains of 2 to 15";
+        at->seed = tasks;
+        ledger_begin(&at->book);
+        chain_call(at, table, (uint32_t[8]){BLANK}, 0, 0);
+        for (uint32_t lock = 0; lock < tasks; lock++)
+            chain_call(at, table, (uint32_t[8]){ADD_HUB, 0, RESOURCE, 0, 0, 1}, 0, 0);
+        for (uint32_t task = 0; task + 1 < tasks; task++) {
+            chain_call(at, table, (uint32_t[8]){ADD_TASK, 0, 200 - task, 1}, 0, task + 1);
+            chain_call(at, table, (uint32_t[8]){HUB_REQUEST, task, task, GET, W}, OK, task + 1);
+            if (task > 0)
+                chain_call(at, table, (uint32_t[8]){HUB_REQUEST, task, task - 1, GET, W}, 0, 1);
+        }
+        chain_call(at, table, (uint32_t[8]){ADD_TASK, 0, 100, 1}, 0, tasks);
+        chain_call(at, table, (uint32_t[8]){ADD_TASK, 0, 50, 1}, 0, tasks + 1);
+        chain_call(at, table, (uint32_t[8]){HUB_REQUEST, tasks, tasks - 2, GET, W}, 0, 1);
+        chain_call(at, table, (uint32_t[8]){HUB_REQUEST, 0, 0, PUT, W}, OK,
+                   tasks == 2 ? tasks + 1 : 2);
+        end_run(at, NULL, table);
+    }
+}
+
 static void case_ticks(bench *at)
 {
     static const step steps[] = {
@@ -1870,6 +1990,10 @@ static void part_cases(bench *at)
     case_getters(at);
     case_ahead(at);
     case_ahead_15(at);
+    case_inherit(at);
+    case_inherit_3(at);
+    case_put_back(at);
+    case_chains(at);
     case_ticks(at);
     case_caller_as_target(at);
     case_full(at);
@@ -2424,7 +2548,7 @@ static void run_cases(bench *at)
     part_cases(at);
     report("cases",
            "marked lines, refusal order, lengths, bytes, corners, Stops, Boards, blocks, ahead, "
-           "pairs, moves, listings, comparisons",
+           "inheritance, pairs, moves, listings, comparisons",
            at->calls - calls, "calls", since);
 }
 

@@ -1,0 +1,2 @@
+# The allowance falls in both functions: a chain of 9 tasks and more comes out wrong.
+/^static void effective_priorities/,/^}/s/^    do {/    for (uint32_t i = 0; i < links; i++) for (uint32_t at = waiter[i], steps = 0; steps < 7 \&\& waits_for(table, at) != 0; steps++) { at = waits_for(table, at) - 1; if (table[task_place(table, waiter[i]) + T_PRIORITY] < effective[at]) effective[at] = table[task_place(table, waiter[i]) + T_PRIORITY]; } links = 0; do {/

@@ -1,0 +1,3 @@
+# A suspended waiter hands nothing on.
+# Demand 3 alone catches it.
+/^static uint32_t waits_for/,/^}/s/!= WAITING)/!= WAITING || task[T_SUSPENDED] != 0)/
