@@ -39,6 +39,37 @@
  * so is one whose contents name another edition than its length.
  * A table whose Resource is owned by an inactive task isn't well formed either (the kernel
  * before M-101 could leave one behind, by a Stop of the owner): no call but Blank mends it.
+ * Nor is one whose ready list or waiting lists aren't ordered by effective priority: see
+ * there.
+ *
+ * EFFECTIVE PRIORITY. A task's own priority is the number it was added with, 0 to 255, 0 the
+ * most urgent; no call changes it. Its effective priority is the smallest own priority among
+ * itself and all tasks that wait, directly or through others, for a Resource that it owns: a
+ * low task that holds a lock for which an urgent one waits is as urgent as that one until it
+ * gives the lock back. It counts whatever the owner does meanwhile, be it ready, asleep or
+ * waiting itself, suspended or not, and whether the waiter is suspended or has ticks left. In
+ * a ring of locks all are as urgent as the most urgent of them. It stands nowhere in the
+ * table: priority in a task's record is its own.
+ *
+ * The ready list and every waiting list are ordered by effective priority, rising numbers,
+ * equals as they came. In a call each task joins a list by its effective priority before the
+ * call, behind its equals, and a task that the call adds by its own. At the end of the call
+ * all tasks whose effective priority it changed are taken out of their lists, then put back,
+ * in task number order, each behind its equals. So a request that waits may move others
+ * forward, in the ready list and in waiting lists of hubs that it has nothing to do with; an
+ * unlock, a Stop and a Tick that ends a wait may move them back. A met or failed caller keeps
+ * its place in the ready list, but for one case: who gives back a lock, and with it what it
+ * had inherited, may be behind others then, and `next` another task.
+ *
+ * After every accepted call the task that `next` names has the least effective priority of
+ * all ready tasks that aren't suspended; and a ready task that isn't suspended and owns a lock
+ * for which a more urgent one waits stands before all of these that are less urgent than that
+ * waiter.
+ *
+ * The kernel before M-108 ordered lists by own priority. A table that it left is refusal 2
+ * where the effective priorities say another order, which can only be while a task waits for
+ * a Resource whose owner is less urgent; no call but Blank mends it. The other way round such
+ * a kernel refuses tables of this one.
  *
  * OWNERSHIP. The host owns the table and lends it for one call. The kernel keeps
  * nothing between calls: no globals, no allocation, no system call. Two tables are two
@@ -46,16 +77,19 @@
  *
  * A CALL gives back refusal, answer, next and ahead, and the bytes afterwards are the
  * words after the call, all four bytes of each. A refused call has answer 0, next 0 and
- * ahead 0, and writes no byte. `next` is the running task plus 1, or 0 if no task can run.
+ * ahead 0, and writes no byte. `next` is the running task plus 1, or 0 if no task can run;
+ * the running task is the first in the ready list that isn't suspended, read when the lists
+ * are in order again.
  *
  * `ahead` tells a caller that has to wait at a hub how many requests stand before it in
  * that hub's waiting list, as the list is after the call: those of its own or a more
- * urgent priority that were there already, suspended or not, with ticks or without limit.
+ * urgent effective priority that were there already, suspended or not, with ticks or without
+ * limit.
  * It is 0 where nobody does, so a waiting caller with ahead 0 is the first of the list,
  * and 0 in every other case: a call that is refused, a request that is met or failed, a
  * Sleep, and every other service. At most 15, and 14 at a Resource, whose owner doesn't
  * wait. It is said once, by the call that joined; a later request of a more urgent task
- * goes in front.
+ * goes in front, and so does one that inherits later.
  *
  *   no. service        caller  target    side           mode  ticks       word     high
  *   0   Blank
@@ -174,7 +208,8 @@
  *
  *   1  the length is neither 2,400 nor 2,976 bytes. The moves: the two lengths aren't 2,400
  *      and 2,976 (up), 2,976 and 2,400 (down)
- *   2  the table (of a move: the source) isn't well formed (never for Blank)
+ *   2  the table (of a move: the source) isn't well formed (never for Blank): also where a
+ *      list isn't ordered by effective priority
  *   3  service above 10
  *   4  services 1 to 7: caller isn't the running task
  *   5  service 1 and the summary: hub not in use; 2 to 5: task not in use

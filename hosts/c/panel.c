@@ -2,7 +2,8 @@
  * prints of each step which of met, failed and timed out it was: a step that
  * came back is not a step that was met. Orders to the drive are messages of 64 bits,
  * on a table of edition 2. Then crews that all want the fan: whoever has to wait is
- * told how many are ahead. Then an old table, of edition 1, that is moved up while
+ * told how many are ahead. Then cleaners who have the fan, and run before others while a
+ * more urgent crew waits for it. Then an old table, of edition 1, that is moved up while
  * requests wait in it, and later back down. Then two buffers that go from task to task by
  * their numbers. Last what single steps changed in the table,
  * and a copy of it that is kept up to date by that alone.
@@ -355,6 +356,41 @@ static void queue_for_the_fan(void)
     }
 }
 
+/* ---- The lock ---------------------------------------------------------- */
+
+static const char *const holders[] = {"cleaners", "day crew", "fire crew"};
+enum { CLEANERS, DAY, FIRE_CREW };
+
+static void print_next(const panel *of, const char *what)
+{
+    printf("%-48s runs now: %s\n", what, of->next == 0 ? "nobody" : holders[of->next - 1]);
+}
+
+/* The cleaners have the fan, and are the least urgent; the day crew, more urgent, doesn't want
+ * it. While the fire crew waits for it, the cleaners run before the day crew: the kernel lends
+ * them the fire crew's priority until they give the fan back. */
+static void lend_priority(void)
+{
+    panel it;
+
+    printf("the cleaners have the fan\n");
+    begin(&it, HUB_KERNEL_TABLE_BYTES_2);
+    add_hub(&it, HUB_KERNEL_RESOURCE, 1); /* FAN */
+    add_task(&it, 40);                    /* CLEANERS */
+    ask(&it, CLEANERS, (step){"", GET(FAN, HUB_KERNEL_W)});
+    add_task(&it, 20); /* DAY */
+    print_next(&it, "the day crew comes, and doesn't want the fan");
+    add_task(&it, 5); /* FIRE_CREW */
+    print_next(&it, "the fire crew comes");
+    ask(&it, FIRE_CREW, (step){"", GET(FAN, HUB_KERNEL_W)});
+    print_next(&it, "the fire crew waits for the fan");
+    ask(&it, CLEANERS, (step){"", PUT(FAN, HUB_KERNEL_W)});
+    print_next(&it, "the cleaners give it back");
+    printf("%-48s its wait for the fan: %s\n", "", class_of(answer_of(&it, FIRE_CREW)));
+    ask(&it, FIRE_CREW, (step){"", SLEEP(WORK)});
+    print_next(&it, "the fire crew works");
+}
+
 /* ---- The old table ----------------------------------------------------- */
 
 /* Who is at the old panel, in the order they are added. Whoever is added runs at once,
@@ -632,6 +668,7 @@ int main(void)
     walk("the drive answers", prompt_drive);
     walk("the drive hangs", stuck_drive);
     queue_for_the_fan();
+    lend_priority();
     move_the_old_table();
     share_buffers();
     show_changes();
