@@ -33,6 +33,8 @@ typedef struct {
     uint32_t boards;              /* the same, and a request to a Board first */
     uint32_t pools;               /* the same, and a block put or taken first */
     uint32_t queues;              /* the same, with a hub at which many wait, and who asks it */
+    uint32_t chains;              /* the same, with a chain or a ring of locks, and a call on it */
+    uint32_t lock_runs, lock_calls; /* from Blank, with many locks: runs, calls in each */
     uint32_t damages;             /* tables of each family of damage */
     uint32_t flips;               /* tables with a few words changed at random */
     uint32_t lengths;             /* tables of each length that isn't theirs */
@@ -42,19 +44,22 @@ typedef struct {
     uint32_t length_pairs;        /* moves with each pair of lengths, each way and edition */
     uint32_t pairs, pair_rooms;   /* pairs of tables; of these, into every room */
     uint64_t least, least_moved;  /* promised: calls on each edition, moves done each way, */
-    uint64_t least_pairs;         /* and pairs of both editions */
+    uint64_t least_pairs;         /* and pairs of both editions, */
+    uint64_t least_locks;         /* and calls in runs with many locks, of both editions */
     unsigned seconds;             /* a program that loops is ended after these */
 } scale;
 
 static const scale scales[] = {
-    {"quick", 40, 300, 1000, 8, 400, 400, 400, 400, 2, 2000, 50, 400, 5, 800, 20, 1, 400, 3, 25000,
-     2000, 3000, 300},
-    {"gate", 1200, 400, 40000, 8, 10000, 10000, 10000, 20000, 40, 150000, 750, 15000, 100, 48000,
-     200, 10, 30000, 30, 1000000, 100000, 200000, 900},
-    {"long", 20000, 1000, 1000000, 8, 300000, 300000, 300000, 300000, 800, 4000000, 10000, 400000,
-     3000, 1500000, 6000, 300, 900000, 1000, 30000000, 3000000, 6000000, 28800},
-    {"campaign", 65000, 1000, 3200000, 8, 1000000, 1000000, 1000000, 1000000, 2600, 13000000, 32000,
-     1300000, 10000, 5000000, 20000, 1000, 3000000, 3000, 100000000, 10000000, 20000000, 28800},
+    {"quick", 40, 300, 1000, 8, 400, 400, 400, 400, 1000, 40, 400, 2, 2000, 50, 400, 5, 800, 20, 1,
+     400, 3, 25000, 2000, 3000, 30000, 300},
+    {"gate", 1200, 400, 40000, 8, 10000, 10000, 10000, 20000, 15000, 1050, 500, 40, 150000, 750,
+     15000, 100, 48000, 200, 10, 30000, 30, 1000000, 100000, 200000, 1000000, 1400},
+    {"long", 20000, 1000, 1000000, 8, 300000, 300000, 300000, 300000, 400000, 30000, 500, 800,
+     4000000, 10000, 400000, 3000, 1500000, 6000, 300, 900000, 1000, 30000000, 3000000, 6000000,
+     30000000, 43200},
+    {"campaign", 65000, 1000, 3200000, 8, 1000000, 1000000, 1000000, 1000000, 1500000, 100000, 500,
+     2600, 13000000, 32000, 1300000, 10000, 5000000, 20000, 1000, 3000000, 3000, 100000000,
+     10000000, 20000000, 100000000, 43200},
 };
 
 /* Lengths in bytes around both sizes, the sizes among them, and their words. */
@@ -85,6 +90,9 @@ typedef struct {
     uint64_t high; /* accepted hub requests with a high word; on edition 1 refused ones */
     uint64_t met_by_stop[MET_MOST + 1], met_by_update[READERS_MOST + 1];
     uint64_t ahead[AHEAD_MOST + 1]; /* of requests that have to wait */
+    uint64_t chains[TASKS + 1], rings[TASKS + 1]; /* accepted calls by the tasks in the longest */
+    uint64_t urgent[TASKS]; /* accepted calls by how many tasks' effective priorities they change */
+    uint64_t passed_by;     /* unlocks after which another task is next */
     uint64_t got[BLOCKS_MAX], freed[BLOCKS_MAX], passed[BLOCKS_MAX]; /* blocks, by number */
     uint64_t none_free[MODES], block_fails[BLOCK_FAILS * MODES];     /* by mode */
     uint64_t getters[GETTERS_MOST + 1]; /* who wait while a block that is out is put */
@@ -98,6 +106,7 @@ typedef struct {
     const char *part;
     uint64_t seed; /* of the part's draws, for the report of a difference */
     uint64_t calls, listings, moves, pairs;
+    uint64_t lock_calls; /* in runs with many locks */
     const layout *form; /* the edition at hand */
     tally seen[EDITIONS];
     uint64_t moved_in_runs[EDITIONS], waited_in_moves;
@@ -284,6 +293,67 @@ static void tally_blocks(comparison *at, const uint32_t *before, const uint32_t 
         now(at)->got[after[field_place(after, call[C_CALLER], T_WORD)]]++;
     else
         now(at)->none_free[call[C_MODE] - W]++;
+}
+
+/* The owner of the Resource that a task waits for, plus 1, or 0. */
+static uint32_t waits_for(const uint32_t *words, uint32_t task)
+{
+    const uint32_t *record = words + task_place(words, task), *hub;
+
+    if (record[T_STATE] != WAITING)
+        return 0;
+    hub = words + hub_place(words, record[T_HUB] - 1);
+    return hub[H_KIND] == RESOURCE ? hub[H_COUNT] : 0;
+}
+
+/* Who waits for whom: the tasks in the longest chain and in a ring, and what each task's
+ * effective priority is. Gives 0 where nobody waits for a lock. */
+typedef struct {
+    uint32_t chain, ring, least[TASKS];
+} locks;
+
+static int read_locks(locks *of, const uint32_t *words)
+{
+    uint32_t tasks = words[TASKS_IN_USE_AT];
+
+    memset(of, 0, sizeof *of);
+    for (uint32_t task = 0; task < tasks; task++)
+        of->least[task] = words[task_place(words, task) + T_PRIORITY];
+    for (uint32_t task = 0; task < tasks; task++) {
+        uint32_t own = words[task_place(words, task) + T_PRIORITY], length = 1;
+        uint32_t at = waits_for(words, task), seen = UINT32_C(1) << task;
+        for (; at != 0 && (seen >> (at - 1) & 1) == 0; at = waits_for(words, at - 1)) {
+            of->least[at - 1] = own < of->least[at - 1] ? own : of->least[at - 1];
+            seen |= UINT32_C(1) << (at - 1);
+            length++;
+        }
+        of->chain = length > of->chain ? length : of->chain;
+        of->ring = at == task + 1 && length > of->ring ? length : of->ring;
+    }
+    return of->chain > 1;
+}
+
+/* Chains and rings of the table before an accepted call, how many change by it, and who is
+ * next after an unlock. */
+static void tally_locks(comparison *at, const uint32_t *before, const uint32_t *call,
+                        second_reply reply, const uint32_t *after)
+{
+    uint32_t changed = 0;
+    locks old, new;
+    int some = call[C_SERVICE] != BLANK && read_locks(&old, before);
+
+    if (call[C_SERVICE] == BLANK || (!read_locks(&new, after) && !some))
+        return;
+    now(at)->chains[old.chain]++;
+    now(at)->rings[old.ring]++;
+    for (uint32_t task = 0; task < before[TASKS_IN_USE_AT]; task++)
+        changed += old.least[task] != new.least[task] &&
+                   after[task_place(after, task) + T_STATE] != INACTIVE;
+    now(at)->urgent[changed]++;
+    now(at)->passed_by += call[C_SERVICE] == HUB_REQUEST && call[C_SIDE] == PUT &&
+                          reply.answer == OK && reply.next != call[C_CALLER] + 1 &&
+                          before[hub_place(before, call[C_TARGET]) + H_KIND] == RESOURCE &&
+                          old.least[call[C_CALLER]] != new.least[call[C_CALLER]];
 }
 
 static void check_summary(comparison *at, uint32_t hub, second_summary_reply second)
@@ -541,8 +611,10 @@ static second_reply compare(comparison *at, uint32_t *words, const uint32_t *cal
     if (memcmp(at->table, expected, bytes_of(at)) != 0)
         differ_in(at, call, expected);
     check_around(at, call);
-    if (second.refusal == ACCEPTED)
+    if (second.refusal == ACCEPTED) {
         tally_blocks(at, before, call, second.answer, words);
+        tally_locks(at, before, call, second, words);
+    }
     if (at->calls % 16 == 0)
         check_listing(at, expected, draw_room(at, expected));
     if (at->calls % 32 == 0)
@@ -662,6 +734,29 @@ static void part_runs(comparison *at, const scale *to)
     }
 }
 
+static void part_lock_runs(comparison *at, const scale *to)
+{
+    uint32_t call[CALL_NUMBERS];
+    uint64_t calls = at->calls;
+    gen_mood mood;
+
+    for (uint32_t run = 0; run < to->lock_runs; run++) {
+        uint32_t words[WORDS_MOST] = {0};
+
+        begin(at, "lock runs", run);
+        lay_words(at, words);
+        gen_draw_lock_mood(&at->random, &mood);
+        mood.high = is_edition_1(at) ? 2 : 60;
+        for (uint32_t i = 0; i < to->lock_calls; i++) {
+            if (i % 64 == 63)
+                gen_turn(&at->random, &mood);
+            gen_call(&at->random, &mood, words, call);
+            compare(at, words, call);
+        }
+    }
+    at->lock_calls += at->calls - calls;
+}
+
 static void part_tables(comparison *at, const scale *to)
 {
     uint32_t words[WORDS_MOST], call[CALL_NUMBERS];
@@ -776,6 +871,17 @@ static void part_queues(comparison *at, const scale *to)
             compare(at, words, call);
             gen_ask(&at->random, words, call[C_TARGET], call);
         }
+    }
+}
+
+static void part_chains(comparison *at, const scale *to)
+{
+    uint32_t words[WORDS_MOST], call[CALL_NUMBERS];
+
+    for (uint32_t i = 0; i < to->chains; i++) {
+        begin(at, "chains", i);
+        gen_chain(&at->random, at->form->edition, words, call);
+        compare_met(at, words, call);
     }
 }
 
@@ -904,7 +1010,10 @@ static void part_moves(comparison *at, const scale *to)
 
     for (uint32_t i = 0; i < to->moves; i++) {
         begin(at, "moves", i);
-        switch (i % 6) {
+        switch (i % 7) {
+        case 6:
+            gen_chain(&at->random, at->form->edition, words, call);
+            break;
         case 0:
             gen_stop(&at->random, at->form->edition, words, call);
             break;
@@ -1139,6 +1248,8 @@ static void parts_of(comparison *at, const scale *to, uint32_t edition)
     part(at, to, "boards", part_boards);
     part(at, to, "pools", part_pools);
     part(at, to, "queues", part_queues);
+    part(at, to, "chains", part_chains);
+    part(at, to, "lock runs", part_lock_runs);
     part(at, to, "damaged", part_damaged);
     part(at, to, "flips", part_flips);
     part(at, to, "lengths", part_lengths);
@@ -1157,6 +1268,20 @@ static int check_numbers(const char *calls, const uint64_t *had, int most)
         printf(" %" PRIu64, had[i]);
     printf("\n");
     return had[0] > 0 && had[1] > 0 && had[most] > 0;
+}
+
+/* How many calls had so many, from the least to the most; whether each came up. */
+static int check_from(const char *calls, const uint64_t *had, int least, int most)
+{
+    int fine = 1;
+
+    printf("%s %d to %d:", calls, least, most);
+    for (int i = least; i <= most; i++) {
+        printf(" %" PRIu64, had[i]);
+        fine = fine && had[i] > 0;
+    }
+    printf("\n");
+    return fine;
 }
 
 /* A line with these of the numbers seen, and whether none of them is 0. */
@@ -1209,6 +1334,11 @@ static int check_seen(const tally *seen, const scale *to, uint32_t edition)
     fine = check_numbers("updates of a Board that met", seen->met_by_update, READERS_MOST) && fine;
     fine = check_numbers("requests that wait, ahead of them", seen->ahead, AHEAD_MOST) && fine;
     fine = check_blocks(seen, edition) && fine;
+    fine = check_from("calls on a chain of locks, tasks in it", seen->chains, 2, TASKS) && fine;
+    fine = check_from("calls on a ring of locks, tasks in it", seen->rings, 2, TASKS) && fine;
+    fine = check_from("calls that change effective priorities, of tasks", seen->urgent, 1,
+                      TASKS - 1) && fine;
+    printf("unlocks after which another is next %" PRIu64 "\n", seen->passed_by);
     fine = check_all("listings: accepted, refused with 1, 2, 8", seen->listing_refusals, listing,
                      4) && fine;
     fine = check_all(up ? "moves up: done, refused with 1, 2"
@@ -1219,8 +1349,8 @@ static int check_seen(const tally *seen, const scale *to, uint32_t edition)
     printf("pairs without a difference %" PRIu64 ", with one %" PRIu64
            "; the most entries %" PRIu64 "\n",
            seen->same, seen->one, seen->most);
-    return fine && seen->longest == LISTING_MOST && seen->same > 0 && seen->one > 0 &&
-           seen->most == (up ? MOST_ENTRIES : MOST_ENTRIES_2);
+    return fine && seen->passed_by > 0 && seen->longest == LISTING_MOST && seen->same > 0 &&
+           seen->one > 0 && seen->most == (up ? MOST_ENTRIES : MOST_ENTRIES_2);
 }
 
 static int run_all(comparison *at, const scale *to)
@@ -1241,8 +1371,10 @@ static int run_all(comparison *at, const scale *to)
     printf("moves done in runs: %" PRIu64 " up, %" PRIu64 " down, %" PRIu64
            " requests waiting in them\n",
            at->moved_in_runs[0], at->moved_in_runs[1], at->waited_in_moves);
+    printf("calls in runs with many locks: %" PRIu64 "\n", at->lock_calls);
     return fine && at->moved_in_runs[0] > 0 && at->moved_in_runs[1] > 0 &&
-           at->waited_in_moves > 0 && at->pairs >= to->least_pairs;
+           at->waited_in_moves > 0 && at->pairs >= to->least_pairs &&
+           at->lock_calls >= to->least_locks;
 }
 
 int main(int count, char **words)
