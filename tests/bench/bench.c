@@ -3,7 +3,12 @@
  * the moves, and the comparison of a table with the one before its last call. The floor is
  * reading the table's bytes once (of a comparison: both tables' bytes). Medians of many rounds, in
  * each of which all take turns; what counts are the ratios. The rows of edition 1 are drawn
- * as they were before there was an edition 2, without high words.
+ * as they were before there was an edition 2, without high words. Priority inheritance changes
+ * none of the runs that these rows are recorded from, so their calls are those of before
+ * M-108; it has rows of its own.
+ *
+ * The last lines look for the worst call, on tables of every family that the generator draws,
+ * damaged ones among them: it may take at most 20 times as long as a mixed call.
  *
  * The second program is timed over bytes, as the kernel is, and over its own
  * words, where it has no bytes to turn into words. */
@@ -186,6 +191,84 @@ static load draw_neighbours(const char *name, const load *from)
         memcmp(it.after, it.words, bytes_of(&it)) == 0) {
         fprintf(stderr, "bench: %s: nothing changed\n", name);
         exit(1);
+    }
+    lay_bytes(&it);
+    return it;
+}
+
+static uint32_t call_on(load *it, const uint32_t *call)
+{
+    second_reply reply = second_call(it->words, it->form->words, call);
+
+    if (reply.refusal != ACCEPTED) {
+        fprintf(stderr, "bench: %s: service %" PRIu32 " is refused\n", it->name, call[C_SERVICE]);
+        exit(1);
+    }
+    return reply.next;
+}
+
+/* 16 tasks, ever more urgent, each with a lock of its own but the last; so many of them are a
+ * chain, each waiting for the lock of the one before it. The others sleep, and the head runs. */
+static load draw_chain(const char *name, const layout *form, uint32_t length)
+{
+    load it = {.name = name, .form = form, .hubs = HUBS};
+
+    call_on(&it, (uint32_t[CALL_NUMBERS]){BLANK});
+    for (uint32_t hub = 0; hub < HUBS - 1; hub++)
+        call_on(&it, (uint32_t[CALL_NUMBERS]){ADD_HUB, 0, RESOURCE, 0, 0, 1});
+    call_on(&it, (uint32_t[CALL_NUMBERS]){ADD_HUB, 0, SEMAPHORE, 0, 0, 4});
+    for (uint32_t task = 0; task < TASKS; task++) {
+        call_on(&it, (uint32_t[CALL_NUMBERS]){ADD_TASK, 0, 200 - task, 1});
+        if (task < HUBS - 1)
+            call_on(&it, (uint32_t[CALL_NUMBERS]){HUB_REQUEST, task, task, GET, W});
+        if (task > 0 && task < length)
+            call_on(&it, (uint32_t[CALL_NUMBERS]){HUB_REQUEST, task, task - 1, GET, W});
+        else if (task > 0)
+            call_on(&it, (uint32_t[CALL_NUMBERS]){SLEEP, task, 0, 0, 0, TICKS_MAX});
+    }
+    return it;
+}
+
+/* Calls that leave who waits for whom: what the head does beside its lock, and Ticks. */
+static load draw_beside(const char *name, const layout *form, uint32_t length)
+{
+    static const uint32_t beside[][CALL_NUMBERS] = {
+        {YIELD, 0},
+        {HUB_REQUEST, 0, HUBS - 1, PUT, W},
+        {HUB_REQUEST, 0, HUBS - 1, GET, W},
+        {TICK},
+        {HUB_REQUEST, 0, 1, GET, NW},
+        {SUSPEND, 0, 7},
+        {RESUME, 0, 7},
+        {START, 0, 7},
+    };
+    load it = draw_chain(name, form, length), after;
+
+    after = it;
+    for (it.count = 0; it.count < CALLS; it.count++) {
+        memcpy(it.calls[it.count], beside[it.count % 8], sizeof it.calls[0]);
+        call_on(&after, it.calls[it.count]);
+    }
+    lay_bytes(&it);
+    return it;
+}
+
+/* The last of a chain of 16 times out, waits again, and so on: each call changes the effective
+ * priorities of the 15 others. */
+static load draw_changing(const char *name, const layout *form)
+{
+    load it = draw_chain(name, form, TASKS), after;
+
+    it.words[task_place(it.words, TASKS - 1) + T_TICKS] = 1;
+    after = it;
+    for (it.count = 0; it.count < CALLS; it.count++) {
+        const uint32_t again[CALL_NUMBERS] = {HUB_REQUEST, TASKS - 1, TASKS - 2, GET, WT, 1};
+        memcpy(it.calls[it.count], it.count % 2 == 0 ? (const uint32_t[CALL_NUMBERS]){TICK} : again,
+               sizeof again);
+        if (call_on(&after, it.calls[it.count]) != (it.count % 2 == 0 ? TASKS : 1)) {
+            fprintf(stderr, "bench: %s: another task is next\n", name);
+            exit(1);
+        }
     }
     lay_bytes(&it);
     return it;
@@ -393,7 +476,8 @@ static double median(uint64_t *times, uint32_t rounds)
     return (double)times[rounds / 2] / CALLS;
 }
 
-static void measure(const load *it, const work sides[SIDES], uint32_t rounds)
+/* Prints a row; gives what a call of the kernel took. */
+static double measure(const load *it, const work sides[SIDES], uint32_t rounds)
 {
     static uint64_t times[SIDES][ROUNDS_MAX];
     double took[SIDES];
@@ -420,6 +504,97 @@ static void measure(const load *it, const work sides[SIDES], uint32_t rounds)
            took[SECOND_BYTES], took[SECOND_WORDS], took[FLOOR], took[KERNEL] / took[SECOND_BYTES],
            took[KERNEL] / took[SECOND_WORDS], took[KERNEL] / took[FLOOR]);
     fflush(stdout);
+    return took[KERNEL];
+}
+
+/* ---- The worst call ---------------------------------------------------- */
+
+enum { WORST_TABLES = 20, WORST_TRIES = 15, WORST_MOST = 20 };
+
+/* The least of some tries, each on the table anew: what the call takes when nothing else
+ * comes between. */
+static double least_time(const uint32_t *words, size_t length, const uint32_t *call)
+{
+    uint8_t bytes[BYTES_MOST];
+    uint64_t least = UINT64_MAX;
+    static volatile uint32_t sum; /* no work can be left out */
+
+    for (int try = 0; try < WORST_TRIES; try++) {
+        for (size_t i = 0; i < length; i++)
+            bytes[i] = (uint8_t)(words[i / 4] >> i % 4 * 8);
+        uint64_t since = nanoseconds();
+        sum += hub_kernel_call(bytes, length, call[0], call[1], call[2], call[3], call[4], call[5],
+                               call[6], call[7]).next;
+        uint64_t took = nanoseconds() - since;
+        least = took < least ? took : least;
+    }
+    return (double)least;
+}
+
+typedef void (*draw_call)(gen_random *, uint32_t, uint32_t *, uint32_t *);
+
+static const struct {
+    const char *name;
+    draw_call draw;
+} with_calls[] = {
+    {"stops", gen_stop},   {"boards", gen_board}, {"pools", gen_pool},
+    {"queues", gen_queue}, {"chains", gen_chain},
+};
+enum { WITH_CALLS = sizeof with_calls / sizeof *with_calls, OTHERS = WITH_CALLS + 3 };
+
+/* A table of that family, and a call on it: damaged ones first, then what well-formed ones
+ * there are. */
+static const char *draw_family(gen_random *random, uint32_t edition, size_t family, uint32_t *words,
+                               uint32_t *call)
+{
+    size_t well_formed = family - gen_damages(edition);
+    uint32_t other[WORDS_MOST];
+    gen_mood mood;
+
+    memcpy(call, (uint32_t[CALL_NUMBERS]){TICK}, CALL_NUMBERS * sizeof *call);
+    if (family < gen_damages(edition)) {
+        gen_damaged(random, edition, family, words);
+        return gen_damage_name(family);
+    }
+    if (well_formed < WITH_CALLS) {
+        with_calls[well_formed].draw(random, edition, words, call);
+        return with_calls[well_formed].name;
+    }
+    if (well_formed == WITH_CALLS) {
+        gen_apart(random, edition, words, other);
+        return "all words apart";
+    }
+    if (well_formed == WITH_CALLS + 1)
+        gen_set_up(random, edition, words);
+    else
+        gen_table(random, edition, words);
+    gen_draw_mood(random, &mood);
+    gen_call(random, &mood, words, call);
+    return well_formed == WITH_CALLS + 1 ? "set-ups" : "tables";
+}
+
+/* Whether the worst call is within the bound. `mixed` is what a mixed call takes. */
+static int measure_worst(const layout *form, double mixed)
+{
+    size_t families = gen_damages(form->edition) + OTHERS;
+    uint32_t words[WORDS_MOST], call[CALL_NUMBERS];
+    const char *worst = "";
+    gen_random random;
+    double most = 0;
+
+    gen_seed(&random, form->edition);
+    for (size_t i = 0; i < WORST_TABLES * families; i++) {
+        const char *name = draw_family(&random, form->edition, i % families, words, call);
+        double took = least_time(words, 4 * (size_t)form->words, call);
+        if (took > most) {
+            most = took;
+            worst = name;
+        }
+    }
+    printf("the worst call, edition %" PRIu32 ": %.0f ns, %.2f times a mixed one (at most %d), "
+           "of %zu families: %s\n",
+           form->edition, most, most / mixed, (int)WORST_MOST, families, worst);
+    return most <= WORST_MOST * mixed;
 }
 
 /* The kernel's side alone, for a counter of instructions around the program. */
@@ -451,7 +626,7 @@ typedef struct {
 } row;
 
 enum { ROWS_OF_EDITION = 8, MOVES_AT = 2 * ROWS_OF_EDITION, COMPARES_AT = MOVES_AT + 2 };
-enum { ROWS = COMPARES_AT + 2 };
+enum { LOCK_ROWS = 4, LOCKS_AT = COMPARES_AT + 2, ROWS = LOCKS_AT + EDITIONS * LOCK_ROWS };
 
 static void named(row *to, const load *of, const char *name, const work *sides)
 {
@@ -477,18 +652,37 @@ static void draw_rows(row *rows, const layout *form)
     named(&rows[7], &fifteen, "summary of a list of fifteen", summaries);
 }
 
-static void print_edition(const row *rows, uint32_t rounds)
+/* The chains: the same calls on all but the last. */
+static void draw_lock_rows(row *rows, const layout *form)
 {
+    load none = draw_beside("none", form, 1), three = draw_beside("three", form, 3);
+    load all = draw_beside("all", form, TASKS), changing = draw_changing("changing", form);
+
+    named(&rows[0], &none, "calls, no lock waited for", calls);
+    named(&rows[1], &three, "calls, a chain of 3", calls);
+    named(&rows[2], &all, "calls, a chain of 16", calls);
+    named(&rows[3], &changing, "calls, a chain of 16, 15 change", calls);
+}
+
+/* Gives what a call of the kernel took in the first row, the mixed calls. */
+static double print_edition(const row *rows, uint32_t rounds)
+{
+    double mixed;
+
     printf("edition %" PRIu32 "; longest waiting list, mean over the calls: %.1f at 8/8, %.1f at 16/16\n",
            rows->of.form->edition, (double)rows[0].of.entries / CALLS,
            (double)rows[1].of.entries / CALLS);
-    for (int i = 0; i < ROWS_OF_EDITION; i++)
+    mixed = measure(&rows[0].of, rows[0].sides, rounds);
+    for (int i = 1; i < ROWS_OF_EDITION; i++)
         measure(&rows[i].of, rows[i].sides, rounds);
+    return mixed;
 }
 
 int main(int count, char **words)
 {
-    static row rows[ROWS]; /* edition 1, edition 2, the moves, the comparisons */
+    static row rows[ROWS]; /* edition 1, edition 2, the moves, the comparisons, the locks */
+    double mixed[EDITIONS];
+    int fine = 1;
     long rounds = count == 2 || count == 3 ? atol(words[1]) : 0;
     long alone = count == 3 ? atol(words[2]) : 0;
 
@@ -507,6 +701,7 @@ int main(int count, char **words)
         load neighbours = draw_neighbours("neighbours", &rows[i * ROWS_OF_EDITION + 1].of);
         named(&rows[COMPARES_AT + i], &neighbours,
               i == 0 ? "neighbours, 16/16, edition 1" : "neighbours, 16/16, edition 2", compares);
+        draw_lock_rows(rows + LOCKS_AT + i * LOCK_ROWS, &layouts[i]);
     }
 
     if (alone != 0) {
@@ -517,13 +712,22 @@ int main(int count, char **words)
     printf("%-37s %35s  %26s\n", "", "ns a call", "kernel's time over");
     printf("%-37s %8s %8s %8s %8s  %8s %8s %8s\n", "", "kernel", "C bytes", "C words", "floor",
            "C bytes", "C words", "floor");
-    print_edition(rows, (uint32_t)rounds);
-    print_edition(rows + ROWS_OF_EDITION, (uint32_t)rounds);
+    for (int i = 0; i < EDITIONS; i++)
+        mixed[i] = print_edition(rows + i * ROWS_OF_EDITION, (uint32_t)rounds);
     printf("moves\n");
     for (int i = MOVES_AT; i < COMPARES_AT; i++)
         measure(&rows[i].of, rows[i].sides, (uint32_t)rounds);
     printf("comparisons\n");
-    for (int i = COMPARES_AT; i < ROWS; i++)
+    for (int i = COMPARES_AT; i < LOCKS_AT; i++)
         measure(&rows[i].of, rows[i].sides, (uint32_t)rounds);
-    return 0;
+    for (int i = LOCKS_AT; i < ROWS; i++) {
+        if ((i - LOCKS_AT) % LOCK_ROWS == 0)
+            printf("locks, edition %d\n", (i - LOCKS_AT) / LOCK_ROWS + 1);
+        measure(&rows[i].of, rows[i].sides, (uint32_t)rounds);
+    }
+    for (int i = 0; i < EDITIONS; i++)
+        fine = measure_worst(&layouts[i], mixed[i]) && fine;
+    if (!fine)
+        printf("bench: FAILED, a call takes more than %d times a mixed one\n", (int)WORST_MOST);
+    return fine ? 0 : 1;
 }
