@@ -56,53 +56,46 @@ static size_t store_words(const uint32_t *table)
 
 /* ---- Effective priorities ---------------------------------------------- */
 
-/* The owner of the Resource that the task waits for, plus 1, or 0. */
-static uint32_t waits_for(const uint32_t *table, uint32_t number)
+/* From own priorities makes effective ones (M-108): the smallest own priority among a task and
+ * all that wait, directly or through others, for a Resource it owns. Whoever waits for a lock
+ * hands its number on to the owner, and the owner in turn, until nobody has a smaller one to
+ * hand on; numbers only fall, so a ring of locks ends too. Asked of a table in which all but
+ * the order of the lists is right. */
+static void hand_on(const uint32_t *table, uint32_t priority[TASKS])
 {
-    const uint32_t *task = table + task_place(table, number);
+    uint32_t owner[TASKS] = {0}; /* of the lock that the task waits for, plus 1 */
+    int more = 0;
 
-    if (task[T_STATE] != WAITING)
-        return 0;
-    const uint32_t *hub = table + hub_place(table, task[T_HUB] - 1);
-    return hub[H_KIND] == RESOURCE ? hub[H_COUNT] : 0;
-}
-
-/* The smallest own priority among each task and all that wait for it, directly or through
- * others (M-108). Whoever waits hands its number on to the owner that it waits for, and the
- * owner in turn, until nobody has a smaller one to hand on; numbers only fall, so a ring of
- * locks ends too. Asked of a table in which all but the order of the lists is right. */
-static void effective_priorities(const uint32_t *table, uint32_t effective[TASKS])
-{
-    uint32_t waiter[TASKS], owner[TASKS], links = 0;
-    int more;
-
-    for (uint32_t task = 0; task < table[TASKS_IN_USE_AT]; task++) {
-        uint32_t awaited = waits_for(table, task);
-        effective[task] = table[task_place(table, task) + T_PRIORITY];
-        if (awaited != 0) {
-            waiter[links] = task;
-            owner[links++] = awaited - 1;
-        }
+    for (uint32_t number = 0; number < table[HUBS_IN_USE_AT]; number++) {
+        const uint32_t *hub = table + hub_place(table, number);
+        const uint32_t *list = table + list_place(table, number);
+        if (hub[H_KIND] != RESOURCE)
+            continue;
+        for (size_t i = 0; i < LIST_WORDS && list[i] != 0; i++)
+            owner[list[i] - 1] = hub[H_COUNT], more = 1;
     }
-    do {
+    while (more) {
         more = 0;
-        for (uint32_t i = 0; i < links; i++)
-            if (effective[waiter[i]] < effective[owner[i]]) {
-                effective[owner[i]] = effective[waiter[i]];
+        for (uint32_t task = 0; task < table[TASKS_IN_USE_AT]; task++)
+            if (owner[task] != 0 && priority[task] < priority[owner[task] - 1]) {
+                priority[owner[task] - 1] = priority[task];
                 more = 1;
             }
-    } while (more);
+    }
 }
 
 /* ---- Well formed ------------------------------------------------------- */
 
 /* What one pass over the task records tells the walk of the hubs and lists: sets
- * of tasks, bit i for task i. */
+ * of tasks, bit i for task i, and own priorities. The walk notes whether these fall along a
+ * list, and whether a task waits for a lock. */
 typedef struct {
     uint32_t inactive;
     uint32_t ready;
     uint32_t putters;
     uint32_t waiters[HUBS];
+    uint32_t *priority;
+    int falls, locks;
 } census;
 
 /* No early way out: the loop is short and the compiler makes it wide. */
@@ -173,6 +166,7 @@ static int task_clause(const uint32_t *table, uint32_t number, census *seen)
 
     if (task[T_SUSPENDED] > 1 || task[T_PRIORITY] > PRIORITY_MAX)
         return SECOND_TASK_RANGE;
+    seen->priority[number] = task[T_PRIORITY];
     switch (task[T_STATE]) {
     case INACTIVE:
         if ((task[T_SUSPENDED] | task[T_HUB] | task[T_TICKS] | task[T_SIDE] | word | answer) != 0)
@@ -201,10 +195,12 @@ static int task_clause(const uint32_t *table, uint32_t number, census *seen)
     }
 }
 
-/* The list has exactly these members, each once, then zeros. Each entry strikes its task
- * off the members still to come, so the walk is as long as the set and needs no count. */
-static int list_clause(const uint32_t *list, uint32_t members, int wrong)
+/* The list has exactly these members, each once, then zeros. Each entry
+ * strikes its task off the members still to come, so the walk is as long as the set and
+ * needs no count. Whether own priority numbers fall is noted on the way. */
+static int list_clause(const uint32_t *list, uint32_t members, int wrong, census *seen)
 {
+    uint32_t priority = 0, falls = 0;
     size_t length = 0;
 
     if (members == 0)
@@ -214,24 +210,26 @@ static int list_clause(const uint32_t *list, uint32_t members, int wrong)
         if (task >= TASKS || (members >> task & 1) == 0)
             return wrong;
         members ^= UINT32_C(1) << task;
+        falls |= seen->priority[task] < priority;
+        priority = seen->priority[task];
     }
+    seen->falls |= (int)falls;
     while (length < LIST_WORDS)
         if (list[length++] != 0)
             return wrong;
     return SECOND_RIGHT;
 }
 
-/* The effective priority numbers rise along the list, which has the tasks it should have. */
-static int order_clause(const uint32_t *list, const uint32_t effective[TASKS])
+/* Along a list that has its tasks these numbers fall. */
+static int list_falls(const uint32_t *list, const uint32_t priority[TASKS])
 {
-    uint32_t priority = 0;
+    uint32_t last = 0, falls = 0;
 
     for (size_t i = 0; i < LIST_WORDS && list[i] != 0; i++) {
-        if (effective[list[i] - 1] < priority)
-            return SECOND_ORDER;
-        priority = effective[list[i] - 1];
+        falls |= priority[list[i] - 1] < last;
+        last = priority[list[i] - 1];
     }
-    return SECOND_RIGHT;
+    return (int)falls;
 }
 
 /* The kinds table, limit and start. */
@@ -294,7 +292,7 @@ static int memory_clause(const uint32_t *table, uint32_t number)
     return hub[H_COUNT] + out == hub[H_LIMIT] ? SECOND_RIGHT : SECOND_BLOCKS;
 }
 
-static int hub_clause(const uint32_t *table, uint32_t number, const census *seen)
+static int hub_clause(const uint32_t *table, uint32_t number, census *seen)
 {
     const uint32_t *hub = table + hub_place(table, number);
     uint32_t waiters = seen->waiters[number], putters = waiters & seen->putters;
@@ -308,10 +306,11 @@ static int hub_clause(const uint32_t *table, uint32_t number, const census *seen
         return SECOND_OWNER;
 
     const uint32_t *list = table + list_place(table, number);
-    int clause = list_clause(list, waiters, SECOND_WAITING_LIST);
+    int clause = list_clause(list, waiters, SECOND_WAITING_LIST, seen);
     if (clause != SECOND_RIGHT)
         return clause;
     if (waiters != 0) {
+        seen->locks |= hub[H_KIND] == RESOURCE;
         if (putters != 0 && putters != waiters)
             return SECOND_ONE_SIDE;
         if (putters == 0 && !getters_may_wait(hub, waiters))
@@ -327,12 +326,24 @@ static int hub_clause(const uint32_t *table, uint32_t number, const census *seen
     return all_zero(table + behind, end - behind) ? SECOND_RIGHT : SECOND_STORE;
 }
 
-/* Gives the effective priorities, too, of a table that is right but for its order. They are
- * asked for when each list is known to have its tasks, and only then the order. */
+/* Each list has its tasks when this is asked. Own priorities become effective ones, which are
+ * the same where nobody waits for a lock, and then the walk has noted it. */
+static int order_clause(const uint32_t *table, census *seen)
+{
+    if (seen->locks) {
+        hand_on(table, seen->priority);
+        seen->falls = list_falls(table + ready_place(table), seen->priority);
+        for (uint32_t hub = 0; hub < table[HUBS_IN_USE_AT]; hub++)
+            seen->falls |= list_falls(table + list_place(table, hub), seen->priority);
+    }
+    return seen->falls ? SECOND_ORDER : SECOND_RIGHT;
+}
+
+/* Gives the effective priorities, too, of a table that is right but for its order. */
 static int first_broken(const uint32_t *table, size_t words, uint32_t effective[TASKS])
 {
     const layout *of = layout_for(words);
-    census seen = {0, 0, 0, {0}};
+    census seen = {0, 0, 0, {0}, effective, 0, 0};
     int clause;
 
     if (of == NULL)
@@ -347,14 +358,8 @@ static int first_broken(const uint32_t *table, size_t words, uint32_t effective[
     for (uint32_t hub = 0; hub < table[HUBS_IN_USE_AT]; hub++)
         if ((clause = hub_clause(table, hub, &seen)) != SECOND_RIGHT)
             return clause;
-    if ((clause = list_clause(table + ready_place(table), seen.ready, SECOND_READY_LIST)) !=
-        SECOND_RIGHT)
-        return clause;
-    effective_priorities(table, effective);
-    for (uint32_t hub = 0; hub < table[HUBS_IN_USE_AT]; hub++)
-        if ((clause = order_clause(table + list_place(table, hub), effective)) != SECOND_RIGHT)
-            return clause;
-    return order_clause(table + ready_place(table), effective);
+    clause = list_clause(table + ready_place(table), seen.ready, SECOND_READY_LIST, &seen);
+    return clause == SECOND_RIGHT ? order_clause(table, &seen) : clause;
 }
 
 int second_well_formed(const uint32_t *table, size_t words)
@@ -974,8 +979,17 @@ static void serve(uint32_t *table, const uint32_t *call)
 /* The first so many tasks' records get these numbers as priorities. */
 static void wear(uint32_t *table, uint32_t tasks, const uint32_t priority[TASKS])
 {
+    uint32_t *place = table + task_place(table, 0) + T_PRIORITY;
+    size_t words = layout_of(table)->task_words;
+
+    for (uint32_t task = 0; task < tasks; task++, place += words)
+        *place = priority[task];
+}
+
+static void own_priorities(const uint32_t *table, uint32_t tasks, uint32_t own[TASKS])
+{
     for (uint32_t task = 0; task < tasks; task++)
-        table[task_place(table, task) + T_PRIORITY] = priority[task];
+        own[task] = table[task_place(table, task) + T_PRIORITY];
 }
 
 static void join_any_list(uint32_t *table, uint32_t number)
@@ -1007,12 +1021,14 @@ static void serve_in_order(uint32_t *table, const uint32_t *call, const uint32_t
 {
     uint32_t own[TASKS], new[TASKS], tasks = table[TASKS_IN_USE_AT];
 
-    for (uint32_t task = 0; task < tasks; task++)
-        own[task] = table[task_place(table, task) + T_PRIORITY];
+    own_priorities(table, tasks, own);
     wear(table, tasks, old);
     serve(table, call);
     wear(table, tasks, own);
-    effective_priorities(table, new);
+    own_priorities(table, tasks, new);
+    hand_on(table, new);
+    if (memcmp(new, old, tasks * sizeof *new) == 0)
+        return;
     wear(table, tasks, new);
     put_back(table, tasks, old, new);
     wear(table, tasks, own);

@@ -1,3 +1,3 @@
 # A suspended waiter hands nothing on.
 # Demand 3 alone catches it.
-/^static uint32_t waits_for/,/^}/s/!= WAITING)/!= WAITING || task[T_SUSPENDED] != 0)/
+/^static void hand_on/,/^}/s/^            owner\[list/            if (table[task_place(table, list[i] - 1) + T_SUSPENDED] == 0) owner[list/

@@ -1,3 +1,3 @@
 # A suspended owner inherits nothing.
 # Demand 3 alone catches it.
-/^static void effective_priorities/,/^}/s/if (effective\[waiter/if (table[task_place(table, owner[i]) + T_SUSPENDED] == 0 \&\& effective[waiter/
+/^static void hand_on/,/^}/s/if (owner\[task\] != 0 &&/if (owner[task] != 0 \&\& table[task_place(table, owner[task] - 1) + T_SUSPENDED] == 0 \&\&/

@@ -1,2 +1,2 @@
 # A sleeping owner inherits nothing.
-/^static void effective_priorities/,/^}/s/if (effective\[waiter/if (table[task_place(table, owner[i]) + T_STATE] != SLEEPING \&\& effective[waiter/
+/^static void hand_on/,/^}/s/if (owner\[task\] != 0 &&/if (owner[task] != 0 \&\& table[task_place(table, owner[task] - 1) + T_STATE] != SLEEPING \&\&/

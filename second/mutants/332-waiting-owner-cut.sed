@@ -1,2 +1,2 @@
 # An owner who waits for something else than a lock inherits nothing.
-/^static void effective_priorities/,/^}/s/if (effective\[waiter/if ((table[task_place(table, owner[i]) + T_STATE] != WAITING || waits_for(table, owner[i]) != 0) \&\& effective[waiter/
+/^static void hand_on/,/^}/s/if (owner\[task\] != 0 &&/if (owner[task] != 0 \&\& (table[task_place(table, owner[task] - 1) + T_STATE] != WAITING || owner[owner[task] - 1] != 0) \&\&/

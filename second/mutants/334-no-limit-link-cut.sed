@@ -1,3 +1,3 @@
 # A request under W hands nothing on.
 # Demand 3 alone catches it.
-/^static uint32_t waits_for/,/^}/s/!= WAITING)/!= WAITING || task[T_TICKS] == 0)/
+/^static void hand_on/,/^}/s/^            owner\[list/            if (table[task_place(table, list[i] - 1) + T_TICKS] != 0) owner[list/

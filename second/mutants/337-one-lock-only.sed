@@ -1,3 +1,3 @@
 # Of an owner only the lock of the lowest number counts.
 # Demand 3 alone catches it.
-/^static void effective_priorities/,/^}/s/^        if (awaited != 0) {/        uint32_t lower = 0; while (lower < table[HUBS_IN_USE_AT] \&\& !(table[hub_place(table, lower) + H_KIND] == RESOURCE \&\& table[hub_place(table, lower) + H_COUNT] == awaited)) lower++; if (awaited != 0 \&\& table[task_place(table, task) + T_HUB] == lower + 1) {/
+/^static void hand_on/,/^}/s/^        if (hub\[H_KIND\] != RESOURCE)/        int lower = 0; for (uint32_t other = 0; other < number; other++) lower |= table[hub_place(table, other) + H_KIND] == RESOURCE \&\& table[hub_place(table, other) + H_COUNT] == hub[H_COUNT]; if (hub[H_KIND] != RESOURCE || lower)/

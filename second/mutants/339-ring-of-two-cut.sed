@@ -1,2 +1,2 @@
 # In a ring of two nobody hands on.
-/^static void effective_priorities/,/^}/s/if (effective\[waiter/if (waits_for(table, owner[i]) != waiter[i] + 1 \&\& effective[waiter/
+/^static void hand_on/,/^}/s/if (owner\[task\] != 0 &&/if (owner[task] != 0 \&\& owner[owner[task] - 1] != task + 1 \&\&/

@@ -1,2 +1,2 @@
-# Who is in a ring inherits nothing.
-/^static void effective_priorities/,/^}/s/^        if (awaited != 0) {/        uint32_t at = task, steps = 0; while (steps < TASKS \&\& waits_for(table, at) != 0 \&\& (at = waits_for(table, at) - 1) != task) steps++; if (awaited != 0 \&\& (at != task || steps == TASKS)) {/
+# In a ring nobody hands on.
+/^static void hand_on/,/^}/s/if (owner\[task\] != 0 &&/if (({ uint32_t at = task, steps = 0; while (steps < TASKS \&\& owner[at] != 0 \&\& (at = owner[at] - 1) != task) steps++; owner[task] != 0 \&\& (at != task || steps == TASKS); }) \&\&/

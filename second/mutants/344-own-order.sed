@@ -1,2 +1,2 @@
-# The order of lists, and who joins where, is by own priority.
-/^static int first_broken/,/^}/s/^    effective_priorities(table, effective);/    for (uint32_t task = 0; task < table[TASKS_IN_USE_AT]; task++) effective[task] = table[task_place(table, task) + T_PRIORITY];/
+# Well formed orders lists, and a call joins, by own priority.
+/^static int order_clause/,/^}/s/if (seen->locks) {/if (0) {/

@@ -1,2 +1,2 @@
-# Well formed lets a hub list fall.
-/^static int first_broken/,/^}/s/if ((clause = order_clause(table + list_place(table, hub), effective)) /if ((clause = SECOND_RIGHT) /
+# Well formed lets a hub list fall by inherited priorities.
+/^static int order_clause/,/^}/s/seen->falls |= list_falls(.*/(void)hub;/

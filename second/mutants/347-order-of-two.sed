@@ -1,2 +1,2 @@
 # Well formed looks at the first two entries only.
-/^static int order_clause/,/^}/s/i < LIST_WORDS/i < 2/
+/^static int list_falls/,/^}/s/i < LIST_WORDS/i < 2/

@@ -1,2 +1,2 @@
 # Well formed does not look at the last place of a list.
-/^static int order_clause/,/^}/s/i < LIST_WORDS/i + 1 < LIST_WORDS/
+/^static int list_clause/,/^}/s/falls |= seen/falls |= length < LIST_WORDS \&\& seen/

@@ -1,3 +1,3 @@
 # Task 0 inherits nothing.
 # Demand 3 alone catches it.
-/^static void effective_priorities/,/^}/s/if (awaited != 0) {/if (awaited > 1) {/
+/^static void hand_on/,/^}/s/if (owner\[task\] != 0 &&/if (owner[task] > 1 \&\&/

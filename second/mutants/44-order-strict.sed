@@ -1,2 +1,2 @@
 # Well formed wants equal priorities never.
-/^static int order_clause/,/^}/s/- 1\] < priority)/- 1] <= priority)/
+/^static int list_clause/,/^}/s/\] < priority;/] <= priority;/

@@ -1,2 +1,2 @@
 # Well formed lets a list fall.
-/^static int order_clause/,/^}/s/- 1\] < priority)/- 1] + PRIORITY_MAX < priority)/
+/^static int list_clause/,/^}/s/\] < priority;/] + PRIORITY_MAX < priority;/
