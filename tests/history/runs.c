@@ -18,6 +18,8 @@
  * slips of M-105, 138 to 213, 20 show; most others are of lengths, bytes and damaged tables,
  * which no run has.
  *
+ * M-108 changes none of them: calls, classes and words are those of before.
+ *
  * The program fails unless all runs together have every class, meetings alone and with a
  * waiter, an update that meets more than one, every service, the refusals 3 to 6 and every
  * kind of hub, and unless each of the last two shows what moved_shown asks. */
