@@ -816,36 +816,27 @@ static int some_lock_awaited(const uint32_t *table)
     return 0;
 }
 
-/* The effective priority: the least own one of all from whom a way of owners leads here. */
-static uint32_t urgency(const uint32_t *table, uint32_t task)
-{
-    uint32_t least = task_word(table, task, T_PRIORITY), locks = 0;
-
-    for (uint32_t hub = 0; hub < table[HUBS_IN_USE_AT]; hub++)
-        locks += owns(table, task, hub) && table[list_place(table, hub)] != 0;
-    for (uint32_t other = 0; locks > 0 && other < table[TASKS_IN_USE_AT]; other++) {
-        uint32_t at = other;
-        for (int steps = 0; steps < TASKS && at != task && at != NOBODY_AWAITED; steps++)
-            at = awaited(table, at);
-        if (at == task && task_word(table, other, T_PRIORITY) < least)
-            least = task_word(table, other, T_PRIORITY);
-    }
-    return least;
-}
-
-/* What the rows read of a table: effective priorities, the longest chain and ring, and per
- * task how many tasks wait for it directly. */
+/* What the rows read of a table: whom each task waits for, or NOBODY_AWAITED, effective
+ * priorities, the longest chain and ring, and how many wait for each task directly. */
 typedef struct {
-    uint32_t least[TASKS], waiters[TASKS], longest, ring;
+    uint32_t owner[TASKS], least[TASKS], waiters[TASKS], longest, ring;
 } standing;
 
+/* The effective priority is the least own one of all from whom a way of owners leads to a
+ * task: each goes its way, up to where it has been. */
 static void read_standing(standing *of, const uint32_t *table)
 {
+    uint32_t tasks = table[TASKS_IN_USE_AT];
+
     memset(of, 0, sizeof *of);
-    for (uint32_t task = 0; task < table[TASKS_IN_USE_AT]; task++) {
-        uint32_t at = task, seen = 0, length = 0;
-        of->least[task] = urgency(table, task);
-        for (; at != NOBODY_AWAITED && (seen >> at & 1) == 0; at = awaited(table, at)) {
+    for (uint32_t task = 0; task < tasks; task++) {
+        of->owner[task] = awaited(table, task);
+        of->least[task] = task_word(table, task, T_PRIORITY);
+    }
+    for (uint32_t task = 0; task < tasks; task++) {
+        uint32_t at = task, seen = 0, length = 0, own = task_word(table, task, T_PRIORITY);
+        for (; at != NOBODY_AWAITED && (seen >> at & 1) == 0; at = of->owner[at]) {
+            of->least[at] = own < of->least[at] ? own : of->least[at];
             seen |= UINT32_C(1) << at;
             length++;
         }
@@ -853,9 +844,22 @@ static void read_standing(standing *of, const uint32_t *table)
             of->longest = length;
         if (at == task && length > of->ring)
             of->ring = length;
-        if (awaited(table, task) != NOBODY_AWAITED)
-            of->waiters[awaited(table, task)]++;
+        if (of->owner[task] != NOBODY_AWAITED)
+            of->waiters[of->owner[task]]++;
     }
+}
+
+static uint32_t urgency(const uint32_t *table, uint32_t task)
+{
+    standing of;
+    uint32_t locks = 0;
+
+    for (uint32_t hub = 0; hub < table[HUBS_IN_USE_AT]; hub++)
+        locks += owns(table, task, hub) && table[list_place(table, hub)] != 0;
+    if (locks == 0)
+        return task_word(table, task, T_PRIORITY);
+    read_standing(&of, table);
+    return of.least[task];
 }
 
 static int falls_by_own(const uint32_t *table, const uint32_t *list)
@@ -917,11 +921,11 @@ static void cover_heirs(cover *seen, const uint32_t *table, const standing *of, 
                HEIR_2_WAITERS);
     }
     for (uint32_t task = 0; task < table[TASKS_IN_USE_AT]; task++) {
-        uint32_t locks = 0, direct = UINT32_MAX, owner = awaited(table, task);
-        for (uint32_t hub = 0; hub < table[HUBS_IN_USE_AT]; hub++)
+        uint32_t locks = 0, direct = UINT32_MAX, owner = of->owner[task];
+        for (uint32_t hub = 0; of->waiters[task] > 0 && hub < table[HUBS_IN_USE_AT]; hub++)
             locks += owns(table, task, hub) && table[list_place(table, hub)] != 0;
-        for (uint32_t other = 0; other < table[TASKS_IN_USE_AT]; other++)
-            if (awaited(table, other) == task && task_word(table, other, T_PRIORITY) < direct)
+        for (uint32_t other = 0; of->waiters[task] > 0 && other < table[TASKS_IN_USE_AT]; other++)
+            if (of->owner[other] == task && task_word(table, other, T_PRIORITY) < direct)
                 direct = task_word(table, other, T_PRIORITY);
         hit_if(seen, locks == 2, HEIR_2_LOCKS);
         hit_if(seen, locks > 2, HEIR_3_LOCKS);

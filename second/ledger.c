@@ -47,31 +47,7 @@ static int stop_removes_owner(const uint32_t *before, const uint32_t *call, seco
 
 /* ---- Urgency ----------------------------------------------------------- */
 
-/* The smallest own priority among a task and all that wait for it: it asks each waiter of
- * each of its Resources, who asks in turn, but for those in `asked`, who are being asked. */
-static uint32_t most_urgent(const uint32_t *table, uint32_t task, uint32_t asked)
-{
-    uint32_t least = task_word(table, task, T_PRIORITY);
-
-    asked |= UINT32_C(1) << task;
-    for (uint32_t other = 0; other < table[TASKS_IN_USE_AT]; other++) {
-        if (!waits(table, other) || (asked >> other & 1) != 0)
-            continue;
-        const uint32_t *hub = table + hub_place(table, task_word(table, other, T_HUB) - 1);
-        if (hub[H_KIND] != RESOURCE || hub[H_COUNT] != task + 1)
-            continue;
-        uint32_t of_other = most_urgent(table, other, asked);
-        least = of_other < least ? of_other : least;
-    }
-    return least;
-}
-
-static int may_run(const uint32_t *table, uint32_t task)
-{
-    return task_word(table, task, T_STATE) == READY && task_word(table, task, T_SUSPENDED) == 0;
-}
-
-/* The owner that a task waits for, or the task itself. */
+/* The owner of the lock that a task waits for, or the task itself. */
 static uint32_t owner_awaited(const uint32_t *table, uint32_t task)
 {
     const uint32_t *hub;
@@ -80,6 +56,28 @@ static uint32_t owner_awaited(const uint32_t *table, uint32_t task)
         return task;
     hub = table + hub_place(table, task_word(table, task, T_HUB) - 1);
     return hub[H_KIND] == RESOURCE ? hub[H_COUNT] - 1 : task;
+}
+
+/* The smallest own priority among a task and all that wait for it: it asks each waiter of
+ * its Resources, who asks in turn, but for those in `asked`, who are being asked. */
+static uint32_t most_urgent(const uint32_t *table, const uint32_t *owner, uint32_t task,
+                            uint32_t asked)
+{
+    uint32_t least = task_word(table, task, T_PRIORITY);
+
+    asked |= UINT32_C(1) << task;
+    for (uint32_t other = 0; other < table[TASKS_IN_USE_AT]; other++) {
+        if (owner[other] != task || (asked >> other & 1) != 0)
+            continue;
+        uint32_t of_other = most_urgent(table, owner, other, asked);
+        least = of_other < least ? of_other : least;
+    }
+    return least;
+}
+
+static int may_run(const uint32_t *table, uint32_t task)
+{
+    return task_word(table, task, T_STATE) == READY && task_word(table, task, T_SUSPENDED) == 0;
 }
 
 /* Nobody who may run stands before the owner in the ready list and is less urgent. */
@@ -94,12 +92,14 @@ static int runs_before(const uint32_t *table, const uint32_t *least, uint32_t ow
 
 const char *ledger_urgency(const uint32_t *table, uint32_t next)
 {
-    uint32_t least[TASKS];
+    uint32_t least[TASKS], owners[TASKS];
 
     for (uint32_t task = 0; task < table[TASKS_IN_USE_AT]; task++)
-        least[task] = most_urgent(table, task, 0);
+        owners[task] = owner_awaited(table, task);
+    for (uint32_t task = 0; task < table[TASKS_IN_USE_AT]; task++)
+        least[task] = most_urgent(table, owners, task, 0);
     for (uint32_t task = 0; task < table[TASKS_IN_USE_AT]; task++) {
-        uint32_t owner = owner_awaited(table, task);
+        uint32_t owner = owners[task];
         if (may_run(table, task) && (next == 0 || least[task] < least[next - 1]))
             return "another ready task is more urgent than the one that runs";
         if (owner != task && may_run(table, owner) &&
