@@ -1,3 +1,5 @@
 pub mod Counting
+pub mod Fronts
 pub mod Laws
+pub mod Only
 pub mod Padding

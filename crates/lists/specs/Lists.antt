@@ -1,13 +1,13 @@
 -- What the functions of this crate do to a list of words, and how a list of numbers is written in words: definitions alone.
 -- In order: a list of words (a place of it goes in, goes out, is looked for; its tests; the place of a key); a list of
--- numbers in words (`entries`, `padded`, and back, `numbers`); a list of numbers by itself (`insert`, `without`, `occ`).
+-- numbers in words (`entries`, `padded`, and back, `numbers`); a list of numbers by itself (`insert`, `without`, `only`, `occ`).
 -- Not here: the laws (proofs/Laws.antt), and where a list stands in the table.
 use Prim.Native.Nat.{_+_, pred, suc, zero, ℕ}
 use Rattle.lists.specs.declared.Found.the-variants.{At, Nothing}
 use Rattle.lists.specs.declared.Found.{Found}
 use lib.Dec.{eqb, ltb}
 use lib.ListN.{getD, length}
-use mathlib.Core.Bool.{Bool, cond, false, true}
+use mathlib.Core.Bool.{Bool, cond, false, not, true}
 use mathlib.Core.List.{List, [], _++_, _∷_}
 use mathlib.Core.Path.{_≡_}
 
@@ -99,6 +99,15 @@ placeOf key p (x ∷ xs) = cond (ltb p (key x)) 0 (suc (placeOf key p xs))
 unfoldable pub without : ℕ → List ℕ → List ℕ
 without t [] = []
 without t (x ∷ xs) = cond (eqb x t) (without t xs) (x ∷ without t xs)
+
+-- the entries that pass a test, in their order
+unfoldable pub only : (ℕ → Bool) → List ℕ → List ℕ
+only p [] = []
+only p (x ∷ xs) = cond (p x) (x ∷ only p xs) (only p xs)
+
+-- the list, those that pass the test left out
+abbrev pub leftOut : (ℕ → Bool) → List ℕ → List ℕ
+leftOut p l = only (λ i. not (p i)) l
 
 -- a test as a number
 abbrev pub bit : Bool → ℕ
