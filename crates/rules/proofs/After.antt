@@ -6,11 +6,12 @@ use Rattle.lists.proofs.Laws.{boolCase}
 use Rattle.rules.proofs.Accepted.{need-zero}
 use Rattle.rules.proofs.Answers.{answer-word}
 use Rattle.rules.proofs.Kept.{valid-blank, valid-served}
-use Rattle.rules.proofs.Numbers.{bears-answer}
 use Rattle.rules.proofs.Layouts.{Laid, by-edition, edition-laid, edition-one, edition-two, one-laid, sized, two-laid}
+use Rattle.rules.proofs.Numbers.{bears-answer}
 use Rattle.rules.proofs.Places.{length-words}
 use Rattle.rules.proofs.Reading.{read-words, written-words}
 use Rattle.rules.proofs.Room.{valid-room}
+use Rattle.rules.proofs.Still.{blank-still}
 use Rattle.rules.proofs.Tests.{test-valid, tested}
 use Rattle.rules.proofs.Valid.{Valid}
 use Rattle.rules.proofs.Written.{read-fits, words-read, written-says}
@@ -26,7 +27,7 @@ use lib.ListN.{getD, length}
 use mathlib.Core.Bool.{Bool, _||_, and-eq-true-iff, false, false≢true, or-true, true}
 use mathlib.Core.List.{List}
 use mathlib.Core.Logic.{_≢_}
-use mathlib.Core.Path.{_≡_, refl}
+use mathlib.Core.Path.{_≡_, refl, subst, sym}
 use native.Mathlib.Omega.{arith}
 
 -- ---- none of the tests on the state refused
@@ -116,7 +117,7 @@ module _ (L : Layout) (t : List ℕ) (c : Call) (e : refusalIn L t c ≡ 0) wher
   unfolding serve served serviceOf
   after-valid =
       boolCase (isBlank c)
-      (λ b. rw (eqb-true (c .service) 0 b) valid-blank)
+      (λ b. rw (eqb-true (c .service) 0 b) (subst Valid (sym (blank-still (read L t))) valid-blank))
       (λ b. valid-served (read L t) c (valid-in L t (accepted-formed b)) (accepted .1))
 
 pub after-answer : (t : List ℕ) (c : Call) → refusalOf t c ≡ 0 → 1 ≤ c .service → c .service ≤ 7 → outcomeNumber (outcome (served (stateOf t) c) c) ≡ task (served (stateOf t) c) (c .caller) .answer

@@ -10,25 +10,30 @@ use Rattle.lists.specs.Lists.{indexOf, insert, occ, placeOf, without}
 use Rattle.rules.proofs.Accepted.{Asked, request-tests}
 use Rattle.rules.proofs.After.{accepted, accepted-formed, valid-in}
 use Rattle.rules.proofs.Changes.{hub-leave, hub-set-same, inUse, set-same}
+use Rattle.rules.proofs.Inherited.{kept-reordered, members-reordered}
+use Rattle.rules.proofs.Kept.{unsorted-serve, unsorted-sound, valid-unsorted}
+use Rattle.rules.proofs.Overtaken.{wait-ahead}
 use Rattle.rules.proofs.Promise.{read-after}
+use Rattle.rules.proofs.Reordered.{kept-task}
 use Rattle.rules.proofs.Settled.{Partners, met-caller, partners, told-caller}
-use Rattle.rules.proofs.Valid.{Listed, Valid}
+use Rattle.rules.proofs.Valid.{Listed, Sound, Valid}
 use Rattle.rules.proofs.Verdicts.{waitersMet}
 use Rattle.rules.specs.Calls.{HubRequest, kept, serve, served, serviceOf, settle, wait}
+use Rattle.rules.specs.Effective.{effective}
 use Rattle.rules.specs.HubTable.{Verdict, fail, met, notNow, verdict}
 use Rattle.rules.specs.Lists.{answered, joinHub, leave, queued, unqueue, waits}
 use Rattle.rules.specs.Refusals.{refusal, refusalFor, refusalOf}
+use Rattle.rules.specs.Reorder.{reordered}
 use Rattle.rules.specs.Reply.{ahead, aheadFor, replyBy, replyIn, replyTo, tableAfter}
 use Rattle.rules.specs.Table.{Hub, State, Task, editionOf, hub, setHub, setTask, stateOf, task}
-use Rattle.rules.specs.WellFormed.{urgency}
 use Rattle.rules.specs.declared.Call.{Call}
-use borrow.Author.Tests.{eq-eqb, eqb-true, ne-eqb}
+use borrow.Author.Tests.{eq-eqb, eqb-false, eqb-true, ne-eqb}
 use lib.Dec.{eqb, ltb}
 use lib.ListN.{getD, length, length-map}
 use mathlib.Core.Bool.{false≢true}
 use mathlib.Core.List.{List, [], _∷_}
 use mathlib.Core.Logic.{_≢_}
-use mathlib.Core.Path.{_∙_, _≡_, ap, refl, subst}
+use mathlib.Core.Path.{_∙_, _≡_, ap, refl, subst, sym}
 use native.Mathlib.Omega.{arith}
 
 -- ---- a number's place in a list
@@ -129,6 +134,32 @@ module _ (key : ℕ → ℕ) (s : State) (l : Listed s) (c : Call) (run : task s
         ∙ ahead-wait key s c used named
         ∙ ap (placeOf key (key (c .caller))) ready-apart
 
+-- M-108: the number is "read after this", the reordering, which leaves the caller at its place, and at none that does not wait
+module _ (s : State) (v : Valid s) (c : Call) (ok : refusalFor HubRequest s c ≡ 0) where
+  abbrev done : State
+  done = serve (effective s) HubRequest s c
+
+  asks : Asked s c
+  asks = request-tests s (v .listed) c ok
+
+  kept-state : task (reordered s done) (c .caller) ≡ task done (c .caller)
+  kept-state = kept-task done (reordered s done) (kept-reordered s done) (c .caller)
+
+  ahead-stood : task done (c .caller) .state ≡ 3
+      → aheadFor HubRequest (reordered s done) c ≡ placeOf (effective s) (effective s (c .caller)) (hub s (c .target) .waiters)
+  unfolding aheadFor
+  ahead-stood w =
+      let same = has-to-wait (effective s) s (v .listed) c (asks .run) w in
+      rw (kept-state, w) (ap (λ (z : State). indexOf (c .caller) (hub (reordered s z) (c .target) .waiters)) same ∙ wait-ahead s c v ok same)
+
+  pub ahead-reordered : aheadFor HubRequest (reordered s done) c ≡ aheadFor HubRequest done c
+  ahead-reordered =
+      boolCase (eqb (task done (c .caller) .state) 3)
+      (λ b. let w = eqb-true (task done (c .caller) .state) 3 b in
+      ahead-stood w ∙ sym (ahead-joined (effective s) s (v .listed) c (asks .run) (asks .named) w))
+      (λ b. let n = eqb-false (task done (c .caller) .state) 3 b in
+      ahead-none (reordered s done) c (λ e. n (ap (λ (t : Task). t .state) (sym kept-state) ∙ e)) ∙ sym (ahead-none done c n))
+
 -- ---- by service: 0 for all but 1
 
 module _ (s : State) (c : Call) where
@@ -186,9 +217,9 @@ module _ (t : List ℕ) (c : Call) (e : refusalOf t c ≡ 0) where
     asked : Asked before c
     asked = request-tests before (formed .listed) c passed
 
-    is-served : after ≡ serve (urgency before) HubRequest before c
+    is-served : after ≡ reordered before (serve (effective before) HubRequest before c)
     unfolding served serviceOf
-    is-served = read-after t c e ∙ ap (λ (n : ℕ). serve (urgency before) (serviceOf n) before c) request
+    is-served = read-after t c e ∙ ap (λ (n : ℕ). reordered before (serve (effective before) (serviceOf n) before c)) request
 
     module _ (waiting : task after (c .caller) .state ≡ 3) where
       -- "how many requests stand before it in that list"
@@ -196,16 +227,24 @@ module _ (t : List ℕ) (c : Call) (e : refusalOf t c ≡ 0) where
       unfolding aheadFor
       ahead-before = ahead-after ∙ ahead-request after c request ∙ rw waiting refl
 
+      -- when its service is done, before the reordering, the caller waits
+      waited : task (serve (effective before) HubRequest before c) (c .caller) .state ≡ 3
+      waited = ap (λ (t : Task). t .state) (sym (kept-state before formed c passed)) ∙ rw is-served at waiting
+
       -- and there the caller stands
       pub ahead-entry : getD (hub after (c .target) .waiters) (replyTo t c .ahead) 0 ≡ c .caller
       ahead-entry =
           rw ahead-before
           (place-entry (c .caller) 0 (hub after (c .target) .waiters)
-          (rw is-served (ahead-listed (urgency before) before (formed .listed) c (asked .run) (asked .named) (rw is-served at waiting))))
+          (rw (is-served, members-reordered before _ sound .waiters (c .target) (c .caller))
+          (ahead-listed (effective before) before (formed .listed) c (asked .run) (asked .named) waited)))
+        where
+          sound : Sound (serve (effective before) HubRequest before c)
+          sound = unsorted-sound _ (unsorted-serve (effective before) HubRequest before c (valid-unsorted before formed) passed)
 
       -- "Joining the list must itself promise where the entry went": the place, by the keys and the list before the call
-      pub ahead-place : replyTo t c .ahead ≡ placeOf (urgency before) (urgency before (c .caller)) (hub before (c .target) .waiters)
+      pub ahead-place : replyTo t c .ahead ≡ placeOf (effective before) (effective before (c .caller)) (hub before (c .target) .waiters)
       ahead-place =
           ahead-after ∙ ahead-request after c request
           ∙ ap (λ (s′ : State). aheadFor HubRequest s′ c) is-served
-          ∙ ahead-joined (urgency before) before (formed .listed) c (asked .run) (asked .named) (rw is-served at waiting)
+          ∙ ahead-stood before formed c passed waited

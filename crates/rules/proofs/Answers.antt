@@ -4,17 +4,20 @@ use Prim.Native.Nat.{_<_, _≤_, suc, zero, ℕ}
 use Rattle.rules.proofs.Accepted.{caller-ready}
 use Rattle.rules.proofs.Cases.{condCase}
 use Rattle.rules.proofs.Changes.{inUse, length-setTask, set-same}
+use Rattle.rules.proofs.Inherited.{kept-reordered}
 use Rattle.rules.proofs.Passing.{length-stop}
+use Rattle.rules.proofs.Reordered.{kept-task}
 use Rattle.rules.proofs.Settled.{Partners, answer-same, met-caller, partners, wait-caller}
 use Rattle.rules.proofs.Valid.{Valid}
 use Rattle.rules.proofs.Verdicts.{waitersMet}
 use Rattle.rules.specs.Calls.{AddHub, AddTask, Blank, HubRequest, Resume, Service, Sleep, Start, Stop, Suspend, Tick, Unknown, Yield, flag, grant, serve, served, serviceOf, settle, slept, start, yielded}
+use Rattle.rules.specs.Effective.{effective}
 use Rattle.rules.specs.HubTable.{Verdict, fail, met, notNow, verdict}
 use Rattle.rules.specs.Lists.{answer, answered, asleep, joinReady, leave, waits}
 use Rattle.rules.specs.Refusals.{refusal, refusalFor}
+use Rattle.rules.specs.Reorder.{reordered}
 use Rattle.rules.specs.Reply.{bearsAnswer, outcome, outcomeNumber, outcomeOf}
 use Rattle.rules.specs.Table.{State, Task, setReady, task}
-use Rattle.rules.specs.WellFormed.{urgency}
 use Rattle.rules.specs.declared.Call.{Call}
 use lib.Dec.{eqb}
 use lib.ListN.{length}
@@ -66,7 +69,9 @@ small-serve key v s c g e b = by v b (caller-ready s (g .listed) c v e b)
 pub answer-small : (s : State) (c : Call) → Valid s → refusal s c ≡ 0 → bearsAnswer (serviceOf (c .service)) ≡ true
     → task (served s c) (c .caller) .answer ≤ 2
 unfolding refusal served
-answer-small s c g e b = small-serve (urgency s) (serviceOf (c .service)) s c g e b
+answer-small s c g e b =
+    let s′ = serve (effective s) (serviceOf (c .service)) s c in
+    rw (kept-task s′ (reordered s s′) (kept-reordered s s′) (c .caller)) (small-serve (effective s) (serviceOf (c .service)) s c g e b)
 
 outcome-of : (a : ℕ) → a ≤ 2 → outcomeNumber (outcomeOf a) ≡ a
 unfolding outcomeOf

@@ -1,28 +1,27 @@
--- Calls keep the lists in order. In order: sorted lists; what one key sorts and no move disturbs (`Ranked`: the lists in
--- order by a fixed key, the priorities as they were), move by move; each service, where the key is each task's own
--- priority, before the call and after.
+-- Services keep the lists in order, by any key that each task has before the call (M-108: its effective priority). In order:
+-- sorted lists; the moves; the services' parts; a task added; each service.
+-- Not here: the reordering at the end of a call (Reordered.antt), and that the keys are then those after it (Inherited.antt).
 use Prim.Native.Nat.{_<_, _≤_, suc, zero, ℕ}
 use Rattle.lists.proofs.Counting.{occ-here}
 use Rattle.lists.proofs.Laws.{boolCase}
-use Rattle.lists.specs.Lists.{insert, occ, without}
+use Rattle.lists.specs.Lists.{insert, occ, only, without}
 use Rattle.rules.proofs.Cases.{condCase, sameOr}
-use Rattle.rules.proofs.Changes.{added-other, hub-added-other, hub-added-same, hub-leave, hub-set-other, hub-set-same, past-end, set-keeps}
+use Rattle.rules.proofs.Changes.{hub-added-other, hub-added-same, hub-leave, hub-set-other, hub-set-same, inUse}
 use Rattle.rules.proofs.Passing.{pass-keeps}
 use Rattle.rules.proofs.Standing.{listed-ready, listed-waits}
 use Rattle.rules.proofs.Valid.{Below, Listed, Ordered, Sorted}
-use Rattle.rules.specs.Calls.{AddHub, AddTask, Blank, HubRequest, Resume, Service, Sleep, Start, Stop, Suspend, Tick, Unknown, Yield, addHub, addStarted, addTask, blank, carryOut, deactivate, flag, grant, hold, meetAll, newHub, serve, settle, slept, start, stop, tickAll, tickBy, tickOne, wait, yielded}
+use Rattle.rules.specs.Calls.{AddHub, AddTask, Blank, HubRequest, Resume, Service, Sleep, Start, Stop, Suspend, Tick, Unknown, Yield, addHub, addStarted, addTask, blank, carryOut, deactivate, flag, grant, hold, keyAdded, meetAll, newHub, serve, settle, slept, start, stop, tickAll, tickBy, tickOne, wait, yielded}
 use Rattle.rules.specs.HubTable.{Meeting, Verdict, fail, met, notNow, verdict}
-use Rattle.rules.specs.Lists.{answer, answered, asleep, counted, flagged, holding, joinHub, joinReady, leave, queued, readied, unqueue, waits, wake}
-use Rattle.rules.specs.Table.{Hub, State, Task, hub, inactive, noHub, setHub, setReady, setTask, task}
-use Rattle.rules.specs.WellFormed.{urgency}
+use Rattle.rules.specs.Lists.{answer, holding, joinHub, joinReady, leave, queued, unqueue, wake}
+use Rattle.rules.specs.Table.{Hub, State, Task, hub, noHub, setHub, setReady, setTask, task}
 use Rattle.rules.specs.declared.Call.{Call}
-use borrow.Author.Tests.{ltb-false, ltb-true}
+use borrow.Author.Tests.{ltb-false, ltb-true, ne-eqb}
 use lib.Dec.{eqb, ltb}
 use lib.ListN.{length}
 use lib.Seq.{set-out}
 use mathlib.Core.Bool.{Bool, false, true}
 use mathlib.Core.List.{List, [], _∷_}
-use mathlib.Core.Path.{_∙_, _≡_, ap, refl}
+use mathlib.Core.Path.{_≡_}
 use native.Mathlib.Omega.{arith}
 
 -- ---- sorted lists
@@ -62,6 +61,17 @@ module _ (key : ℕ → ℕ) where
       (λ q. rw q (sorted-without t xs (b .1)))
       (λ q. rw q (below-without (key x) t xs (b .0), sorted-without t xs (b .1)))
 
+module _ (key : ℕ → ℕ) (p : ℕ → Bool) where
+  below-only : (n : ℕ) (l : List ℕ) → Below key n l → Below key n (only p l)
+  unfolding Below only
+  below-only n [] b = tt
+  below-only n (x ∷ xs) b = boolCase (p x) (λ e. rw e (b .0, below-only n xs (b .1))) (λ e. rw e (below-only n xs (b .1)))
+
+  pub sorted-only : (l : List ℕ) → Sorted key l → Sorted key (only p l)
+  unfolding Sorted only
+  sorted-only [] b = tt
+  sorted-only (x ∷ xs) b = boolCase (p x) (λ e. rw e (below-only (key x) xs (b .0), sorted-only xs (b .1))) (λ e. rw e (sorted-only xs (b .1)))
+
 -- only the keys of those in the list matter
 below-cong : (p p′ : ℕ → ℕ) (n : ℕ) (l : List ℕ) → ((j : ℕ) → 1 ≤ occ j l → p′ j ≡ p j) → Below p n l → Below p′ n l
 unfolding Below occ
@@ -82,193 +92,171 @@ order-cong p p′ s e o = record {
   waiters = λ h. sorted-cong p p′ (hub s h .waiters) (λ j _. e j) (o .waiters h);
 }
 
--- ---- in order by a key that stays, and every task with the priority that it has in s
+-- ---- in order by a key that stays, move by move
 
-record Ranked (key : ℕ → ℕ) (s s′ : State) : Type 0 where
-  ordered : Ordered key s′
-  priority : (j : ℕ) → task s′ j .priority ≡ task s j .priority
-
-module _ (key : ℕ → ℕ) (s : State) where
+module _ (key : ℕ → ℕ) where
   abbrev Keeps : State → Type 0
-  Keeps s′ = Ranked key s s′
+  Keeps s = Ordered key s
 
-  ranked-leave : (i : ℕ) (s′ : State) → Keeps s′ → Keeps (leave i s′)
+  -- ---- the moves
+
+  order-leave : (i : ℕ) (s : State) → Keeps s → Keeps (leave i s)
   unfolding leave
-  ranked-leave i s′ r = record {
-    ordered = record {
-      ready = sorted-without key i (s′ .ready) (r .ordered .ready);
-      waiters = λ h. rw (hub-leave i s′ h) (unfold queued unqueue in sorted-without key i (hub s′ h .waiters) (r .ordered .waiters h));
-    };
-    priority = r .priority;
+  order-leave i s o = record {
+    ready = sorted-without key i (s .ready) (o .ready);
+    waiters = λ h. rw (hub-leave i s h) (unfold queued unqueue in sorted-without key i (hub s h .waiters) (o .waiters h));
   }
 
-  ranked-set : (i : ℕ) (t : Task) (s′ : State) → t .priority ≡ task s′ i .priority → Keeps s′ → Keeps (setTask i t s′)
-  ranked-set i t s′ e r = record {
-    ordered = unfold setTask in record { ready = r .ordered .ready; waiters = r .ordered .waiters };
-    priority = λ j. set-keeps s′ i t (λ (x : Task). x .priority) e j ∙ r .priority j;
-  }
+  order-set : (i : ℕ) (t : Task) (s : State) → Keeps s → Keeps (setTask i t s)
+  unfolding setTask
+  order-set i t s o = record { ready = o .ready; waiters = o .waiters }
 
-  ranked-ready : (i : ℕ) (s′ : State) → Keeps s′ → Keeps (joinReady key i s′)
+  pub order-ready : (i : ℕ) (s : State) → Ordered key s → Ordered key (joinReady key i s)
   unfolding joinReady setReady
-  ranked-ready i s′ r = record {
-    ordered = record { ready = sorted-insert key i (s′ .ready) (r .ordered .ready); waiters = r .ordered .waiters };
-    priority = r .priority;
-  }
+  order-ready i s o = record { ready = sorted-insert key i (s .ready) (o .ready); waiters = o .waiters }
 
-  ranked-hub : (g : ℕ) (x : Hub) (s′ : State) → Sorted key (x .waiters) → Keeps s′ → Keeps (setHub g x s′)
-  ranked-hub g x s′ b r = record {
-    ordered = record { ready = unfold setHub in r .ordered .ready; waiters = at };
-    priority = unfold setHub in r .priority;
-  }
+  pub order-set-hub : (h : ℕ) (x : Hub) (s : State) → Sorted key (x .waiters) → Ordered key s → Ordered key (setHub h x s)
+  order-set-hub h x s b o = record { ready = unfold setHub in o .ready; waiters = at }
     where
-      at : (h : ℕ) → Sorted key (hub (setHub g x s′) h .waiters)
-      at h =
-          sameOr h g
-          (λ q. boolCase (ltb g (length (s′ .hubs)))
-          (λ n. rw (q, hub-set-same s′ g x (ltb-true _ _ n)) b)
-          (λ n. unfold setHub in rw (set-out (s′ .hubs) g x (ltb-false _ _ n)) (r .ordered .waiters h)))
-          (λ n. rw (hub-set-other s′ g x h n) (r .ordered .waiters h))
+      at : (g : ℕ) → Sorted key (hub (setHub h x s) g .waiters)
+      at g =
+          sameOr g h
+          (λ q. boolCase (ltb h (length (s .hubs)))
+          (λ n. rw (q, hub-set-same s h x (ltb-true _ _ n)) b)
+          (λ n. unfold setHub in rw (set-out (s .hubs) h x (ltb-false _ _ n)) (o .waiters g)))
+          (λ n. rw (hub-set-other s h x g n) (o .waiters g))
 
-  ranked-queue : (h i : ℕ) (s′ : State) → Keeps s′ → Keeps (joinHub key h i s′)
+  pub order-hub : (h i : ℕ) (s : State) → Ordered key s → Ordered key (joinHub key h i s)
   unfolding joinHub
-  ranked-queue h i s′ r = ranked-hub h _ s′ (unfold queued in sorted-insert key i (hub s′ h .waiters) (r .ordered .waiters h)) r
-
-  ranked-hold : (h n : ℕ) (ws : List ℕ) (s′ : State) → Keeps s′ → Keeps (hold h n ws s′)
-  unfolding hold
-  ranked-hold h n ws s′ r = ranked-hub h _ s′ (unfold holding in r .ordered .waiters h) r
+  order-hub h i s o = order-set-hub h _ s (unfold queued in sorted-insert key i (hub s h .waiters) (o .waiters h)) o
 
   -- ---- the services' parts
 
-  ranked-answer : (i a w : ℕ) (s′ : State) → Keeps s′ → Keeps (answer i a w s′)
-  unfolding answer answered
-  ranked-answer i a w s′ r = ranked-set i _ s′ refl r
+  order-hold : (h n : ℕ) (ws : List ℕ) (s : State) → Keeps s → Keeps (hold h n ws s)
+  unfolding hold
+  order-hold h n ws s o = order-set-hub h _ s (unfold holding in o .waiters h) o
 
-  ranked-wake : (i a w : ℕ) (s′ : State) → Keeps s′ → Keeps (wake key i a w s′)
-  unfolding leave readied wake
-  ranked-wake i a w s′ r = ranked-ready i _ (ranked-set i _ (leave i s′) refl (ranked-leave i s′ r))
+  order-answer : (i a w : ℕ) (s : State) → Keeps s → Keeps (answer i a w s)
+  unfolding answer
+  order-answer i a w s o = order-set i _ s o
 
-  ranked-meetAll : (ms : List Meeting) (s′ : State) → Keeps s′ → Keeps (meetAll key ms s′)
+  order-wake : (i a w : ℕ) (s : State) → Keeps s → Keeps (wake key i a w s)
+  unfolding wake
+  order-wake i a w s o = order-ready i _ (order-set i _ (leave i s) (order-leave i s o))
+
+  order-meetAll : (ms : List Meeting) (s : State) → Keeps s → Keeps (meetAll key ms s)
   unfolding meetAll
-  ranked-meetAll [] s′ r = r
-  ranked-meetAll (m ∷ ms) s′ r = ranked-meetAll ms _ (ranked-wake (m .waiter) 1 (m .word) s′ r)
+  order-meetAll [] s o = o
+  order-meetAll (m ∷ ms) s o = order-meetAll ms _ (order-wake (m .waiter) 1 (m .word) s o)
 
-  ranked-start : (i : ℕ) (s′ : State) → Keeps s′ → Keeps (start key i s′)
-  unfolding readied start
-  ranked-start i s′ r = ranked-ready i _ (ranked-set i _ s′ refl r)
+  order-start : (i : ℕ) (s : State) → Keeps s → Keeps (start key i s)
+  unfolding start
+  order-start i s o = order-ready i _ (order-set i _ s o)
 
-  ranked-carry : (h : ℕ) (v : Verdict) (s′ : State) → Keeps s′ → Keeps (carryOut key h v s′)
+  order-carry : (h : ℕ) (v : Verdict) (s : State) → Keeps s → Keeps (carryOut key h v s)
   unfolding carryOut
-  ranked-carry h (met n ws x ms) s′ r = ranked-meetAll ms _ (ranked-hold h n ws s′ r)
-  ranked-carry h notNow s′ r = r
-  ranked-carry h fail s′ r = r
+  order-carry h (met n ws x ms) s o = order-meetAll ms _ (order-hold h n ws s o)
+  order-carry h notNow s o = o
+  order-carry h fail s o = o
 
-  ranked-stop : (i : ℕ) (s′ : State) → Keeps s′ → Keeps (stop key i s′)
-  unfolding deactivate inactive leave stop
-  ranked-stop i s′ r =
-      pass-keeps key Keeps (λ h z. ranked-carry h _ z) i (length (s′ .hubs)) _ (ranked-set i _ (leave i s′) refl (ranked-leave i s′ r))
+  order-stop : (i : ℕ) (s : State) → Keeps s → Keeps (stop key i s)
+  unfolding deactivate stop
+  order-stop i s o = pass-keeps key Keeps (λ h z. order-carry h _ z) i (length (s .hubs)) _ (order-set i _ (leave i s) (order-leave i s o))
 
-  ranked-flag : (f i : ℕ) (s′ : State) → Keeps s′ → Keeps (flag f i s′)
-  unfolding flag flagged
-  ranked-flag f i s′ r = ranked-set i _ s′ refl r
+  order-flag : (f i : ℕ) (s : State) → Keeps s → Keeps (flag f i s)
+  unfolding flag
+  order-flag f i s o = order-set i _ s o
 
-  ranked-yield : (i : ℕ) (s′ : State) → Keeps s′ → Keeps (yielded key i s′)
+  order-yield : (i : ℕ) (s : State) → Keeps s → Keeps (yielded key i s)
   unfolding yielded
-  ranked-yield i s′ r = ranked-ready i _ (ranked-answer i 1 0 (leave i s′) (ranked-leave i s′ r))
+  order-yield i s o = order-ready i _ (order-answer i 1 0 (leave i s) (order-leave i s o))
 
-  ranked-sleep : (n i : ℕ) (s′ : State) → Keeps s′ → Keeps (slept n i s′)
-  unfolding asleep leave slept
-  ranked-sleep n i s′ r = ranked-set i _ (leave i s′) refl (ranked-leave i s′ r)
+  order-sleep : (n i : ℕ) (s : State) → Keeps s → Keeps (slept n i s)
+  unfolding slept
+  order-sleep n i s o = order-set i _ (leave i s) (order-leave i s o)
 
-  ranked-tickBy : (n i : ℕ) (s′ : State) → Keeps s′ → Keeps (tickBy key n i s′)
-  unfolding counted tickBy
-  ranked-tickBy zero i s′ r = r
-  ranked-tickBy (suc zero) i s′ r = ranked-wake i 3 0 s′ r
-  ranked-tickBy (suc (suc n)) i s′ r = ranked-set i _ s′ refl r
+  order-tickBy : (n i : ℕ) (s : State) → Keeps s → Keeps (tickBy key n i s)
+  unfolding tickBy
+  order-tickBy zero i s o = o
+  order-tickBy (suc zero) i s o = order-wake i 3 0 s o
+  order-tickBy (suc (suc n)) i s o = order-set i _ s o
 
-  ranked-tick : (n : ℕ) (s′ : State) → Keeps s′ → Keeps (tickAll key n s′)
+  order-tick : (n : ℕ) (s : State) → Keeps s → Keeps (tickAll key n s)
   unfolding tickAll tickOne
-  ranked-tick zero s′ r = r
-  ranked-tick (suc n) s′ r = ranked-tickBy _ n (tickAll key n s′) (ranked-tick n s′ r)
+  order-tick zero s o = o
+  order-tick (suc n) s o = order-tickBy _ n (tickAll key n s) (order-tick n s o)
 
-  ranked-grant : (b : Bool) (s₁ s₂ : State) (c : Call) → Keeps s₁ → Keeps s₂ → Keeps (grant b s₁ s₂ c)
+  order-grant : (b : Bool) (s₁ s₂ : State) (c : Call) → Keeps s₁ → Keeps s₂ → Keeps (grant b s₁ s₂ c)
   unfolding grant
-  ranked-grant true s₁ s₂ c p r = ranked-answer (c .caller) 1 0 s₁ p
-  ranked-grant false s₁ s₂ c p r = ranked-answer (c .caller) 2 0 s₂ r
+  order-grant true s₁ s₂ c p o = order-answer (c .caller) 1 0 s₁ p
+  order-grant false s₁ s₂ c p o = order-answer (c .caller) 2 0 s₂ o
 
-  ranked-wait : (c : Call) (s′ : State) → Keeps s′ → Keeps (wait key s′ c)
-  unfolding leave wait waits
-  ranked-wait c s′ r = ranked-queue (c .target) (c .caller) _ (ranked-set (c .caller) _ (leave (c .caller) s′) refl (ranked-leave (c .caller) s′ r))
+  order-wait : (c : Call) (s : State) → Keeps s → Keeps (wait key s c)
+  unfolding wait
+  order-wait c s o = order-hub (c .target) (c .caller) _ (order-set (c .caller) _ (leave (c .caller) s) (order-leave (c .caller) s o))
 
-  ranked-settle : (v : Verdict) (c : Call) (s′ : State) → Keeps s′ → Keeps (settle key v s′ c)
+  order-settle : (v : Verdict) (c : Call) (s : State) → Keeps s → Keeps (settle key v s c)
   unfolding settle
-  ranked-settle (met n ws x ms) c s′ r = ranked-meetAll ms _ (ranked-answer (c .caller) 1 x _ (ranked-hold (c .target) n ws s′ r))
-  ranked-settle notNow c s′ r = condCase Keeps (eqb (c .mode) 2) _ _ (λ _. ranked-answer (c .caller) 2 0 s′ r) (λ _. ranked-wait c s′ r)
-  ranked-settle fail c s′ r = ranked-answer (c .caller) 2 0 s′ r
+  order-settle (met n ws x ms) c s o = order-meetAll ms _ (order-answer (c .caller) 1 x _ (order-hold (c .target) n ws s o))
+  order-settle notNow c s o = condCase Keeps (eqb (c .mode) 2) _ _ (λ _. order-answer (c .caller) 2 0 s o) (λ _. order-wait c s o)
+  order-settle fail c s o = order-answer (c .caller) 2 0 s o
 
--- ---- by service
+  pub order-blank : Keeps blank
+  unfolding Sorted blank noHub
+  order-blank = record { ready = tt; waiters = λ h. tt }
 
-ranked-refl : (key : ℕ → ℕ) (s : State) → Ordered key s → Ranked key s s
-ranked-refl key s o = record { ordered = o; priority = λ j. refl }
+  order-addHub : (c : Call) (s : State) → Keeps s → Keeps (addHub (newHub c) s)
+  order-addHub c s o = record { ready = unfold addHub in o .ready; waiters = at }
+    where
+      at : (h : ℕ) → Sorted key (hub (addHub (newHub c) s) h .waiters)
+      at h =
+          sameOr h (length (s .hubs))
+          (λ e. rw (e, hub-added-same (newHub c) s) (unfold Sorted newHub in tt))
+          (λ n. rw (hub-added-other (newHub c) s h n) (o .waiters h))
 
--- by the priorities before a call, and so by those after it
-ranked-order : (s s′ : State) → Ranked (urgency s) s s′ → Ordered (urgency s′) s′
-ranked-order s s′ r = order-cong (urgency s) (urgency s′) s′ (r .priority) (r .ordered)
+-- ---- a task added stands in no list yet
 
--- the task added stands in no list yet
-order-addTask : (p : ℕ) (s : State) → Listed s → Ordered (urgency s) s → Ordered (urgency (addTask p s)) (addTask p s)
-order-addTask p s l o = record {
-  ready = unfold addTask in sorted-cong (urgency s) _ (s .ready) (λ j h. listed j 0 (listed-ready s l j h)) (o .ready);
-  waiters = λ g. unfold addTask in sorted-cong (urgency s) _ (hub s g .waiters) (λ j h. listed j 1 (listed-waits s l g j h .0)) (o .waiters g);
+order-added : (key : ℕ → ℕ) (p : ℕ) (s : State) → Listed s → Ordered key s → Ordered (keyAdded key p s) (addTask p s)
+unfolding addTask
+order-added key p s l o = record {
+  ready = sorted-cong key (keyAdded key p s) (s .ready) (λ j h. other j 0 (listed-ready s l j h)) (o .ready);
+  waiters = λ g. sorted-cong key (keyAdded key p s) (hub s g .waiters) (λ j h. other j 1 (listed-waits s l g j h .0)) (o .waiters g);
 }
   where
-    listed : (j n : ℕ) → task s j .state ≡ suc (suc n) → task (addTask p s) j .priority ≡ task s j .priority
-    listed j n e =
-        ap (λ (t : Task). t .priority)
-        (added-other p s j (λ q. unfold inactive in omega (arith, e, ap (λ (i : ℕ). task s i .state) q, ap (λ (t : Task). t .state) (past-end s))))
+    other : (j n : ℕ) → task s j .state ≡ suc (suc n) → keyAdded key p s j ≡ key j
+    other j n e = rw (ne-eqb j (length (s .tasks)) (λ q. omega (arith, q, inUse s j n e)))
 
-order-addHub : (key : ℕ → ℕ) (c : Call) (s : State) → Ordered key s → Ordered key (addHub (newHub c) s)
-order-addHub key c s o = record { ready = unfold addHub in o .ready; waiters = at }
-  where
-    at : (h : ℕ) → Sorted key (hub (addHub (newHub c) s) h .waiters)
-    at h =
-        sameOr h (length (s .hubs))
-        (λ e. rw (e, hub-added-same (newHub c) s) (unfold Sorted newHub in tt))
-        (λ n. rw (hub-added-other (newHub c) s h n) (o .waiters h))
+-- ---- by service: by the keys before it, and by its own priority for a task that is added
 
-pub order-blank : Ordered (urgency blank) blank
-unfolding Sorted blank noHub
-order-blank = record { ready = tt; waiters = λ h. tt }
+unfoldable pub keyIn : (ℕ → ℕ) → Service → State → Call → ℕ → ℕ
+keyIn key Blank s c = key
+keyIn key HubRequest s c = key
+keyIn key Start s c = key
+keyIn key Stop s c = key
+keyIn key Suspend s c = key
+keyIn key Resume s c = key
+keyIn key Yield s c = key
+keyIn key Sleep s c = key
+keyIn key Tick s c = key
+keyIn key AddTask s c = keyAdded key (c .target) s
+keyIn key AddHub s c = key
+keyIn key Unknown s c = key
 
-pub order-serve : (v : Service) (s : State) (c : Call) → Listed s → Ordered (urgency s) s
-    → Ordered (urgency (serve (urgency s) v s c)) (serve (urgency s) v s c)
-unfolding serve
-order-serve v s c l o = by v
-  where
-    key : ℕ → ℕ
-    key = urgency s
-
-    r : Ranked key s s
-    r = ranked-refl key s o
-
-    s₁ : State
-    s₁ = addTask (c .target) s
-
-    o₁ : Ordered (urgency s₁) s₁
-    o₁ = order-addTask (c .target) s l o
-
-    by : (v : Service) → Ordered (urgency (serve key v s c)) (serve key v s c)
-    by Blank = order-blank
-    by HubRequest = ranked-order s _ (ranked-settle key s (verdict s c) c s r)
-    by Start = ranked-order s _ (ranked-grant key s _ _ s c (ranked-start key s (c .target) s r) r)
-    by Stop = ranked-order s _ (ranked-grant key s _ _ s c (ranked-stop key s (c .target) s r) r)
-    by Suspend = ranked-order s _ (ranked-grant key s _ _ s c (ranked-flag key s 1 (c .target) s r) r)
-    by Resume = ranked-order s _ (ranked-grant key s _ _ s c (ranked-flag key s 0 (c .target) s r) r)
-    by Yield = ranked-order s _ (ranked-yield key s (c .caller) s r)
-    by Sleep = ranked-order s _ (ranked-sleep key s (c .ticks) (c .caller) s r)
-    by Tick = ranked-order s _ (ranked-tick key s (length (s .tasks)) s r)
-    by AddTask =
-        condCase (λ (z : State). Ordered (urgency z) z) (eqb (c .side) 1) _ _
-        (λ _. unfold addStarted in ranked-order s₁ _ (ranked-start _ s₁ (length (s .tasks)) s₁ (ranked-refl _ s₁ o₁)))
-        (λ _. o₁)
-    by AddHub = order-cong key _ _ (λ j. unfold addHub in refl) (order-addHub key c s o)
-    by Unknown = o
+pub order-serve : (key : ℕ → ℕ) (v : Service) (s : State) (c : Call) → Listed s → Ordered key s → Ordered (keyIn key v s c) (serve key v s c)
+unfolding keyIn serve
+order-serve key Blank s c l o = order-blank key
+order-serve key HubRequest s c l o = order-settle key (verdict s c) c s o
+order-serve key Start s c l o = order-grant key _ _ s c (order-start key (c .target) s o) o
+order-serve key Stop s c l o = order-grant key _ _ s c (order-stop key (c .target) s o) o
+order-serve key Suspend s c l o = order-grant key _ _ s c (order-flag key 1 (c .target) s o) o
+order-serve key Resume s c l o = order-grant key _ _ s c (order-flag key 0 (c .target) s o) o
+order-serve key Yield s c l o = order-yield key (c .caller) s o
+order-serve key Sleep s c l o = order-sleep key (c .ticks) (c .caller) s o
+order-serve key Tick s c l o = order-tick key (length (s .tasks)) s o
+order-serve key AddTask s c l o =
+    let a = order-added key (c .target) s l o in
+    condCase (Ordered (keyAdded key (c .target) s)) (eqb (c .side) 1) _ _
+    (λ _. unfold addStarted in order-start (keyAdded key (c .target) s) (length (s .tasks)) (addTask (c .target) s) a)
+    (λ _. a)
+order-serve key AddHub s c l o = order-addHub key c s o
+order-serve key Unknown s c l o = o

@@ -31,15 +31,19 @@ use native.Mathlib.Omega.{arith}
 
 -- ---- who is not inactive does not become so
 
-abbrev Lively1 : Task → Task → Type 0
+abbrev pub Lively1 : Task → Task → Type 0
 Lively1 t t′ = t .state ≢ 1 → t′ .state ≢ 1
 
-unfoldable Lively : State → State → Type 0
+unfoldable pub Lively : State → State → Type 0
 Lively s s′ = (j : ℕ) → Lively1 (task s j) (task s′ j)
 
 lively-refl : (s : State) → Lively s s
 unfolding Lively
 lively-refl s j n = n
+
+pub lively-tasks : (s s′ : State) → ((j : ℕ) → task s′ j ≡ task s j) → Lively s s′
+unfolding Lively
+lively-tasks s s′ e j n = rw (e j) n
 
 lively-trans : (s₁ s₂ s₃ : State) → Lively s₁ s₂ → Lively s₂ s₃ → Lively s₁ s₃
 unfolding Lively
@@ -118,7 +122,7 @@ lively-serve key Unknown isUnknown s c = lively-refl s
 
 -- ---- hubs as they were
 
-owners-same : (s s′ : State) → Owners s → SameHubs s s′ → Lively s s′ → Owners s′
+pub owners-same : (s s′ : State) → Owners s → SameHubs s s′ → Lively s s′ → Owners s′
 unfolding Lively
 owners-same s s′ o e q = record { active = λ h i w. q i (o .active h i (sym (owns-core i (hub s h) (hub s′ h) (e .each h)) ∙ w)) }
 

@@ -1,12 +1,13 @@
 -- A valid state has room in a table: its lists have at most as many entries as there are tasks, and its stores at most 8
--- words. Not here: that a list in which each number stands at most once is that short (lists, Counting).
+-- words. In a sound state each task stands where its record says, at most once (`sound-stands`).
+-- Not here: that a list in which each number stands at most once is that short (lists, Counting).
 use Prim.Native.Nat.{_≤_, ℕ}
 use Rattle.lists.proofs.Counting.{length-below}
 use Rattle.lists.proofs.Laws.{boolCase}
 use Rattle.lists.specs.Lists.{bit, occ}
 use Rattle.rules.proofs.Changes.{inUse}
 use Rattle.rules.proofs.Standing.{listed-ready, listed-waits}
-use Rattle.rules.proofs.Valid.{Held, Listed, Range, Room, Valid}
+use Rattle.rules.proofs.Valid.{Held, Listed, Range, Room, Sound, Stands, Valid}
 use Rattle.rules.specs.Table.{Board, Event, Fifo, Hub, Kind, Memory, NoKind, Port, Resource, Semaphore, State, hub, kindOf, noHub, stored}
 use Rattle.rules.specs.WellFormed.{isReady, waitsFor}
 use borrow.Author.Tests.{ltb-false, ltb-true}
@@ -33,6 +34,25 @@ module _ (s : State) (l : Listed s) where
 
   pub waiters-room : (h : ℕ) → length (hub s h .waiters) ≤ length (s .tasks)
   waiters-room h = length-below (length (s .tasks)) (hub s h .waiters) (waits-once h) (λ i k. inUse s i 1 (listed-waits s l h i k .0))
+
+-- ---- one task, of the others nothing
+
+pub sound-stands : (s : State) → Sound s → (i : ℕ) → Stands i s
+sound-stands s g i = record {
+  tasks = g .tasks;
+  hubs = g .hubs;
+  ready = omega (arith, g .tasks, ready-room s (g .listed));
+  waiters = λ h. omega (arith, g .tasks, waiters-room s (g .listed) h);
+  inReady = g .listed .ready i;
+  atHub = λ h. g .listed .waiters h i;
+}
+
+module _ (i : ℕ) (s : State) (g : Stands i s) where
+  pub stands-ready-once : occ i (s .ready) ≤ 1
+  stands-ready-once = rw (g .inReady) (bit-le (isReady s i))
+
+  pub stands-waits-once : (h : ℕ) → occ i (hub s h .waiters) ≤ 1
+  stands-waits-once h = rw (g .atHub h) (bit-le (waitsFor s h i))
 
 -- ---- the parts of a valid state
 

@@ -27,7 +27,7 @@ use native.Mathlib.Omega.{arith}
 -- ---- what a shape asks of the hubs
 
 -- no hub is dropped, and a hub whose puts bear words stays one
-abbrev WordHubs : State → State → Type 0
+abbrev pub WordHubs : State → State → Type 0
 WordHubs s s′ =
     (length (s .hubs) ≤ length (s′ .hubs))
     × ((h : ℕ) → bearsWord (kindOf (hub s h .kind)) ≡ true → bearsWord (kindOf (hub s′ h .kind)) ≡ true)
@@ -35,7 +35,7 @@ WordHubs s s′ =
 words-same : (s s′ : State) → length (s′ .hubs) ≡ length (s .hubs) → ((h : ℕ) → hub s′ h .kind ≡ hub s h .kind) → WordHubs s s′
 words-same s s′ e k = (omega (arith, e), λ h b. rw (k h) b)
 
-words-core : (s s′ : State) → SameHubs s s′ → WordHubs s s′
+pub words-core : (s s′ : State) → SameHubs s s′ → WordHubs s s′
 unfolding core queued
 words-core s s′ e = words-same s s′ (e .many) (λ h. ap (λ (x : Hub). x .kind) (e .each h))
 
@@ -59,7 +59,7 @@ ok-move s s′ t k h = record {
   shape = shape-move (stageOf (t .state)) s s′ t k (h .shape);
 }
 
-records-move : (s s′ : State) → WordHubs s s′ → s′ .tasks ≡ s .tasks → Records s → Records s′
+pub records-move : (s s′ : State) → WordHubs s s′ → s′ .tasks ≡ s .tasks → Records s → Records s′
 records-move s s′ k e r = record { each = λ i. ok-move s s′ _ k (subst (λ (l : List Task). TaskOk s (getD l i (inactive 0))) (sym e) (r .each i)) }
 
 records-set : (i : ℕ) (t : Task) (s : State) → Records s → TaskOk s t → Records (setTask i t s)

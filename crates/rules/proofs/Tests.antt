@@ -8,8 +8,9 @@ use Rattle.rules.proofs.Cases.{and-l, and-r, sameOr}
 use Rattle.rules.proofs.Shapes.{ok-inactive, shape-at}
 use Rattle.rules.proofs.Standing.{listed-waiting, waiting-listed, waiting-used}
 use Rattle.rules.proofs.Valid.{Below, Fits, GetWaits, Listed, MayWait, Ordered, Owners, PutWaits, Range, Records, Shape, Sorted, TaskOk, Valid, Waits}
+use Rattle.rules.specs.Effective.{effective}
 use Rattle.rules.specs.Table.{Board, Event, Fifo, Get, Hub, Inactive, Kind, Memory, NoKind, NoSide, NoStage, Port, Put, Ready, Resource, Semaphore, Side, Sleeping, Stage, State, Task, Waiting, Wipe, hub, inactive, isResource, kindOf, noHub, owns, sideOf, stageOf, task}
-use Rattle.rules.specs.WellFormed.{bearsWord, every, exactly, fieldsRight, forAll, hubsRight, inOrder, isReady, kindRight, listsExact, mayWait, oneSide, ownerRight, ownersRight, rising, stageRight, tasksRight, urgency, valid, waitersRight, waitsFor, within}
+use Rattle.rules.specs.WellFormed.{bearsWord, every, exactly, fieldsRight, forAll, hubsRight, inOrder, inOrderBy, isReady, kindRight, listsExact, mayWait, oneSide, ownerRight, ownersRight, rising, stageRight, tasksRight, valid, waitersRight, waitsFor, within}
 use borrow.Author.Tests.{eq-eqb, eqb-false, eqb-true, le-leb, leb-true, lt-ltb, ltb-false, ltb-true, ne-eqb}
 use lib.Dec.{eqb, leb, ltb}
 use lib.ListN.{List·getD-eq-default, getD, length}
@@ -187,12 +188,12 @@ unfolding Sorted rising
 t-sorted key [] = t-true
 t-sorted key (x ∷ xs) = t-and _ _ (t-below key (key x) xs) (t-sorted key xs)
 
-pub t-order : (s : State) → Tests (inOrder s) (Ordered (urgency s) s)
-unfolding inOrder
-t-order s =
+pub t-order : (key : ℕ → ℕ) (s : State) → Tests (inOrderBy key s) (Ordered key s)
+unfolding inOrderBy
+t-order key s =
     t-iff _
-    (t-and _ _ (t-sorted (urgency s) (s .ready))
-    (t-all (λ h. Sorted (urgency s) (hub s h .waiters)) _ (λ h. t-sorted (urgency s) (hub s h .waiters)) (length (s .hubs))))
+    (t-and _ _ (t-sorted key (s .ready))
+    (t-all (λ h. Sorted key (hub s h .waiters)) _ (λ h. t-sorted key (hub s h .waiters)) (length (s .hubs))))
     (λ q. record {
       ready = q .0;
       waiters = λ h. boolCase (ltb h (length (s .hubs)))
@@ -325,7 +326,7 @@ tested s f e =
       tasks = f .tasks;
       hubs = f .hubs;
       listed = l;
-      ordered = t-order s .yes (and-l _ _ e₂);
+      ordered = t-order (effective s) s .yes (and-l _ _ e₂);
       records = r;
       waits = t-waits s l .yes (and-l _ _ e₄);
       ranges = record { range = t-hubs s .yes (and-l _ _ e); held = f .held };
@@ -338,7 +339,7 @@ test-valid s v =
     rw (
       t-hubs s .conv (v .ranges .range),
       t-lists s (v .records) .conv (v .listed),
-      t-order s .conv (v .ordered),
+      t-order (effective s) s .conv (v .ordered),
       t-records s .conv (v .records),
       t-waits s (v .listed) .conv (v .waits),
       t-owners s .conv (v .owners),

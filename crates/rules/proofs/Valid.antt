@@ -3,8 +3,9 @@
 -- Not here: that a test says its statement (Tests.antt), that calls keep it (Kept.antt). Assumes nothing.
 use Prim.Native.Nat.{_<_, _≤_, pred, suc, ℕ}
 use Rattle.lists.specs.Lists.{bit, occ}
+use Rattle.rules.specs.Effective.{effective}
 use Rattle.rules.specs.Table.{Board, Event, Fifo, Get, Hub, Inactive, Kind, Memory, NoKind, NoSide, NoStage, Port, Put, Ready, Resource, Semaphore, Side, Sleeping, Stage, State, Task, Waiting, Wipe, hub, kindOf, owns, sideOf, stageOf, stored, task}
-use Rattle.rules.specs.WellFormed.{bearsWord, isReady, urgency, waitsFor}
+use Rattle.rules.specs.WellFormed.{bearsWord, isReady, waitsFor}
 use lib.ListN.{getD, length}
 use mathlib.Core.Bool.{true}
 use mathlib.Core.List.{List, [], _∷_}
@@ -119,6 +120,22 @@ pub record Records (s : State) : Type 0 where
 pub record Owners (s : State) : Type 0 where
   pub active : (h i : ℕ) → owns i (hub s h) ≡ true → task s i .state ≢ 1
 
+-- ---- every task stands in the list that its record says, and nowhere else: all that a move and an effective priority rest on
+
+pub record Sound (s : State) : Type 0 where
+  pub tasks : length (s .tasks) ≤ 16
+  pub hubs : length (s .hubs) ≤ 16
+  pub listed : Listed s
+
+-- the same of one task, of the others nothing (M-108: while some are out of their lists)
+pub record Stands (i : ℕ) (s : State) : Type 0 where
+  pub tasks : length (s .tasks) ≤ 16
+  pub hubs : length (s .hubs) ≤ 16
+  pub ready : length (s .ready) ≤ 16
+  pub waiters : (h : ℕ) → length (hub s h .waiters) ≤ 16
+  pub inReady : occ i (s .ready) ≡ bit (isReady s i)
+  pub atHub : (h : ℕ) → occ i (hub s h .waiters) ≡ bit (waitsFor s h i)
+
 -- ---- the whole
 
 -- what the words alone say of the state read from them: how many, and what the stores hold
@@ -140,7 +157,7 @@ pub record Valid (s : State) : Type 0 where
   pub tasks : length (s .tasks) ≤ 16
   pub hubs : length (s .hubs) ≤ 16
   pub listed : Listed s
-  pub ordered : Ordered (urgency s) s
+  pub ordered : Ordered (effective s) s
   pub records : Records s
   pub waits : Waits s
   pub ranges : Ranges s

@@ -333,7 +333,7 @@ pub record Good (s : State) : Type 0 where
 pub valid-good : (s : State) → Valid s → Good s
 valid-good s v = record { listed = v .listed; waits = v .waits; ranges = v .ranges }
 
-good-quiet : (s s′ : State) → Good s → Listed s′ → Quiet s s′ → SameHubs s s′ → length (s .tasks) ≤ length (s′ .tasks) → Good s′
+pub good-quiet : (s s′ : State) → Good s → Listed s′ → Quiet s s′ → SameHubs s s′ → length (s .tasks) ≤ length (s′ .tasks) → Good s′
 good-quiet s s′ g l q same more = record {
   listed = l;
   waits = waits-quiet s s′ (g .waits) q (λ h i w. same .each h);

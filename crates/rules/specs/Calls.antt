@@ -1,10 +1,12 @@
 -- "The calls": services 0 to 10, each as the paper has it, on the state that stands in the table.
 -- A call fixes a key for each task before it does anything: lists are joined by it. Not here: when a call is refused.
 use Prim.Native.Nat.{suc, zero, ℕ}
+use Rattle.rules.specs.Effective.{effective}
 use Rattle.rules.specs.HubTable.{Meeting, Verdict, fail, message, met, notNow, pass, verdict}
 use Rattle.rules.specs.Lists.{answer, asleep, counted, firstWaiting, flagged, holding, joinHub, joinReady, leave, readied, waits, wake}
+use Rattle.rules.specs.Reorder.{reordered}
 use Rattle.rules.specs.Table.{Hub, State, Task, hub, inactive, isInactive, isSuspended, kindOf, owns, setHub, setTask, stored, task}
-use Rattle.rules.specs.WellFormed.{bearsWord, urgency, within}
+use Rattle.rules.specs.WellFormed.{bearsWord, within}
 use Rattle.rules.specs.declared.Call.{Call}
 use lib.Dec.{eqb}
 use lib.ListN.{getD, length, replicate}
@@ -136,9 +138,13 @@ tickAll key (suc n) s = tickOne key n (tickAll key n s)
 unfoldable pub addTask : ℕ → State → State
 addTask p s = record { tasks = s .tasks ++ inactive p ∷ []; hubs = s .hubs; ready = s .ready }
 
--- "side 1 starts it at once, side 0 doesn't": it joins by its own priority
-unfoldable pub addStarted : ℕ → State → State
-addStarted p s = start (urgency (addTask p s)) (length (s .tasks)) (addTask p s)
+-- M-108: "During a call each task joins by its effective priority before the call, an added task by its own."
+abbrev pub keyAdded : (ℕ → ℕ) → ℕ → State → ℕ → ℕ
+keyAdded key p s j = cond (eqb j (length (s .tasks))) p (key j)
+
+-- "side 1 starts it at once, side 0 doesn't"
+unfoldable pub addStarted : (ℕ → ℕ) → ℕ → State → State
+addStarted key p s = start (keyAdded key p s) (length (s .tasks)) (addTask p s)
 
 -- "target is kind, ticks the limit, word the start, count = start"; its store is all 0: it holds nothing, and no block of a Memory
 -- hub (M-107) is out
@@ -167,10 +173,11 @@ serve key Resume s c = grant (isSuspended (task s (c .target))) (flag 0 (c .targ
 serve key Yield s c = yielded key (c .caller) s
 serve key Sleep s c = slept (c .ticks) (c .caller) s
 serve key Tick s c = tickAll key (length (s .tasks)) s
-serve key AddTask s c = cond (eqb (c .side) 1) (addStarted (c .target) s) (addTask (c .target) s)
+serve key AddTask s c = cond (eqb (c .side) 1) (addStarted key (c .target) s) (addTask (c .target) s)
 serve key AddHub s c = addHub (newHub c) s
 serve key Unknown s c = s
 
--- the state after an accepted call: the key is each task's own priority before the call
+-- the state after an accepted call (M-108): each task's key is its effective priority before the call, and at the end all whose
+-- effective priority changed are taken out of their lists and put back
 unfoldable pub served : State → Call → State
-served s c = serve (urgency s) (serviceOf (c .service)) s c
+served s c = reordered s (serve (effective s) (serviceOf (c .service)) s c)

@@ -1,6 +1,9 @@
 pub mod Table
+pub mod Effective
+pub mod Meaning
 pub mod WellFormed
 pub mod Lists
+pub mod Reorder
 pub mod HubTable
 pub mod Calls
 pub mod Refusals

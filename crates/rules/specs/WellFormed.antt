@@ -4,6 +4,7 @@
 -- Not here: what each test says as a statement, and that calls keep it (proofs/).
 use Prim.Native.Nat.{_*_, _+_, _-_, pred, suc, zero, ℕ}
 use Rattle.lists.specs.Lists.{allZero, bit, occ, packed}
+use Rattle.rules.specs.Effective.{effective}
 use Rattle.rules.specs.Table.{Board, Event, Fifo, Get, Hub, Inactive, Kind, Layout, Memory, NoKind, NoSide, NoStage, Port, Put, Ready, Resource, Semaphore, Side, Sleeping, Stage, State, Task, Waiting, Wipe, editionOf, hub, hubWordAt, hubsAt, isInactive, isResource, kindOf, part, read, readyAt, sideOf, size, stageOf, storePart, storeSize, stored, storesAt, task, taskSize, tasksAt, waitPart, waitsAt}
 use lib.Dec.{eqb, leb, ltb}
 use lib.ListN.{drop, getD, length}
@@ -108,20 +109,18 @@ listsExact s =
     exactly (length (s .tasks)) (isReady s) (s .ready)
     && forAll (length (s .hubs)) (λ h. exactly (length (s .tasks)) (waitsFor s h) (hub s h .waiters))
 
--- ---- "Both are ordered by rising priority number."
-
--- what orders the lists: the task's priority
-abbrev pub urgency : State → ℕ → ℕ
-urgency s i = task s i .priority
+-- ---- "Both are ordered by rising priority number." M-108: "Lists are ordered by effective priority, and well formed says so too."
 
 -- no entry is more urgent than one before it
 unfoldable pub rising : (ℕ → ℕ) → List ℕ → Bool
 rising key [] = true
 rising key (x ∷ xs) = every (λ y. leb (key x) (key y)) xs && rising key xs
 
-unfoldable pub inOrder : State → Bool
-inOrder s =
-    rising (urgency s) (s .ready) && forAll (length (s .hubs)) (λ h. rising (urgency s) (hub s h .waiters))
+unfoldable pub inOrderBy : (ℕ → ℕ) → State → Bool
+inOrderBy key s = rising key (s .ready) && forAll (length (s .hubs)) (λ h. rising key (hub s h .waiters))
+
+abbrev pub inOrder : State → Bool
+inOrder s = inOrderBy (effective s) s
 
 -- ---- the task records, by state
 
