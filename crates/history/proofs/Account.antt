@@ -1,11 +1,12 @@
 -- What is kept from call to call, of a state: the requests agree with it, each hub's met words balance, and the met are the
--- met requests (`Account`). Every accepted call keeps it: services that meet nobody, Hub request, Stop, Add hub, then all.
+-- met requests (`Account`). Every accepted call's service keeps it: services that meet nobody, Hub request, Stop, Add hub, then all;
+-- and so does the reordering behind it (`account-kept`).
 -- Not here: the hubs' own records (Made.antt), the tables of words (Run.antt).
 use Prim.Native.Nat.{_+_, _<_, _≤_, ℕ}
-use Rattle.history.proofs.Again.{Agree, agree-quiet, met-again, turned-none}
+use Rattle.history.proofs.Again.{Agree, again-kept, agree-kept, agree-quiet, met-again, turned-kept, turned-none}
 use Rattle.history.proofs.Asked.{agree-settle, turned-place, turned-settle, words-append, words-got, words-off, words-put}
-use Rattle.history.proofs.Boards.{board-or}
 use Rattle.history.proofs.Balance.{Balanced, Share, balance-step, law-side, owned-none, share-core, share-same}
+use Rattle.history.proofs.Boards.{board-or}
 use Rattle.history.proofs.Stopping.{stop-agree, stop-beyond, stop-kind, stop-share}
 use Rattle.history.proofs.Those.{howMany-append, howMany-below, no-entries}
 use Rattle.history.specs.History.{Class, Request, again, asked, howMany, isMet, opened, partOf, removedAt, removedBy, sinceBlank, those, turned, wordsOf}
@@ -20,6 +21,7 @@ use Rattle.rules.proofs.Handed.{owned-used}
 use Rattle.rules.proofs.Hubs.{SameHubs, core, hub-else, hub-target, hubs-answer, hubs-serve, many-settle, many-stop}
 use Rattle.rules.proofs.Passing.{length-stop}
 use Rattle.rules.proofs.Quiet.{Other, Quiet, isAddTask, isResume, isSleep, isStart, isSuspend, isTick, isUnknown, isYield, quiet-answer, quiet-refl, quiet-same, quiet-serve}
+use Rattle.rules.proofs.Reordered.{Kept}
 use Rattle.rules.proofs.Settled.{answer-same, partners}
 use Rattle.rules.proofs.Standing.{first-waits, listed-waiting}
 use Rattle.rules.proofs.Valid.{GetWaits, Held, MayWait, Range, Valid}
@@ -77,6 +79,11 @@ meetings-on : (s′ : State) (rs ms : List Request) → ((p : Request → Bool) 
     → (p : Request → Bool) → howMany p (ms ++ turned Class.met s′ rs) ≡ howMany (λ r. p r && isMet r) (map (again s′) rs)
 meetings-on s′ rs ms m p = omega (arith, howMany-append p ms (turned Class.met s′ rs), m p, met-again p s′ rs)
 
+-- a hub apart from its waiting list
+balanced-core : (x x′ : Hub) (n : ℕ) (ps gs : List ℕ) → core x′ ≡ core x → Balanced (kindOf (x .kind)) x n ps gs → Balanced (kindOf (x′ .kind)) x′ n ps gs
+balanced-core x x′ n ps gs e b =
+    rw (← append-nil ps, ← append-nil gs, ← add-zero n) (balanced-on x x′ n 0 ps gs [] [] (core-kind _ _ e) b (share-same _ x x′ e))
+
 -- ---- services that meet nobody
 
 module _ (s s′ : State) (rs ms : List Request) (gone : List ℕ) (a : Account s rs ms gone) (q : Quiet s s′) where
@@ -89,8 +96,7 @@ module _ (s s′ : State) (rs ms : List Request) (gone : List ℕ) (a : Account 
   account-quiet : SameHubs s s′ → Account s′ (map (again s′) rs) (ms ++ turned Class.met s′ rs) gone
   account-quiet e = record {
     agree = agree-quiet s s′ rs (a .agree) q;
-    balanced = λ h. rw (same-words h 1, same-words h 2, ← append-nil (wordsOf h 1 ms), ← append-nil (wordsOf h 2 ms), ← add-zero (removedAt h gone))
-        (balanced-on (hub s h) (hub s′ h) (removedAt h gone) 0 (wordsOf h 1 ms) (wordsOf h 2 ms) [] [] (core-kind _ _ (e .each h)) (a .balanced h) (share-same _ (hub s h) (hub s′ h) (e .each h)));
+    balanced = λ h. rw (same-words h 1, same-words h 2) (balanced-core (hub s h) (hub s′ h) (removedAt h gone) (wordsOf h 1 ms) (wordsOf h 2 ms) (e .each h) (a .balanced h));
     beyond = λ h d l. same-words h d ∙ a .beyond h d (subst (λ (n : ℕ). n ≤ h) (e .many) l);
     unowned = λ h l. a .unowned h (subst (λ (n : ℕ). n ≤ h) (e .many) l);
     meetings = meetings-on s′ rs ms (a .meetings);
@@ -291,3 +297,33 @@ account-serve key Tick s rs ms gone c a g e = account-other key Tick isTick s rs
 account-serve key AddTask s rs ms gone c a g e = account-other key AddTask isAddTask s rs ms gone c a g e
 account-serve key AddHub s rs ms gone c a g e = rw (append-nil gone) (unfold serve in account-addHub s rs ms gone c a (hub-tests s c e .0))
 account-serve key Unknown s rs ms gone c a g e = account-other key Unknown isUnknown s rs ms gone c a g e
+
+-- ---- behind the service: no record, count or store changes
+
+removed-kept : (w : Service) (s z z′ : State) (c : Call) → z′ .tasks ≡ z .tasks → removedBy w s z′ c ≡ removedBy w s z c
+unfolding removedBy
+removed-kept Blank s z z′ c e = refl
+removed-kept HubRequest s z z′ c e = refl
+removed-kept Start s z z′ c e = refl
+removed-kept Stop s z z′ c e = rw e
+removed-kept Suspend s z z′ c e = refl
+removed-kept Resume s z z′ c e = refl
+removed-kept Yield s z z′ c e = refl
+removed-kept Sleep s z z′ c e = refl
+removed-kept Tick s z z′ c e = refl
+removed-kept AddTask s z z′ c e = refl
+removed-kept AddHub s z z′ c e = refl
+removed-kept Unknown s z z′ c e = refl
+
+-- z: after the service; z′: after the call
+pub account-kept : (w : Service) (s z z′ : State) (rs ms : List Request) (gone : List ℕ) (c : Call) → Kept z z′
+    → Account z (map (again z) rs) (ms ++ turned Class.met z rs) (gone ++ removedBy w s z c)
+    → Account z′ (map (again z′) rs) (ms ++ turned Class.met z′ rs) (gone ++ removedBy w s z′ c)
+account-kept w s z z′ rs ms gone c k a =
+    rw (again-kept z z′ (k .tasks) rs, turned-kept z z′ (k .tasks) Class.met rs, removed-kept w s z z′ c (k .tasks)) (record {
+      agree = agree-kept z z′ (k .tasks) _ (a .agree);
+      balanced = λ h. balanced-core (hub z h) (hub z′ h) _ _ _ (k .hubs .each h) (a .balanced h);
+      beyond = λ h d l. a .beyond h d (subst (λ (n : ℕ). n ≤ h) (k .hubs .many) l);
+      unowned = λ h l. a .unowned h (subst (λ (n : ℕ). n ≤ h) (k .hubs .many) l);
+      meetings = a .meetings;
+    })

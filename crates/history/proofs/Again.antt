@@ -1,5 +1,6 @@
 -- Requests read again from the table after a call. In order: where the requests and a table agree (`Agree`), and that they do
--- again when waiting tasks go on, are stopped, time out or are met; how many are met, and which, when none is and when one is.
+-- again when waiting tasks go on, are stopped, time out or are met; how many are met, and which, when none is and when one is;
+-- states of the same records, which are read alike.
 -- Not here: what each service does to the records (rules' Quiet, Settled), the words (Balance.antt).
 use Prim.Native.Nat.{_+_, ℕ}
 use Rattle.history.proofs.Classes.{class-met, class-stopped, class-timed, class-waiting, class-waits, is-class, turns-true}
@@ -194,3 +195,31 @@ turned-one s s′ w rs a st m others =
 
     same : those (turns met s′) rs ≡ those (waitsBy w) rs
     same = those-same _ _ rs (each-imp (Entry s) _ just rs (a .entries))
+
+-- ---- states of the same records
+
+module _ (s s′ : State) (e : s′ .tasks ≡ s .tasks) where
+  abbrev with : List Task → State
+  with ts = record { tasks = ts; hubs = s .hubs; ready = s .ready }
+
+  pub again-kept : (rs : List Request) → map (again s′) rs ≡ map (again s) rs
+  unfolding again reread
+  again-kept rs = ap (λ (ts : List Task). map (again (with ts)) rs) e
+
+  pub turned-kept : (k : Class) (rs : List Request) → turned k s′ rs ≡ turned k s rs
+  unfolding reread turned
+  turned-kept k rs = ap (λ (ts : List Task). turned k (with ts) rs) e
+
+  stands-kept : (r : Request) → Stands s r → Stands s′ r
+  stands-kept r k = record {
+    state = rw e (k .state);
+    hub = rw e (k .hub);
+    side = rw e (k .side);
+    word = rw e (k .word);
+  }
+
+  pub agree-kept : (rs : List Request) → Agree s rs → Agree s′ rs
+  agree-kept rs a = record {
+    entries = each-imp (Entry s) _ (λ r k. record { known = k .known; stands = λ w. stands-kept r (k .stands w) }) rs (a .entries);
+    one = λ i. rw e (a .one i);
+  }

@@ -12,6 +12,7 @@ use Rattle.rules.proofs.Accepted.{Asked}
 use Rattle.rules.proofs.Blocks.{lowest-in, lowest-mark, out-in, out-mark}
 use Rattle.rules.proofs.Cases.{sameOr}
 use Rattle.rules.proofs.Hubs.{core, hub-target}
+use Rattle.rules.proofs.Reordered.{Kept, kept-task}
 use Rattle.rules.proofs.Settled.{Waiter, met-caller, met-first, partners}
 use Rattle.rules.proofs.Valid.{Held, Range, Valid}
 use Rattle.rules.proofs.Verdicts.{Each as EachMeeting, hubAfter, waitersMet}
@@ -254,3 +255,21 @@ module _ (s : State) (g : Valid s) (h : ℕ) (used : h < length (s .hubs)) (k : 
           by : isOut (message c) x ≡ true → (f : Option ℕ) → firstWaiting s 2 (x .waiters) ≡ f → Goes
           by o none q = goes-free o q
           by o (some i) q = goes-first o i q
+
+-- and behind the service, where no record, mark or count changes: z is the state after the service, z′ the one after the call
+out-kept : (z z′ : State) → Kept z z′ → (h b : ℕ) → isOut b (hub z′ h) ≡ isOut b (hub z h)
+unfolding core isOut queued
+out-kept z z′ k h b = ap (isOut b) (k .hubs .each h)
+
+pub goes-kept : (s z z′ : State) → Kept z z′ → (h b : ℕ) → (isOut b (hub z h) ≡ false) ⊎ ((i : ℕ) × GoesTo s z h b i)
+    → (isOut b (hub z′ h) ≡ false) ⊎ ((i : ℕ) × GoesTo s z′ h b i)
+goes-kept s z z′ k h b (inl o) = inl (out-kept z z′ k h b ∙ o)
+goes-kept s z z′ k h b (inr (i, g)) = inr (
+  i,
+  record {
+    first = g .first;
+    met = rw (kept-task z z′ k i) (g .met);
+    word = rw (kept-task z z′ k i) (g .word);
+    out = out-kept z z′ k h b ∙ g .out;
+  },
+)

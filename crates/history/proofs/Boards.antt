@@ -66,7 +66,7 @@ core-board : (x x′ : Hub) → core x′ ≡ core x → kindOf (x′ .kind) ≡
 unfolding core queued
 core-board x x′ e b = (sym (ap (λ (y : Hub). kindOf (y .kind)) e) ∙ b, ap (λ (y : Hub). y .held) e)
 
-boards-same : (s s′ : State) (cs : List Call) → SameHubs s s′ → Boards s cs → Boards s′ cs
+pub boards-same : (s s′ : State) (cs : List Call) → SameHubs s s′ → Boards s cs → Boards s′ cs
 boards-same s s′ cs e m = record {
   each = λ h b. let k = core-board (hub s h) (hub s′ h) (e .each h) b in k .1 ∙ m .each h (k .0);
   beyond = λ h l. m .beyond h (subst (λ (n : ℕ). n ≤ h) (e .many) l);

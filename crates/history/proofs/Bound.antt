@@ -5,7 +5,7 @@ use Rattle.history.proofs.Asked.{Outcome, isFailed, isMet, isOpen, outc
 use Rattle.history.proofs.Classes.{is-class}
 use Rattle.history.proofs.Fates.{Fate, Older, fate-serve, meets, rests, stops, ticksOf, times}
 use Rattle.history.proofs.Following.{continues-at, continues-history, continues-length, continues-step, down-same, own-place, own-there, table-next, up-same}
-use Rattle.history.proofs.Run.{Sound, accepted-service, refusal-other, shown-next, sound-next, sound-step}
+use Rattle.history.proofs.Run.{Sound, accepted-service, refusal-other, shown-task, sound-next, sound-step}
 use Rattle.history.proofs.Those.{each-at, howMany-cons}
 use Rattle.history.specs.History.{History, Request, Step, asked, calls, down, history, isClass, isWaiting, next, reread, shown, step, those, up, waiting}
 use Rattle.history.specs.Statements.{Each, NoBlank, NotBlank, Stands, isTick, noRequest, requestAt, ticksIn}
@@ -17,12 +17,13 @@ use Rattle.rules.proofs.Promise.{refused-leaves}
 use Rattle.rules.proofs.Settled.{partners}
 use Rattle.rules.proofs.Valid.{Listed}
 use Rattle.rules.specs.Calls.{AddHub, AddTask, Blank, HubRequest, Resume, Service, Sleep, Start, Stop, Suspend, Tick, Unknown, Yield, serve, serviceOf}
+use Rattle.rules.specs.Effective.{effective}
 use Rattle.rules.specs.HubTable.{verdict}
 use Rattle.rules.specs.Lists.{answered, waits}
 use Rattle.rules.specs.Refusals.{WT, goodRequest, goodWait, lastSide, modeOf, refusalFor, refusalOf}
 use Rattle.rules.specs.Reply.{tableAfter}
 use Rattle.rules.specs.Table.{State, Task, hub, kindOf, task}
-use Rattle.rules.specs.WellFormed.{urgency, within}
+use Rattle.rules.specs.WellFormed.{within}
 use Rattle.rules.specs.declared.Call.{Call}
 use borrow.Author.Tests.{eqb-false, eqb-true, ne-eqb}
 use lib.Dec.{eqb, ltb}
@@ -79,7 +80,7 @@ module _ (x : History) (g : Sound x) (c : Call) (b : serviceOf (c .service) ≢ 
       → Older (ticksOf (serviceOf (c .service))) (task (shown (x .table)) j) (task (shown (tableAfter (x .table) c)) j)
   unfolding serviceOf
   older-by zero e =
-      rw (shown-next x c e)
+      rw (shown-task x c e j)
       (λ k. fate-older (serviceOf (c .service)) c j _ _ (fate-serve _ (serviceOf (c .service)) b (shown (x .table)) c (g .valid) (accepted-service x c e) j st) k)
   older-by (suc n) e =
       rw (refused-leaves (x .table) c n e .0, no-tick)
@@ -164,8 +165,8 @@ wt-ticks s l c e m =
 module _ (x : History) (g : Sound x) (c : Call) (sv : serviceOf (c .service) ≡ HubRequest) (e : refusalOf (x .table) c ≡ 0) where
   own-ticks : task (shown (tableAfter (x .table) c)) (c .caller) .state ≡ 3 → task (shown (tableAfter (x .table) c)) (c .caller) .ticks ≡ c .ticks
   own-ticks =
-      rw (shown-next x c e, sv)
-      (unfold serve in open-ticks s c (t .run) _ (outcome-settle (urgency s) s c (t .run) (verdict s c) (partners s (g .valid .listed) c)))
+      rw (shown-task x c e (c .caller), sv)
+      (unfold serve in open-ticks s c (t .run) _ (outcome-settle (effective s) s c (t .run) (verdict s c) (partners s (g .valid .listed) c)))
     where
       s : State
       s = shown (x .table)

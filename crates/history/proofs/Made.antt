@@ -50,7 +50,7 @@ made-after c x (met n ws y ms) m = record { kind = m .kind; limit = m .limit; st
 made-after c x notNow m = m
 made-after c x fail m = m
 
-makes-same : (s s′ : State) (cs : List Call) → SameHubs s s′ → Makes s cs → Makes s′ cs
+pub makes-same : (s s′ : State) (cs : List Call) → SameHubs s s′ → Makes s cs → Makes s′ cs
 makes-same s s′ cs e m = record {
   many = m .many ∙ sym (e .many);
   each = λ h l. made-core _ (hub s h) (hub s′ h) (e .each h) (m .each h (subst (λ (n : ℕ). h < n) (e .many) l));

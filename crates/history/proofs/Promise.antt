@@ -2,14 +2,14 @@
 -- specs/Statements.antt).
 -- A Blank on any words of either size begins a run (`blank-begins`).
 use Prim.Native.Nat.{_+_, _<_, _≤_, suc, zero, ℕ}
-use Rattle.history.proofs.Again.{Entry}
+use Rattle.history.proofs.Again.{Entry, turned-kept}
 use Rattle.history.proofs.Balance.{Balanced}
-use Rattle.history.proofs.Blocks.{else-met, goes-back, held-back, lowest-next, lowest-taken, mark-low, so-many-out}
+use Rattle.history.proofs.Blocks.{else-met, goes-back, goes-kept, held-back, lowest-next, lowest-taken, mark-low, so-many-out}
 use Rattle.history.proofs.Bound.{bound}
 use Rattle.history.proofs.Following.{continues-history, moves-same, own-place}
 use Rattle.history.proofs.Meetings.{met-in}
-use Rattle.history.proofs.Reasons.{class-own, one-met, turned-failed, turned-met, turned-reads, turned-timed, turned-withdrawn}
-use Rattle.history.proofs.Run.{Sound, accepted-service, refusal-other, shown-next, sound-run}
+use Rattle.history.proofs.Reasons.{class-own, met-kept, one-met, turned-failed, turned-met, turned-reads, turned-timed, turned-withdrawn}
+use Rattle.history.proofs.Run.{Sound, accepted-service, done, refusal-other, shown-kept, shown-task, sound-run}
 use Rattle.history.proofs.Those.{each-both, each-imp, occ-those}
 use Rattle.history.specs.History.{Class, History, Request, Step, asked, at, begun, boardWord, failed, history, howMany, isOwned, metCount, metWith, next, nextBy, opened, partOf, passed, removedAt, reread, rowClass, shown, those, timedOut, turned, turnedBy, turnedTo, withdrawn, wordsOf}
 use Rattle.history.specs.Statements.{Asks, Bears, Begins, Blocks, Demand3, Each, EachMet, EachRead, Lowest, Met, MetBy, OneEach, Own, addedAs, classHad, requestAt}
@@ -18,19 +18,20 @@ use Rattle.lists.specs.Lists.{bit, occ}
 use Rattle.rules.proofs.Accepted.{Asked, request-tests}
 use Rattle.rules.proofs.After.{well-formed-not-2}
 use Rattle.rules.proofs.Promise.{blank-accepted}
+use Rattle.rules.proofs.Reordered.{Kept}
 use Rattle.rules.proofs.Valid.{Range}
 use Rattle.rules.specs.Calls.{HubRequest, Service, Stop, Tick, serve, serviceOf, settle}
-use Rattle.rules.specs.HubTable.{verdict}
+use Rattle.rules.specs.Effective.{effective}
+use Rattle.rules.specs.HubTable.{message, verdict}
 use Rattle.rules.specs.Refusals.{refusalFor, refusalOf}
 use Rattle.rules.specs.Reply.{tableAfter}
 use Rattle.rules.specs.Table.{Board, Event, Fifo, Hub, Kind, Memory, NoKind, Port, Resource, Semaphore, State, editionOf, hub, kindOf, noHub, size}
-use Rattle.rules.specs.WellFormed.{urgency}
 use Rattle.rules.specs.declared.Call.{Call}
 use borrow.Author.Tests.{ltb-false, ltb-true}
 use lib.Dec.{eqb, ltb}
 use lib.ListN.{List·getD-eq-default, getD, length, length-map}
-use mathlib.Core.List.{List, []}
 use mathlib.Core.Bool.{_&&_, false≢true}
+use mathlib.Core.List.{List, []}
 use mathlib.Core.Logic.{_≢_, _⊎_, inl, inr}
 use mathlib.Core.Option.{some}
 use mathlib.Core.Path.{_∙_, _≡_, ap, refl, subst, sym}
@@ -93,25 +94,29 @@ module _ (x : History) (g : Sound x) where
 
   -- ---- the next call
 
-  abbrev after : Call → State
-  after c = serve (urgency s) (serviceOf (c .service)) s c
+  -- the requests that the table after an accepted call is read for, and those of them that turn
+  abbrev readFor : Call → List Request
+  readFor c = opened (partOf (serviceOf (c .service))) s c (x .requests)
 
-  -- what holds of those that turn in an accepted call, by its service, holds in any call
-  turned-next : (k : Class) (Q : State → List Request → Type 0) (c : Call)
-      → (refusalFor (serviceOf (c .service)) s c ≡ 0 → Q (after c) (turned k (after c) (opened (partOf (serviceOf (c .service))) s c (x .requests))))
+  turned-shown : (k : Class) (c : Call) → refusalOf (x .table) c ≡ 0 → turned k (shown (tableAfter (x .table) c)) (readFor c) ≡ turned k (done s c) (readFor c)
+  turned-shown k c e = turned-kept (done s c) (shown (tableAfter (x .table) c)) (shown-kept x c e .tasks) k (readFor c)
+
+  -- what holds of those that turn in an accepted call, by its service, holds in any call, where no order of lists matters to it
+  turned-next : (k : Class) (Q : State → List Request → Type 0) → ((z z′ : State) → Kept z z′ → (l : List Request) → Q z l → Q z′ l) → (c : Call)
+      → (refusalFor (serviceOf (c .service)) s c ≡ 0 → Q (done s c) (turned k (done s c) (readFor c)))
       → ((s′ : State) → Q s′ []) → Q (shown (tableAfter (x .table) c)) (turnedTo k x c)
   unfolding turnedTo
-  turned-next k Q c f z = by (refusalOf (x .table) c) refl
+  turned-next k Q kept c f z = by (refusalOf (x .table) c) refl
     where
       by : (n : ℕ) → refusalOf (x .table) c ≡ n → Q (shown (tableAfter (x .table) c)) (turnedBy n k (x .table) c (x .requests))
-      by zero e = unfold turnedBy in rw (shown-next x c e) (f (accepted-service x c e))
+      by zero e = unfold turnedBy in rw (turned-shown k c e) (kept (done s c) _ (shown-kept x c e) _ (f (accepted-service x c e)))
       by (suc n) e = unfold turnedBy in z (shown (tableAfter (x .table) c))
 
   -- each of them
-  each-next : (k : Class) (P : State → Request → Type 0) (c : Call)
-      → (refusalFor (serviceOf (c .service)) s c ≡ 0 → Each (P (after c)) (turned k (after c) (opened (partOf (serviceOf (c .service))) s c (x .requests))))
+  each-next : (k : Class) (P : State → Request → Type 0) → ((z z′ : State) → Kept z z′ → (r : Request) → P z r → P z′ r) → (c : Call)
+      → (refusalFor (serviceOf (c .service)) s c ≡ 0 → Each (P (done s c)) (turned k (done s c) (readFor c)))
       → Each (P (shown (tableAfter (x .table) c))) (turnedTo k x c)
-  each-next k P c f = turned-next k (λ s′ l. Each (P s′) l) c f (λ s′. unfold Each in tt)
+  each-next k P kept c f = turned-next k (λ s′ l. Each (P s′) l) (λ z z′ e l. each-imp (P z) (P z′) (kept z z′ e) l) c f (λ s′. unfold Each in tt)
 
   reads : (c : Call) → Each (Bears x c) (turnedTo Class.met x c)
   unfolding next turnedTo
@@ -119,14 +124,15 @@ module _ (x : History) (g : Sound x) where
     where
       by : (n : ℕ) → refusalOf (x .table) c ≡ n
           → Each (λ r. kindOf (hub s (r .hub) .kind) ≡ Board → r .side ≡ 2 → boardWord (r .hub) (nextBy n x c .calls) ≡ some (r .received)) (turnedBy n Class.met (x .table) c (x .requests))
-      by zero e = unfold nextBy turnedBy in rw (shown-next x c e) (turned-reads (urgency s) _ s (x .requests) c (x .calls) (g .account .agree) (g .valid) (g .boards) (accepted-service x c e))
+      by zero e = unfold nextBy turnedBy in rw (turned-shown Class.met c e)
+          (turned-reads (effective s) _ s (x .requests) c (x .calls) (g .account .agree) (g .valid) (g .boards) (accepted-service x c e))
       by (suc n) e = unfold Each turnedBy in tt
 
   own : (c : Call) → serviceOf (c .service) ≡ HubRequest → refusalOf (x .table) c ≡ 0
       → requestAt (next x c) (length (x .requests)) .class ≡ rowClass (verdict s c) c
   unfolding asked reread
   own c sv e =
-      rw (own-place x c sv e, shown-next x c e, sv) (class-own (urgency s) s c (g .valid) (rw sv at (accepted-service x c e)))
+      rw (own-place x c sv e, shown-task x c e (c .caller), sv) (class-own (effective s) s c (g .valid) (rw sv at (accepted-service x c e)))
 
   sound-demand : Demand3 x
   sound-demand = record {
@@ -145,11 +151,11 @@ module _ (x : History) (g : Sound x) where
     memory = memory;
     reads = reads;
     own = own;
-    metMeansMet = λ c. each-next Class.met (λ s′. MetBy s s′ c) c (λ o. turned-met (urgency s) _ s (x .requests) c (g .account .agree) (g .valid) o refl);
-    fails = λ c. each-next failed (λ s′. Own c) c (λ o. turned-failed (urgency s) _ s (x .requests) c (g .account .agree) (g .valid) o refl);
-    timesOut = λ c. each-next timedOut (λ s′ r. serviceOf (c .service) ≡ Tick) c (λ o. turned-timed (urgency s) _ s (x .requests) c (g .account .agree) (g .valid) o refl);
-    isWithdrawn = λ c. each-next withdrawn (λ s′ r. (serviceOf (c .service) ≡ Stop) × (r .task ≡ c .target)) c
-        (λ o. turned-withdrawn (urgency s) _ s (x .requests) c (g .account .agree) (g .valid) o refl);
+    metMeansMet = λ c. each-next Class.met (λ s′. MetBy s s′ c) (λ z z′ k. met-kept s z z′ c k) c (λ o. turned-met (effective s) _ s (x .requests) c (g .account .agree) (g .valid) o refl);
+    fails = λ c. each-next failed (λ s′. Own c) (λ z z′ k r p. p) c (λ o. turned-failed (effective s) _ s (x .requests) c (g .account .agree) (g .valid) o refl);
+    timesOut = λ c. each-next timedOut (λ s′ r. serviceOf (c .service) ≡ Tick) (λ z z′ k r p. p) c (λ o. turned-timed (effective s) _ s (x .requests) c (g .account .agree) (g .valid) o refl);
+    isWithdrawn = λ c. each-next withdrawn (λ s′ r. (serviceOf (c .service) ≡ Stop) × (r .task ≡ c .target)) (λ z z′ k r p. p) c
+        (λ o. turned-withdrawn (effective s) _ s (x .requests) c (g .account .agree) (g .valid) o refl);
     bound = λ c ds sv e m b l. bound x g c sv e m ds b l;
     moves = moves-same x;
     formed = g .formed;
@@ -160,8 +166,8 @@ module _ (x : History) (g : Sound x) where
 
   sound-one : OneEach x
   sound-one c h d e =
-      turned-next Class.met (λ s′ l. howMany (at h d) l ≤ 1) c
-      (λ o. one-met (urgency s) _ s (x .requests) c (g .account .agree) (g .valid) o h d e)
+      turned-next Class.met (λ s′ l. howMany (at h d) l ≤ 1) (λ z z′ k l p. p) c
+      (λ o. one-met (effective s) _ s (x .requests) c (g .account .agree) (g .valid) o h d e)
       (λ s′. unfold those in omega arith)
 
   -- ---- M-107, of a Memory hub
@@ -176,15 +182,15 @@ module _ (x : History) (g : Sound x) where
     class-had : (d : ℕ) (c : Call) → Asks x h d c → classHad x c ≡ rowClass (verdict s c) c
     class-had d c a = own c (a .service) (a .accepted)
 
-    next-table : (d : ℕ) (c : Call) → Asks x h d c → shown (next x c .table) ≡ settle (urgency s) (verdict s c) s c
+    next-kept : (d : ℕ) (c : Call) → Asks x h d c → Kept (settle (effective s) (verdict s c) s c) (shown (next x c .table))
     unfolding next nextBy serve
-    next-table d c a = rw (a .accepted) (shown-next x c (a .accepted) ∙ rw (a .service) refl)
+    next-kept d c a = rw (a .accepted) (rw (a .service) at (shown-kept x c (a .accepted)))
 
     taken : (c : Call) → Asks x h 2 c → classHad x c ≡ Class.met → Lowest s h (requestAt (next x c) (length (x .requests)) .received)
     unfolding asked reread serve
     taken c a m =
-        rw (own-place x c (a .service) (a .accepted), shown-next x c (a .accepted), a .service)
-        (lowest-taken s (g .valid) h used e c (a .target) (urgency s) (asked-of 2 c a) (a .side) (sym (class-had 2 c a) ∙ m))
+        rw (own-place x c (a .service) (a .accepted), shown-task x c (a .accepted) (c .caller), a .service)
+        (lowest-taken s (g .valid) h used e c (a .target) (effective s) (asked-of 2 c a) (a .side) (sym (class-had 2 c a) ∙ m))
 
     sound-blocks : Blocks x h
     unfolding Balanced
@@ -194,7 +200,7 @@ module _ (x : History) (g : Sound x) where
       heldBack = λ c a. held-back s (g .valid) h used e c (a .target) (a .side);
       only = λ c a n. class-had 2 c a ∙ else-met s (g .valid) h used e c (a .target) (a .side) n;
       taken = taken;
-      returned = λ c a m. rw (next-table 1 c a) (goes-back s (g .valid) h used e c (a .target) (urgency s) (asked-of 1 c a) (a .side) (sym (class-had 1 c a) ∙ m));
+      returned = λ c a m. goes-kept s _ _ (next-kept 1 c a) h (message c) (goes-back s (g .valid) h used e c (a .target) (effective s) (asked-of 1 c a) (a .side) (sym (class-had 1 c a) ∙ m));
       usedAgain = λ c a. lowest-next s (g .valid) h used e c (a .target) (a .side);
     }
 

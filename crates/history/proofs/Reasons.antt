@@ -19,6 +19,7 @@ use Rattle.rules.proofs.Handed.{is-heir, owned-kind, takes}
 use Rattle.rules.proofs.Hubs.{core, hub-target}
 use Rattle.rules.proofs.Passing.{length-stop}
 use Rattle.rules.proofs.Quiet.{Quiet}
+use Rattle.rules.proofs.Reordered.{Kept, kept-task}
 use Rattle.rules.proofs.Settled.{Partners, answer-same, met-caller, partners, quiet-told}
 use Rattle.rules.proofs.Standing.{listed-waits}
 use Rattle.rules.proofs.Valid.{Listed, Valid}
@@ -27,7 +28,7 @@ use Rattle.rules.specs.Calls.{AddHub, AddTask, Blank, HubRequest, Resume, Servi
 use Rattle.rules.specs.HubTable.{Meeting, Verdict, fail, getBoard, message, met, notNow, readers, verdict}
 use Rattle.rules.specs.Lists.{answer, answered, firstWaiting, holding, queued}
 use Rattle.rules.specs.Refusals.{refusalFor}
-use Rattle.rules.specs.Table.{Board, Fifo, Hub, Kind, State, Task, hub, kindOf, owns, sideOf, task}
+use Rattle.rules.specs.Table.{Board, Fifo, Hub, Kind, State, Task, hub, isResource, kindOf, owns, sideOf, task}
 use Rattle.rules.specs.declared.Call.{Call}
 use borrow.Author.Tests.{ne-eqb}
 use lib.Dec.{eqb}
@@ -316,6 +317,50 @@ turned-met key w s rs c a g ok sv =
     (λ nu. met-row key s c (sv ∙ e) t (verdict s c) refl (few s c) nu (partners s (g .listed) c)))
     (λ e run u. by-stop key s rs c a g run u (sv ∙ e))
     (λ s′. unfold Each in tt)
+
+-- and behind the service, where no record, count or store changes: z is the state after the service, z′ the one after the call
+module _ (s z z′ : State) (c : Call) (k : Kept z z′) where
+  class-kept : (i : ℕ) → classOf (task z i) ≡ Class.met → classOf (task z′ i) ≡ Class.met
+  class-kept i e = rw (kept-task z z′ k i) e
+
+  owner-kept : (i h : ℕ) → owns i (hub z h) ≡ true → owns i (hub z′ h) ≡ true
+  unfolding core isResource owns queued
+  owner-kept i h e = ap (owns i) (k .hubs .each h) ∙ e
+
+  row-kept : (r : Request) → ByRow s z c r → ByRow s z′ c r
+  unfolding core queued
+  row-kept r b = record {
+    count = b .count;
+    held = b .held;
+    waiters = b .waiters;
+    own = b .own;
+    row = b .row;
+    counts = ap (λ (h : Hub). h .count) (k .hubs .each (c .target)) ∙ b .counts;
+    holds = ap (λ (h : Hub). h .held) (k .hubs .each (c .target)) ∙ b .holds;
+    others = each-imp _ _ (λ m e. class-kept (m .waiter) e) (b .waiters) (b .others);
+  }
+
+  pub met-kept : (r : Request) → MetBy s z c r → MetBy s z′ c r
+  met-kept r (itself b) = itself (row-kept r b)
+  met-kept r (partner b) = partner (record { service = b .service; place = b .place; sides = b .sides; first = b .first; caller = class-kept (c .caller) (b .caller) })
+  met-kept r (passed b) = passed (record {
+    service = b .service;
+    answer = rw (kept-task z z′ k (c .caller)) (b .answer);
+    owned = b .owned;
+    side = b .side;
+    first = b .first;
+    owner = owner-kept (r .task) (r .hub) (b .owner);
+  })
+  met-kept r (updated b) = updated (record {
+    service = b .service;
+    board = b .board;
+    update = b .update;
+    place = b .place;
+    side = b .side;
+    waited = b .waited;
+    word = b .word;
+    caller = class-kept (c .caller) (b .caller);
+  })
 
 -- at a FIFO; an update's readers are all at its Board
 pub one-met : (key : ℕ → ℕ) (w : Service) (s : State) (rs : List Request) (c : Call) → Agree s rs → Valid s → refusalFor w s c ≡ 0

@@ -1,20 +1,24 @@
 -- What holds of a run's history after every step: its table is well formed, and its requests and hubs are in account with
 -- the state shown (`Sound`). From words to states by the rules' own promises (rules' Promise.antt); all else is of states.
 use Prim.Native.Nat.{suc, zero, ℕ}
-use Rattle.history.proofs.Account.{Account, account-blank, account-serve}
-use Rattle.history.proofs.Boards.{Boards, boards-blank, boards-serve}
-use Rattle.history.proofs.Made.{Makes, makes-blank, makes-serve}
-use Rattle.history.specs.History.{History, Step, begun, calls, down, goneOn, history, next, nextBy, shown, step, turnedBy, up}
+use Rattle.history.proofs.Account.{Account, account-blank, account-kept, account-serve}
+use Rattle.history.proofs.Boards.{Boards, boards-blank, boards-same, boards-serve}
+use Rattle.history.proofs.Made.{Makes, makes-blank, makes-same, makes-serve}
+use Rattle.history.specs.History.{History, Step, begun, calls, down, goneOn, history, next, nextBy, opened, partOf, shown, sinceBlank, step, turnedBy, up}
 use Rattle.history.specs.Statements.{Begins}
 use Rattle.rules.proofs.After.{accepted, at-other, read-valid, well-formed-long}
 use Rattle.rules.proofs.Editions.{down-shows, down-well-formed, up-shows, up-well-formed}
+use Rattle.rules.proofs.Inherited.{kept-reordered}
 use Rattle.rules.proofs.Promise.{read-after, refused-leaves, well-formed-after}
+use Rattle.rules.proofs.Reordered.{Kept, kept-task}
+use Rattle.rules.proofs.Still.{served-blank}
 use Rattle.rules.proofs.Valid.{Valid}
-use Rattle.rules.specs.Calls.{blank, serve, served, serviceOf}
+use Rattle.rules.specs.Calls.{Service, blank, serve, served, serviceOf}
+use Rattle.rules.specs.Effective.{effective}
 use Rattle.rules.specs.Refusals.{isBlank, need, refusal, refusalAt, refusalFor, refusalIn, refusalOf}
 use Rattle.rules.specs.Reply.{tableAfter}
-use Rattle.rules.specs.Table.{editionOf, size}
-use Rattle.rules.specs.WellFormed.{urgency, wellFormed}
+use Rattle.rules.specs.Table.{State, editionOf, size, task}
+use Rattle.rules.specs.WellFormed.{wellFormed}
 use Rattle.rules.specs.declared.Call.{Call}
 use borrow.Author.Tests.{eq-eqb}
 use lib.ListN.{length}
@@ -32,6 +36,10 @@ pub record Sound (x : History) : Type 0 where
 
 -- ---- a call, by its service on the state shown
 
+-- what the service leaves, by the effective priorities before the call
+abbrev pub done : State → Call → State
+done s c = serve (effective s) (serviceOf (c .service)) s c
+
 module _ (x : History) (g : Sound x) (c : Call) where
   pub refusal-shown : refusalOf (x .table) c ≡ refusalAt (editionOf (x .table)) (shown (x .table)) c
   unfolding need refusalIn
@@ -46,8 +54,13 @@ module _ (x : History) (c : Call) (e : refusalOf (x .table) c ≡ 0) where
   pub accepted-service : refusalFor (serviceOf (c .service)) (shown (x .table)) c ≡ 0
   accepted-service = unfold refusal in accepted (editionOf (x .table)) (x .table) c e .1
 
-  pub shown-next : shown (tableAfter (x .table) c) ≡ serve (urgency (shown (x .table))) (serviceOf (c .service)) (shown (x .table)) c
-  shown-next = unfold served in read-after (x .table) c e
+  -- the state shown after the call is as its service leaves it (`done`), but for the order of lists (M-108)
+  pub shown-kept : Kept (done (shown (x .table)) c) (shown (tableAfter (x .table) c))
+  unfolding served
+  shown-kept = rw (read-after (x .table) c e) (kept-reordered (shown (x .table)) (done (shown (x .table)) c))
+
+  pub shown-task : (j : ℕ) → task (shown (tableAfter (x .table) c)) j ≡ task (done (shown (x .table)) c) j
+  shown-task = kept-task (done (shown (x .table)) c) (shown (tableAfter (x .table) c)) shown-kept
 
 -- ---- from call to call
 
@@ -56,10 +69,17 @@ unfolding nextBy turnedBy
 sound-by zero x c g e = record {
   formed = well-formed-after (x .table) c e;
   valid = read-valid (tableAfter (x .table) c) (well-formed-after (x .table) c e);
-  account = rw (shown-next x c e) (account-serve _ (serviceOf (c .service)) (shown (x .table)) (x .requests) (x .met) (x .removed) c (g .account) (g .valid) (accepted-service x c e));
-  makes = rw (shown-next x c e) (makes-serve _ (serviceOf (c .service)) (shown (x .table)) c (x .added) (g .valid .listed) (accepted-service x c e) (g .makes));
-  boards = rw (shown-next x c e) (boards-serve _ (serviceOf (c .service)) (shown (x .table)) c (x .calls) (g .valid .listed) (accepted-service x c e) (g .boards));
+  account = account-kept w s (done s c) _ (opened (partOf w) s c (x .requests)) (sinceBlank (partOf w) (x .met)) (sinceBlank (partOf w) (x .removed)) c (shown-kept x c e)
+      (account-serve _ w s (x .requests) (x .met) (x .removed) c (g .account) (g .valid) (accepted-service x c e));
+  makes = makes-same (done s c) _ _ (shown-kept x c e .hubs) (makes-serve _ w s c (x .added) (g .valid .listed) (accepted-service x c e) (g .makes));
+  boards = boards-same (done s c) _ _ (shown-kept x c e .hubs) (boards-serve _ w s c (x .calls) (g .valid .listed) (accepted-service x c e) (g .boards));
 }
+  where
+    s : State
+    s = shown (x .table)
+
+    w : Service
+    w = serviceOf (c .service)
 sound-by (suc n) x c g e = record {
   formed = rw (refused-leaves (x .table) c n e .0) (g .formed);
   valid = rw (refused-leaves (x .table) c n e .0) (g .valid);
@@ -99,8 +119,7 @@ sound-history x (d ∷ ds) g = sound-history (step x d) ds (sound-step x d g)
 -- ---- a run
 
 first-shown : (w : List ℕ) (b : Call) → Begins w b → shown (tableAfter w b) ≡ blank
-unfolding serve served
-first-shown w b g = read-after w b (g .accepted) ∙ rw (g .blank) refl
+first-shown w b g = read-after w b (g .accepted) ∙ served-blank (shown w) b (g .blank)
 
 pub sound-run : (w : List ℕ) (b : Call) → Begins w b → (ds : List Step) → Sound (history (begun (tableAfter w b)) ds)
 sound-run w b g ds = sound-history _ ds first

@@ -4,16 +4,18 @@
 -- A line for each step behind the Blank, a line for each request that the calls opened; refused calls open none.
 use Prim.Native.Nat.{ℕ}
 use Rattle.history.specs.History.{Class, History, Request, Step, again, asked, begun, called, calls, classBy, classOf, down, failed, goneOn, history, made, met, metCount, next, nextBy, opened, partOf, removedAt, removedBy, reread, shown, sinceBlank, step, those, timedOut, turned, turnedBy, turnedTo, up, waiting, withdrawn, wordsOf}
-use Rattle.lists.specs.Lists.{allZero, entries, indexOf, insert, numbers, occ, packed, without}
+use Rattle.lists.specs.Lists.{allZero, entries, indexOf, insert, numbers, occ, only, packed, without}
 use Rattle.rules.specs.Calls.{addHub, addStarted, addTask, blank, carryOut, deactivate, flag, grant, hold, kept, meetAll, newHub, passAll, passOne, serve, served, serviceOf, settle, slept, start, stop, tickAll, tickBy, tickOne, wait, yielded}
 use Rattle.rules.specs.Editions.{downRefusal, highZero, moveRefusal, upRefusal, zerosAt}
+use Rattle.rules.specs.Effective.{effective, overOwned, overTask, overWaiters}
 use Rattle.rules.specs.HubTable.{getBoard, getEvent, getFifo, getMemory, getPort, getResource, getSemaphore, giveBack, isOut, onGet, onPut, onSide, onWipe, pass, putBoard, putEvent, putFifo, putMemory, putPort, putResource, putSemaphore, readers, verdict}
 use Rattle.rules.specs.Lists.{answer, answered, asleep, counted, firstFree, firstWaiting, flagged, holding, joinHub, joinReady, leave, queued, readied, unqueue, waits, wake}
 use Rattle.rules.specs.Lists.{next as running}
 use Rattle.rules.specs.Refusals.{behind, byRunning, goodHub, goodWait, lastSide, modeOf, need, onTask, refusal, refusalAt, refusalFor, refusalIn}
+use Rattle.rules.specs.Reorder.{putBack, rejoin, rejoinHub, reordered, takenOut, thinned}
 use Rattle.rules.specs.Reply.{tableAfter, tableBy, tableIn}
 use Rattle.rules.specs.Table.{contents, editionOf, heldIn, hub, hubAt, inactive, isResource, kindOf, noHub, one, owns, read, rows, setHub, setReady, setTask, sideOf, size, stageOf, stored, tab, taskAt, two, words}
-use Rattle.rules.specs.WellFormed.{bearsWord, contentsRight, every, exactly, fieldsRight, forAll, hubsRight, inOrder, kindRight, listsExact, listsPacked, mayWait, oneSide, ownerRight, ownersRight, rising, stageRight, storeRight, storesRight, tasksRight, unusedZero, valid, waitersRight, wellFormedIn, written}
+use Rattle.rules.specs.WellFormed.{bearsWord, contentsRight, every, exactly, fieldsRight, forAll, hubsRight, inOrderBy, kindRight, listsExact, listsPacked, mayWait, oneSide, ownerRight, ownersRight, rising, stageRight, storeRight, storesRight, tasksRight, unusedZero, valid, waitersRight, wellFormedIn, written}
 use Rattle.rules.specs.declared.Call.{Call}
 use lib.ListN.{replicate}
 use mathlib.Core.List.{List, [], _∷_}
@@ -55,7 +57,7 @@ seen x = record {
 
 -- what is seen of a run; to unfold it is to unfold all that it computes with
 unfoldable pub shows : List Step → Seen
-unfolding addHub addStarted addTask again allZero answer answered asked asleep bearsWord begun behind blank byRunning called carryOut classBy classOf contents contentsRight counted deactivate downRefusal editionOf entries every exactly fieldsRight firstFree firstWaiting flag flagged forAll getBoard getEvent getFifo getMemory getPort getResource getSemaphore giveBack goneOn goodHub goodWait grant heldIn highZero history hold holding hubAt hubsRight inOrder inactive indexOf insert isOut isResource joinHub joinReady kept kindOf kindRight lastSide leave listsExact listsPacked made mayWait meetAll metCount modeOf moveRefusal need newHub next nextBy noHub numbers occ onGet onPut onSide onTask onWipe oneSide opened ownerRight ownersRight owns packed partOf pass passAll passOne putBoard putEvent putFifo putMemory putPort putResource putSemaphore queued read readers readied refusal refusalAt refusalFor refusalIn removedBy reread rising rows run running seen serve served serviceOf setHub setReady setTask settle sideOf sinceBlank slept stageOf stageRight start step stop storeRight stored storesRight tab tableBy tableIn taskAt tasksRight those tickAll tickBy tickOne turned turnedBy turnedTo unqueue unusedZero upRefusal valid verdict wait waitersRight waits wake wellFormedIn without words wordsOf written yielded zerosAt
+unfolding addHub addStarted addTask again allZero answer answered asked asleep bearsWord begun behind blank byRunning called carryOut classBy classOf contents contentsRight counted deactivate downRefusal editionOf effective entries every exactly fieldsRight firstFree firstWaiting flag flagged forAll getBoard getEvent getFifo getMemory getPort getResource getSemaphore giveBack goneOn goodHub goodWait grant heldIn highZero history hold holding hubAt hubsRight inOrderBy inactive indexOf insert isOut isResource joinHub joinReady kept kindOf kindRight lastSide leave listsExact listsPacked made mayWait meetAll metCount modeOf moveRefusal need newHub next nextBy noHub numbers occ onGet onPut onSide onTask onWipe oneSide only opened overOwned overTask overWaiters ownerRight ownersRight owns packed partOf pass passAll passOne putBack putBoard putEvent putFifo putMemory putPort putResource putSemaphore queued read readers readied refusal refusalAt refusalFor refusalIn rejoin rejoinHub removedBy reordered reread rising rows run running seen serve served serviceOf setHub setReady setTask settle sideOf sinceBlank slept stageOf stageRight start step stop storeRight stored storesRight tab tableBy tableIn takenOut taskAt tasksRight thinned those tickAll tickBy tickOne turned turnedBy turnedTo unqueue unusedZero upRefusal valid verdict wait waitersRight waits wake wellFormedIn without words wordsOf written yielded zerosAt
 shows ds = seen (run ds)
 
 -- the marked calls behind the Blank
