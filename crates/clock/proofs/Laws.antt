@@ -1,9 +1,9 @@
 -- A task's tick by its record: the cases of `tickOne`, and a state that some tasks have ticked in. Assumes nothing.
 use Prim.Native.Nat.{_≤_, suc, ℕ}
-use Rattle.moves.specs.Moves.{Sound}
 use Rattle.rules.proofs.Hubs.{hubs-tick}
 use Rattle.rules.proofs.Lengths.{length-tick}
 use Rattle.rules.proofs.Listed.{listed-tick}
+use Rattle.rules.proofs.Valid.{Sound}
 use Rattle.rules.specs.Calls.{tickAll, tickBy, tickOne}
 use Rattle.rules.specs.Lists.{counted, wake}
 use Rattle.rules.specs.Table.{State, setTask, task}

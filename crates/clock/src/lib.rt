@@ -2,9 +2,10 @@
 use records::TaskNo;
 use records::TaskRecord;
 ghost use Prim.Native.Nat.{_<_, _≤_};
-ghost use Rattle.moves.specs.Moves.{Sound, keyOf};
+ghost use Rattle.moves.specs.Moves.{keyOf};
 ghost use Rattle.records.specs.Records.{Table};
 ghost use Rattle.rules.proofs.Layouts.{Laid};
+ghost use Rattle.rules.proofs.Valid.{Sound};
 ghost use Rattle.rules.specs.Calls.{tickAll, tickOne};
 ghost use Rattle.rules.specs.Lists.{counted};
 ghost use Rattle.rules.specs.Table.{Layout, State, setTask, task, words};

@@ -5,8 +5,8 @@ use Prim.Native.Nat.{_*_, _+_, _-_, _<_, _≤_, suc, zero, ℕ}
 use Rattle.lists.proofs.Counting.{occ-here}
 use Rattle.lists.proofs.Laws.{boolCase, join-entries, leave-entries, length-entries, place-entries, without-none}
 use Rattle.lists.specs.Lists.{entries, indexOf, insertAt, occ, placeIn, placeOf, removeAt, without}
-use Rattle.moves.specs.Moves.{Sound, keyOf, taskOf}
 use Rattle.messages.specs.Messages.{messageAt, messages}
+use Rattle.moves.specs.Moves.{keyOf, taskOf}
 use Rattle.records.specs.Records.{first, hubsAt as hubsFrom, taskAt, taskWords as recordWords, waitsAt as waitsFrom, width}
 use Rattle.records.specs.declared.TaskRecord.{TaskRecord}
 use Rattle.rules.proofs.Changes.{inUse}
@@ -14,7 +14,7 @@ use Rattle.rules.proofs.Cut.{Cut, cut-part, cut-paste, cut-sets}
 use Rattle.rules.proofs.Layouts.{Laid, answer-at, message-word, message-written, sized, wide}
 use Rattle.rules.proofs.Places.{cut-ready, cut-task, cut-waiters, hub-word, same-hub, same-task, task-word, wait-word}
 use Rattle.rules.proofs.Standing.{listed-waits}
-use Rattle.rules.proofs.Valid.{Listed, Valid}
+use Rattle.rules.proofs.Valid.{Listed, Sound, Stands, Valid}
 use Rattle.rules.specs.Lists.{firstWaiting, joinHub, joinReady, leave, queued, unqueue}
 use Rattle.rules.specs.Table.{Hub, Layout, State, Task, hub, hubWords, noHub, readyAt, setHub, setReady, setTask, task, taskSize, taskWords, waitsAt, words}
 use borrow.Author.Tests.{eq-eqb, ltb-false, ltb-true, ne-eqb}
@@ -145,15 +145,15 @@ module _ (i : ℕ) where
   one-leaves (x ∷ xs) zero h e = rw (all-stay xs (λ h. e (suc h) (λ q. omega (arith, q))))
   one-leaves (x ∷ xs) (suc k) h e = rw (stays x (e 0 (λ q. omega (arith, q))), one-leaves xs k (omega arith) (λ h n. e (suc h) (λ q. n (omega (arith, q)))))
 
-module _ (s : State) (l : Listed s) (i : ℕ) where
+module _ (i : ℕ) (s : State) (g : Stands i s) where
   not-listed : (task s i .state ≡ 2 → ⊥) → occ i (s .ready) ≡ 0
-  not-listed n = rw (l .ready i, ne-eqb (task s i .state) 2 n) refl
+  not-listed n = rw (g .inReady, ne-eqb (task s i .state) 2 n) refl
 
   not-queued : (task s i .state ≡ 3 → ⊥) → (h : ℕ) → occ i (hub s h .waiters) ≡ 0
-  not-queued n h = rw (l .waiters h i, ne-eqb (task s i .state) 3 n) refl
+  not-queued n h = rw (g .atHub h, ne-eqb (task s i .state) 3 n) refl
 
   not-there : (h : ℕ) → (task s i .hub ≡ suc h → ⊥) → occ i (hub s h .waiters) ≡ 0
-  not-there h n = rw (l .waiters h i, ne-eqb (task s i .hub) (suc h) n, and-false) refl
+  not-there h n = rw (g .atHub h, ne-eqb (task s i .hub) (suc h) n, and-false) refl
 
   pub leave-none : (task s i .state ≡ 2 → ⊥) → ((h : ℕ) → occ i (hub s h .waiters) ≡ 0) → leave i s ≡ s
   unfolding leave
@@ -167,10 +167,10 @@ module _ (s : State) (l : Listed s) (i : ℕ) where
   pub leave-queued : (h : ℕ) → h < length (s .hubs) → task s i .state ≡ 3 → task s i .hub ≡ suc h → leave i s ≡ setHub h (unqueue i (hub s h)) s
   unfolding leave setHub
   leave-queued h used e f =
-      rw (without-none i (s .ready) (not-listed (λ g. omega (arith, e, g))), one-leaves i (s .hubs) h used (λ k n. not-there k (λ g. n (omega (arith, f, g))))) refl
+      rw (without-none i (s .ready) (not-listed (λ q. omega (arith, e, q))), one-leaves i (s .hubs) h used (λ k n. not-there k (λ q. n (omega (arith, f, q))))) refl
 
 -- the list that `leave_list` picks by the task's record, and what it may rest on
-module _ (L : Layout) (s : State) (sound : Sound s) (i : ℕ) (x : TaskRecord) (e : taskOf x ≡ task s i) where
+module _ (L : Layout) (i : ℕ) (s : State) (g : Stands i s) (x : TaskRecord) (e : taskOf x ≡ task s i) where
   state-is : x .state ≡ task s i .state
   state-is = ap (λ (r : Task). r .state) e
 
@@ -178,10 +178,10 @@ module _ (L : Layout) (s : State) (sound : Sound s) (i : ℕ) (x : TaskRecord) (
   hub-is = ap (λ (r : Task). r .hub) e
 
   pub by-ready : x .state ≡ 2 → words L (setReady (without i (s .ready)) s) ≡ words L (leave i s)
-  by-ready q = ap (words L) (sym (leave-listed s (sound .listed) i (sym state-is ∙ q)))
+  by-ready q = ap (words L) (sym (leave-listed i s g (sym state-is ∙ q)))
 
   pub by-none : (x .state ≡ 2 → ⊥) → (x .state ≡ 3 → ⊥) → words L s ≡ words L (leave i s)
-  by-none n m = ap (words L) (sym (leave-none s (sound .listed) i (λ q. n (state-is ∙ q)) (not-queued s (sound .listed) i (λ q. m (state-is ∙ q)))))
+  by-none n m = ap (words L) (sym (leave-none i s g (λ q. n (state-is ∙ q)) (not-queued i s g (λ q. m (state-is ∙ q)))))
 
   -- a waiting task's hub is in use, since it stands in its list
   module _ (q : x .state ≡ 3) (k : ℕ) (at : x .hub ≡ suc k) where
@@ -190,15 +190,15 @@ module _ (L : Layout) (s : State) (sound : Sound s) (i : ℕ) (x : TaskRecord) (
     hub-used =
         boolCase (ltb k (length (s .hubs))) (ltb-true _ _)
         (λ b. absurd (let none : occ i (hub s k .waiters) ≡ 0 = ap (λ (y : Hub). occ i (y .waiters)) (List·getD-eq-default (s .hubs) noHub (ltb-false k (length (s .hubs)) b)) in
-        let here : occ i (hub s k .waiters) ≡ 1 = rw (sound .listed .waiters k i, eq-eqb (task s i .state) 3 (sym state-is ∙ q), eq-eqb (task s i .hub) (suc k) (sym hub-is ∙ at)) refl in
+        let here : occ i (hub s k .waiters) ≡ 1 = rw (g .atHub k, eq-eqb (task s i .state) 3 (sym state-is ∙ q), eq-eqb (task s i .hub) (suc k) (sym hub-is ∙ at)) refl in
         omega arith))
 
     pub by-hub : words L (setHub k (queued (without i (hub s k .waiters)) (hub s k)) s) ≡ words L (leave i s)
     unfolding unqueue
-    by-hub = ap (words L) (sym (leave-queued s (sound .listed) i k hub-used (sym state-is ∙ q) (sym hub-is ∙ at)))
+    by-hub = ap (words L) (sym (leave-queued i s g k hub-used (sym state-is ∙ q) (sym hub-is ∙ at)))
 
   pub by-nowhere : x .hub ≡ 0 → (x .state ≡ 2 → ⊥) → words L s ≡ words L (leave i s)
-  by-nowhere z n = ap (words L) (sym (leave-none s (sound .listed) i (λ q. n (state-is ∙ q)) (λ h. not-there s (sound .listed) i h (λ g. omega (arith, z, hub-is, g)))))
+  by-nowhere z n = ap (words L) (sym (leave-none i s g (λ q. n (state-is ∙ q)) (λ h. not-there i s g h (λ q. omega (arith, z, hub-is, q)))))
 
 -- ---- a hub's record and the first entry of its list, read
 

@@ -1,12 +1,11 @@
--- What the contracts of the moves name beside the rules: a record as the code holds it, keys as a list, and what of a state
--- a move rests on.
+-- What the contracts of the moves name beside the rules: a record as the code holds it, keys as a list, what joining gives.
+-- Not here: what of a state a move rests on (rules, Valid: `Sound`, `Stands`).
 use Prim.Native.Nat.{_<_, _≤_, ℕ}
 use Rattle.lists.specs.Lists.{placeOf}
 use Rattle.messages.specs.Messages.{messages}
 use Rattle.records.specs.Records.{width}
 use Rattle.records.specs.declared.TaskRecord.{TaskRecord}
 use Rattle.rules.proofs.Layouts.{Laid}
-use Rattle.rules.proofs.Valid.{Listed}
 use Rattle.rules.specs.Lists.{joinHub, joinReady}
 use Rattle.rules.specs.Table.{Layout, State, Task, hub, task, words}
 use lib.ListN.{getD, length}
@@ -49,9 +48,3 @@ pub record JoinsHub (ts : ℕ) (ks : List ℕ) (h i : ℕ) (t : List ℕ) (k : �
       → t′ ≡ words L (joinHub (keyOf ks) h i s)
   pub place : (L : Layout) (s : State) → Laid ts L → h < length (s .hubs) → length (hub s h .waiters) ≤ 16 → t ≡ words L s
       → k ≡ placeOf (keyOf ks) (keyOf ks i) (hub s h .waiters)
-
--- every task stands in the list that its record says, and nowhere else
-pub record Sound (s : State) : Type 0 where
-  pub tasks : length (s .tasks) ≤ 16
-  pub hubs : length (s .hubs) ≤ 16
-  pub listed : Listed s

@@ -6,10 +6,10 @@ use records::TaskNo;
 use records::TaskRecord;
 ghost use Prim.Native.Nat.{_*_, _+_, _<_, _≤_};
 ghost use Rattle.messages.specs.Messages.{messages};
-ghost use Rattle.moves.specs.Moves.{JoinsHub, JoinsReady, Sound, TaskHeld, keyOf, taskOf};
+ghost use Rattle.moves.specs.Moves.{JoinsHub, JoinsReady, TaskHeld, keyOf, taskOf};
 ghost use Rattle.records.specs.Records.{Table, first, width};
 ghost use Rattle.rules.proofs.Layouts.{Laid};
-ghost use Rattle.rules.proofs.Valid.{Waits};
+ghost use Rattle.rules.proofs.Valid.{Sound, Stands, Waits};
 ghost use Rattle.rules.specs.Lists.{answer, firstWaiting, leave, queued, readied, wake};
 ghost use Rattle.rules.specs.Table.{Layout, State, hub, setHub, setReady, setTask, task, words};
 ghost use Rattle.lists.specs.Lists.{occ, without};
@@ -104,10 +104,11 @@ pub fn first_waiter(t: &[u32], ts: usize, h: HubNo, side: u32) -> u32
 }
 
 // "taken from any list": a ready task stands in the ready list, a waiting one in the list of its hub, any other in none.
+// Of the others nothing is asked, so that tasks can be taken out one after the other (M-108).
 pub fn leave_list(t: &mut [u32], ts: usize, i: TaskNo)
     requires { ⌜ Table ts (now t) ⌝ }
     requires { ⌜ i .0 < 16 ⌝ }
-    ensures { λ _. ⌜ ((L : Layout) (s : State) → Laid ts L → Sound s → i .0 < length (s .tasks)
+    ensures { λ _. ⌜ ((L : Layout) (s : State) → Laid ts L → Stands (i .0) s → i .0 < length (s .tasks)
         → now (t .entry) ≡ words L s
         → now (t .exit) ≡ words L (leave (i .0) s)) ⌝ }
 {

@@ -8,7 +8,6 @@ use Rattle.lists.proofs.Counting.{occ-here}
 use Rattle.lists.proofs.Laws.{without-none}
 use Rattle.lists.specs.Lists.{entries, occ, without}
 use Rattle.moves.proofs.Laws.{waiter-in}
-use Rattle.moves.specs.Moves.{Sound}
 use Rattle.requests.proofs.Laws.{held, range}
 use Rattle.requests.specs.Requests.{StoreFits, meetOne, meetings}
 use Rattle.rules.proofs.Changes.{hub-set-keeps}
@@ -17,7 +16,7 @@ use Rattle.rules.proofs.Listed.{listed-wake}
 use Rattle.rules.proofs.Room.{waits-once}
 use Rattle.rules.proofs.Settled.{hub-wake, length-wake}
 use Rattle.rules.proofs.Standing.{listed-waiting}
-use Rattle.rules.proofs.Valid.{Held, MayWait, PutWaits, Range, Valid}
+use Rattle.rules.proofs.Valid.{Held, MayWait, PutWaits, Range, Sound, Valid}
 use Rattle.rules.proofs.Verdicts.{side-get}
 use Rattle.rules.specs.Calls.{HubRequest, hold, meetAll, serve, settle}
 use Rattle.rules.specs.HubTable.{message, onPut, onSide, putBoard, readers, verdict}

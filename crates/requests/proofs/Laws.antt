@@ -11,7 +11,6 @@ use Rattle.hubtable.specs.declared.Verdict.the-variants.{Met}
 use Rattle.lists.proofs.Counting.{length-without}
 use Rattle.lists.specs.Lists.{without}
 use Rattle.moves.proofs.Laws.{hub-number, waiter-in}
-use Rattle.moves.specs.Moves.{Sound}
 use Rattle.records.specs.Records.{first, hubAt, hubsAt as hubsFrom}
 use Rattle.requests.specs.Requests.{StoreFits}
 use Rattle.rules.proofs.Accepted.{Asked, request-tests}
@@ -24,7 +23,7 @@ use Rattle.rules.proofs.Numbers.{bears-number}
 use Rattle.rules.proofs.Room.{store-le, waiters-room}
 use Rattle.rules.proofs.Settled.{InUse, length-answer, partners, partners-in}
 use Rattle.rules.proofs.Standing.{first-waits}
-use Rattle.rules.proofs.Valid.{Held, Range, Valid}
+use Rattle.rules.proofs.Valid.{Held, Range, Sound, Valid}
 use Rattle.rules.proofs.Verdicts.{Each, held-side, hubAfter, range-side, update-row, waitersMet}
 use Rattle.rules.specs.Calls.{HubRequest, hold, kept, meetAll, serve, settle, wait}
 use Rattle.rules.specs.HubTable.{Verdict, fail, message, notNow, verdict}

@@ -2,7 +2,6 @@
 -- move leaves; what a Stop rests on. Assumes nothing.
 use Prim.Native.Nat.{_*_, _+_, _-_, _<_, _≤_, pred, suc, zero, ℕ}
 use Rattle.moves.proofs.Laws.{hub-number, waiter-in}
-use Rattle.moves.specs.Moves.{Sound}
 use Rattle.records.proofs.Laws.{first-some}
 use Rattle.records.specs.Records.{first, hubAt, hubsAt as hubsFrom}
 use Rattle.rules.proofs.Changes.{length-setHub, length-setTask}
@@ -14,7 +13,7 @@ use Rattle.rules.proofs.Numbers.{resource-number}
 use Rattle.rules.proofs.Passing.{length-pass}
 use Rattle.rules.proofs.Places.{same-hub, set-count}
 use Rattle.rules.proofs.Standing.{first-waits}
-use Rattle.rules.proofs.Valid.{Valid}
+use Rattle.rules.proofs.Valid.{Sound, Valid}
 use Rattle.rules.proofs.Waiting.{Good, good-deactivate, valid-good}
 use Rattle.rules.specs.Calls.{deactivate, flag, grant, heir, hold, passAll, passOne, start}
 use Rattle.rules.specs.Lists.{answer, holding, joinReady, leave, wake}

@@ -3,10 +3,11 @@ use Prim.Native.Nat.{_+_, _-_, _≤_, ℕ}
 use Rattle.clock.proofs.Laws.{sound-tick}
 use Rattle.clock.proofs.tick.Statement.{statement}
 use Rattle.clock.proofs.tick.Tie as tie
-use Rattle.moves.specs.Moves.{Sound, keyOf}
+use Rattle.moves.specs.Moves.{keyOf}
 use Rattle.rules.proofs.Layouts.{Laid}
 use Rattle.rules.proofs.Lengths.{length-tick}
 use Rattle.rules.proofs.Places.{tasks-word}
+use Rattle.rules.proofs.Valid.{Sound}
 use Rattle.rules.specs.Calls.{tickAll}
 use Rattle.rules.specs.Table.{Layout, State, words}
 use borrow.Author.Needs.{needs}

@@ -1,6 +1,7 @@
 -- `moves::wake_task` meets its contract. Assumes nothing.
 use Rattle.moves.proofs.wake_task.Statement.{statement}
 use Rattle.moves.proofs.wake_task.Tie as tie
+use Rattle.rules.proofs.Room.{sound-stands}
 use Rattle.rules.specs.Lists.{leave, wake}
 use Rattle.rules.specs.Table.{setTask}
 use borrow.Author.Needs.{needs}
@@ -21,7 +22,7 @@ returns : tie.Need-returns
 unfolding leave setTask wake
 returns c = λ L s y sound used e.
     let i = c .before .before .before .before .before .before .before .before .before .before .before .before .before .before .args .i .0 in
-    let left = c .before .before .before .before .before .before .before .before .before .before .leave-list .ensures L s y sound used e in
+    let left = c .before .before .before .before .before .before .before .before .before .before .leave-list .ensures L s y (sound-stands s sound i) used e in
     let made = c .before .before .before .before .before .before .make-ready .ensures L (leave i s) y (sound .tasks) used left in
     c .before .before .join-ready .ensures .table L _ y made
 

@@ -1,11 +1,12 @@
 -- `requests::meet_all` meets its contract. Assumes nothing.
 use Prim.Native.Nat.{_+_, _-_, _<_, _≤_, ℕ}
-use Rattle.moves.specs.Moves.{Sound, keyOf}
+use Rattle.moves.specs.Moves.{keyOf}
 use Rattle.requests.proofs.Boards.{all-met, steps, steps-last, steps-ready}
 use Rattle.requests.proofs.meet_all.Statement.{statement}
 use Rattle.requests.proofs.meet_all.Tie as tie
 use Rattle.rules.proofs.Layouts.{Laid}
 use Rattle.rules.proofs.Room.{waiters-room}
+use Rattle.rules.proofs.Valid.{Sound}
 use Rattle.rules.specs.Table.{Layout, State, hub, words}
 use borrow.Author.Needs.{needs}
 use lib.ListN.{length}

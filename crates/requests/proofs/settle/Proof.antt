@@ -1,9 +1,9 @@
 -- `requests::settle` meets its contract. Assumes nothing.
 use Rattle.hubtable.specs.Says.{Below, says}
-use Rattle.moves.specs.Moves.{Sound}
 use Rattle.requests.proofs.Laws.{asked, caller-used, failed-ahead, failed-state, met-ahead, refused-ahead, refused-state, waiting-state}
 use Rattle.requests.proofs.settle.Statement.{statement}
 use Rattle.requests.proofs.settle.Tie as tie
+use Rattle.rules.proofs.Valid.{Sound}
 use Rattle.rules.specs.Calls.{HubRequest}
 use Rattle.rules.specs.Reply.{aheadFor}
 use Rattle.rules.specs.Table.{State, hub, words}

@@ -5,6 +5,7 @@ use Rattle.requests.proofs.Laws.{left-list, left-room}
 use Rattle.requests.proofs.wait_there.Statement.{statement}
 use Rattle.requests.proofs.wait_there.Tie as tie
 use Rattle.rules.proofs.Ahead.{ahead-wait}
+use Rattle.rules.proofs.Room.{sound-stands}
 use Rattle.rules.specs.Calls.{wait}
 use Rattle.rules.specs.Lists.{leave, unqueue}
 use Rattle.rules.specs.Table.{hub, setTask}
@@ -48,7 +49,7 @@ returns c = λ L s y sound caller used e.
     let k = c .before .before .before .before .before .before .before .before .before .before .before .before .before .before .before .before .before .before .before .before .args .c in
     let r = c .before .before .before .before .before .before .before .before .before .before .before .before .before .before .hub-at .ensures L s y (sound .hubs) used e in
     let word = c .before .before .before .before .before .before .before .before .before .before .before .before .kept-word .ensures .1 (hub s (k .target)) k (r .kind) refl (c .before .before .before .before .before .before .before .before .before .before .before .before .before .joined .ensures) in
-    let left = c .before .before .before .before .before .before .before .before .before .before .leave-list .ensures L s y sound caller e in
+    let left = c .before .before .before .before .before .before .before .before .before .before .leave-list .ensures L s y (sound-stands s sound (k .caller)) caller e in
     let made = rw word at (c .before .before .before .before .before .before .make-waiting .ensures L (leave (k .caller) s) y (sound .tasks) caller left) in
     let named : k .target < length (leave (k .caller) s .hubs) = rw (length-map (s .hubs) (unqueue (k .caller))) used in
     let joined = c .before .before .join-hub .ensures in

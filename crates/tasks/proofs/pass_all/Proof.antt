@@ -1,8 +1,9 @@
 -- `tasks::pass_all` meets its contract. Assumes nothing.
 use Prim.Native.Nat.{_+_, _-_, _≤_, ℕ}
-use Rattle.moves.specs.Moves.{Sound, keyOf}
+use Rattle.moves.specs.Moves.{keyOf}
 use Rattle.rules.proofs.Hubs.{many-pass}
 use Rattle.rules.proofs.Layouts.{Laid}
+use Rattle.rules.proofs.Valid.{Sound}
 use Rattle.rules.proofs.Waiting.{Good, good-pass}
 use Rattle.rules.specs.Calls.{passAll}
 use Rattle.rules.specs.Table.{Layout, State, words}

@@ -1,4 +1,5 @@
 -- `tasks::sleep_task` meets its contract. Assumes nothing.
+use Rattle.rules.proofs.Room.{sound-stands}
 use Rattle.rules.specs.Calls.{serve, slept}
 use Rattle.rules.specs.Lists.{asleep, leave}
 use Rattle.rules.specs.Table.{Task, setTask, words}
@@ -26,7 +27,7 @@ returns : tie.Need-returns
 unfolding asleep leave serve slept
 returns c = λ L key s y sound caller e.
     let a = c .before .before .before .before .before .before .before .before .before .before .before .before .args .c in
-    let left = c .before .before .before .before .before .before .before .before .leave-list .ensures L s y sound caller e in
+    let left = c .before .before .before .before .before .before .before .before .leave-list .ensures L s y (sound-stands s sound (a .caller)) caller e in
     let x = c .before .before .before .before .task-at .ensures .value L (leave (a .caller) s) y (sound .tasks) caller left in
     c .before .before .set-task .ensures L (leave (a .caller) s) y (sound .tasks) caller left
     ∙ ap (λ (r : Task). words L (setTask (a .caller) (asleep (a .ticks) r) (leave (a .caller) s))) x

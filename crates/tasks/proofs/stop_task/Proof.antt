@@ -5,6 +5,7 @@ use Rattle.moves.specs.Moves.{keyOf}
 use Rattle.rules.proofs.Hubs.{hubs-deactivate}
 use Rattle.rules.proofs.Passing.{length-stop}
 use Rattle.rules.proofs.Places.{hubs-word}
+use Rattle.rules.proofs.Room.{sound-stands}
 use Rattle.rules.specs.Calls.{deactivate, mayStop, passAll, serve, stop}
 use Rattle.rules.specs.Lists.{leave}
 use Rattle.rules.specs.Table.{Task, inactive, setTask, words}
@@ -75,7 +76,7 @@ returns-2 c = λ L s y g caller target e.
     let i = a .target in
     let x = c .before .before .before .before .before .before .before .before .before .before .before .before .before .before .before .before .before .before .task-at .ensures .value L s y (g .tasks) target e in
     let yes = sym (c .before .before .before .before .before .before .before .before .before .before .before .before .before .before .before .before .before .may-stop .ensures ∙ ap (λ (t : Task). mayStop t a) x) ∙ not-false _ (c .before .before .before .before .before .before .before .before .before .before .before .before .before .before .before .before .if1 .left) in
-    let left = c .before .before .before .before .before .before .before .before .before .before .before .before .before .before .leave-list .ensures L s y (valid-sound s g) target e in
+    let left = c .before .before .before .before .before .before .before .before .before .before .before .before .before .before .leave-list .ensures L s y (sound-stands s (valid-sound s g) i) target e in
     let made = c .before .before .before .before .before .before .before .before .before .before .make-inactive .ensures L (leave i s) y (g .tasks) target left in
     let out = made ∙ ap (λ (t : Task). words L (setTask i (inactive (t .priority)) (leave i s))) x in
     let many : getD (b .args .t .now) 2 0 ≡ length (s .hubs) = rw e (hubs-word L s) in

@@ -1,4 +1,5 @@
 -- `tasks::yield_turn` meets its contract. Assumes nothing.
+use Rattle.rules.proofs.Room.{sound-stands}
 use Rattle.rules.specs.Calls.{serve, yielded}
 use Rattle.rules.specs.Lists.{answer, leave}
 use Rattle.tasks.proofs.yield_turn.Statement.{statement}
@@ -24,7 +25,7 @@ returns : tie.Need-returns
 unfolding answer leave serve yielded
 returns c = λ L s y sound caller e.
     let i = c .before .before .before .before .before .before .before .before .before .before .before .before .before .before .before .args .c .caller in
-    let left = c .before .before .before .before .before .before .before .before .before .before .leave-list .ensures L s y sound caller e in
+    let left = c .before .before .before .before .before .before .before .before .before .before .leave-list .ensures L s y (sound-stands s sound _) caller e in
     let said = c .before .before .before .before .before .before .give-answer .ensures L (leave i s) y (sound .tasks) caller left in
     c .before .before .join-ready .ensures .table L _ y said
 
