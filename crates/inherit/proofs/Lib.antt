@@ -1,0 +1,5 @@
+pub mod Linking
+pub mod Passing
+pub mod Rising
+pub mod Sixteen
+pub mod Turns
