@@ -1,17 +1,17 @@
 -- What the walk of a list says, both ways: of any list (`Queue`), and of a hub's list, whose first entry's side may wait
 -- (`Line`). Not here: that each task stands in the list that its record says (Marks.antt). Assumes nothing.
-use Prim.Native.Nat.{_<_, _≤_, pred, suc, zero, zero-le, ℕ}
+use Prim.Native.Nat.{_<_, _≤_, pred, suc, zero, ℕ}
+use Rattle.bodies.specs.Bodies.{ownerOf}
 use Rattle.lists.proofs.Counting.{occ-here, occ-tail}
 use Rattle.lists.proofs.Laws.{boolCase}
 use Rattle.lists.proofs.Padding.{zeros-packed}
 use Rattle.lists.specs.Lists.{numbers, occ, packed}
 use Rattle.rules.proofs.Cases.{and-l, and-r, sameOr}
-use Rattle.rules.proofs.Order.{below-le}
 use Rattle.rules.proofs.Tests.{Tests, t-and, t-eq, t-le, t-not}
-use Rattle.rules.proofs.Valid.{Below, Range, Sorted}
+use Rattle.rules.proofs.Valid.{Range}
 use Rattle.rules.specs.Table.{Hub, State, kindOf, sideOf, task}
-use Rattle.rules.specs.WellFormed.{mayWait, urgency}
-use Rattle.wellformed.specs.Walks.{may, meets, ownerOf, queueRight, walks}
+use Rattle.rules.specs.WellFormed.{mayWait}
+use Rattle.wellformed.specs.Walks.{may, meets, queueRight, walks}
 use borrow.Author.Tests.{eq-eqb, eqb-false, eqb-true, le-leb, ne-eqb}
 use lib.Dec.{eqb, eqb·suc-zero, leb}
 use lib.ListN.{getD, length}
@@ -29,58 +29,49 @@ pub record Entry (s : State) (a d owner i : ℕ) : Type 0 where
   pub side : task s i .side ≡ d
   pub other : suc i ≡ owner → ⊥
 
-pub record Queue (s : State) (a d owner p : ℕ) (l : List ℕ) : Type 0 where
+pub record Queue (s : State) (a d owner : ℕ) (l : List ℕ) : Type 0 where
   pub full : packed l ≡ true
   pub each : (i : ℕ) → 1 ≤ occ i (numbers l) → Entry s a d owner i
-  pub low : Below (urgency s) p (numbers l)
-  pub sorted : Sorted (urgency s) (numbers l)
 
 module _ (s : State) (a d owner : ℕ) where
-  t-meets : (p x : ℕ) → Tests (meets s a d owner p x) ((x ≤ length (s .tasks)) × ((task s (pred x) .hub ≡ a) × ((task s (pred x) .side ≡ d) × ((p ≤ task s (pred x) .priority) × (x ≡ owner → ⊥)))))
+  t-meets : (x : ℕ) → Tests (meets s a d owner x) ((x ≤ length (s .tasks)) × ((task s (pred x) .hub ≡ a) × ((task s (pred x) .side ≡ d) × (x ≡ owner → ⊥))))
   unfolding meets
-  t-meets p x = t-and _ _ (t-le _ _) (t-and _ _ (t-eq _ _) (t-and _ _ (t-eq _ _) (t-and _ _ (t-le _ _) (t-not _ (t-eq _ _)))))
+  t-meets x = t-and _ _ (t-le _ _) (t-and _ _ (t-eq _ _) (t-and _ _ (t-eq _ _) (t-not _ (t-eq _ _))))
 
-  pub walks-says : (p : ℕ) (l : List ℕ) → walks s a d owner p l ≡ true → Queue s a d owner p l
-  unfolding Below Sorted numbers occ packed walks
-  walks-says p [] e = record { full = refl; each = λ i o. absurd (omega arith); low = tt; sorted = tt }
-  walks-says p (x ∷ xs) e =
+  pub walks-says : (l : List ℕ) → walks s a d owner l ≡ true → Queue s a d owner l
+  unfolding numbers occ packed walks
+  walks-says [] e = record { full = refl; each = λ i o. absurd (omega arith) }
+  walks-says (x ∷ xs) e =
       boolCase (eqb x 0)
-      (λ b. record { full = rw b (rw b at e); each = λ i o. absurd (omega (arith, rw b at o)); low = rw b tt; sorted = rw b tt })
-      (λ b. more b (rw b at e) (walks-says (task s (pred x) .priority) xs (and-r (meets s a d owner p x) _ (rw b at e))))
+      (λ b. record { full = rw b (rw b at e); each = λ i o. absurd (omega (arith, rw b at o)) })
+      (λ b. more b (rw b at e) (walks-says xs (and-r (meets s a d owner x) _ (rw b at e))))
     where
-      more : eqb x 0 ≡ false → (meets s a d owner p x && walks s a d owner (task s (pred x) .priority) xs) ≡ true → Queue s a d owner (task s (pred x) .priority) xs → Queue s a d owner p (x ∷ xs)
+      more : eqb x 0 ≡ false → (meets s a d owner x && walks s a d owner xs) ≡ true → Queue s a d owner xs → Queue s a d owner (x ∷ xs)
       more b e q =
           let n = eqb-false x 0 b in
-          let m = t-meets p x .yes (and-l _ _ e) in
-          let here : Entry s a d owner (pred x) = record { used = omega (arith, n, m .0); hub = m .1 .0; side = m .1 .1 .0; other = λ z. m .1 .1 .1 .1 (omega arith) } in
+          let m = t-meets x .yes (and-l _ _ e) in
+          let here : Entry s a d owner (pred x) = record { used = omega (arith, n, m .0); hub = m .1 .0; side = m .1 .1 .0; other = λ z. m .1 .1 .1 (omega arith) } in
           record {
             full = rw b (q .full);
             each = λ i o. sameOr (pred x) i (λ z. subst (Entry s a d owner) z here) (λ z. q .each i (occ-tail i (pred x) (numbers xs) z (rw b at o)));
-            low = rw b (m .1 .1 .1 .0, below-le (urgency s) p (task s (pred x) .priority) (numbers xs) (m .1 .1 .1 .0) (q .low));
-            sorted = rw b (q .low, q .sorted);
           }
 
-  pub walks-holds : (p : ℕ) (l : List ℕ) → Queue s a d owner p l → walks s a d owner p l ≡ true
-  unfolding Below Sorted numbers occ packed walks
-  walks-holds p [] q = refl
-  walks-holds p (x ∷ xs) q =
+  pub walks-holds : (l : List ℕ) → Queue s a d owner l → walks s a d owner l ≡ true
+  unfolding numbers occ packed walks
+  walks-holds [] q = refl
+  walks-holds (x ∷ xs) q =
       boolCase (eqb x 0)
       (λ b. rw b (rw b at (q .full)))
-      (λ b. rw b (more b (rw b at (q .full)) (rw b at (q .each)) (rw b at (q .low)) (rw b at (q .sorted)) (walks-holds (task s (pred x) .priority) xs)))
+      (λ b. rw b (more b (rw b at (q .full)) (rw b at (q .each)) (walks-holds xs)))
     where
-      more : eqb x 0 ≡ false → packed xs ≡ true → ((i : ℕ) → 1 ≤ occ i (pred x ∷ numbers xs) → Entry s a d owner i) → Below (urgency s) p (pred x ∷ numbers xs) → Sorted (urgency s) (pred x ∷ numbers xs) → (Queue s a d owner (task s (pred x) .priority) xs → walks s a d owner (task s (pred x) .priority) xs ≡ true) → (meets s a d owner p x && walks s a d owner (task s (pred x) .priority) xs) ≡ true
-      more b f g w o rest =
+      more : eqb x 0 ≡ false → packed xs ≡ true → ((i : ℕ) → 1 ≤ occ i (pred x ∷ numbers xs) → Entry s a d owner i) → (Queue s a d owner xs → walks s a d owner xs ≡ true) → (meets s a d owner x && walks s a d owner xs) ≡ true
+      more b f g rest =
           let n = eqb-false x 0 b in
           let h = g (pred x) (occ-here (pred x) (numbers xs)) in
           rw (
-            t-meets p x .conv (omega (arith, h .used), (h .hub, (h .side, (w .0, λ z. h .other (omega arith))))),
-            rest (record { full = f; each = λ i k. g i (omega arith); low = o .0; sorted = o .1 }),
+            t-meets x .conv (omega (arith, h .used), (h .hub, (h .side, λ z. h .other (omega arith)))),
+            rest (record { full = f; each = λ i k. g i (omega arith) }),
           )
-
-pub low-zero : (key : ℕ → ℕ) (l : List ℕ) → Below key 0 l
-unfolding Below
-low-zero key [] = tt
-low-zero key (x ∷ xs) = (zero-le, low-zero key xs)
 
 -- ---- who may wait, where the hub's ranges are right: by the numbers of side and kind, and the owner apart
 
@@ -115,7 +106,7 @@ may-wait (suc (suc zero)) (suc (suc (suc (suc (suc (suc (suc (suc k)))))))) T i 
 
 pub record Line (s : State) (h : ℕ) (x : Hub) (l : List ℕ) : Type 0 where
   pub side : ℕ
-  pub queue : Queue s (suc h) side (ownerOf (x .kind) (x .count)) 0 l
+  pub queue : Queue s (suc h) side (ownerOf (x .kind) (x .count)) l
   pub allowed : (i : ℕ) → 1 ≤ occ i (numbers l) → may side (x .kind) (x .count) (x .limit) ≡ true
 
 -- the first entry, if it is one
@@ -130,11 +121,8 @@ first-none [] e i o = omega arith
 first-none (x ∷ xs) e i o = omega (arith, rw (eq-eqb x 0 e) at o)
 
 -- a list with nobody in it
-empty-queue : (s : State) (a d owner : ℕ) (l : List ℕ) → getD l 0 0 ≡ 0 → packed l ≡ true → Queue s a d owner 0 l
-unfolding Sorted numbers
-empty-queue s a d owner [] e f = record { full = f; each = λ i o. absurd (first-none [] e i o); low = low-zero _ _; sorted = tt }
-empty-queue s a d owner (x ∷ xs) e f =
-    record { full = f; each = λ i o. absurd (first-none (x ∷ xs) e i o); low = low-zero _ _; sorted = rw (eq-eqb x 0 e) tt }
+empty-queue : (s : State) (a d owner : ℕ) (l : List ℕ) → getD l 0 0 ≡ 0 → packed l ≡ true → Queue s a d owner l
+empty-queue s a d owner l e f = record { full = f; each = λ i o. absurd (first-none l e i o) }
 
 module _ (s : State) (h : ℕ) (x : Hub) (l : List ℕ) where
   pub queue-says : queueRight s h x l ≡ true → Line s h x l
@@ -148,7 +136,7 @@ module _ (s : State) (h : ℕ) (x : Hub) (l : List ℕ) where
       })
       (λ b. let q = and-r (leb (getD l 0 0) (length (s .tasks))) _ (rw b at e) in record {
         side = task s (pred (getD l 0 0)) .side;
-        queue = walks-says s (suc h) _ _ 0 l (and-r (may (task s (pred (getD l 0 0)) .side) (x .kind) (x .count) (x .limit)) _ q);
+        queue = walks-says s (suc h) _ _ l (and-r (may (task s (pred (getD l 0 0)) .side) (x .kind) (x .count) (x .limit)) _ q);
         allowed = λ i o. and-l _ _ q;
       })
 
@@ -165,4 +153,4 @@ module _ (s : State) (h : ℕ) (x : Hub) (l : List ℕ) where
         g .side,
         w .allowed (pred (getD l 0 0)) o,
       )
-      (walks-holds s (suc h) (w .side) _ 0 l (w .queue))))
+      (walks-holds s (suc h) (w .side) _ l (w .queue))))

@@ -1,7 +1,9 @@
 -- A turn of each loop of this crate, and its end. In order: a list's walk by the word at its place; an entry by its task's
--- words; a task's record by its words and by its state; the marks; a walk of 16 words (`Walking`); a test of every number.
+-- words; a task's record by its words and by its state; the marks; a walk of 16 words (`Walking`).
 -- Not here: laws of `packed`, `allZero` and `numbers` alone (crate lists); the hubs (Hubs.antt). Assumes nothing.
-use Prim.Native.Nat.{_*_, _+_, _-_, _<_, _≤_, pred, suc, zero, zero-le, ℕ}
+use Prim.Native.Nat.{_*_, _+_, _-_, _<_, _≤_, pred, suc, zero-le, ℕ}
+use Rattle.bodies.proofs.Entries.{entry-hub, entry-side}
+use Rattle.bodies.proofs.Parts.{so-many, to-end}
 use Rattle.lists.proofs.Counting.{occ-most}
 use Rattle.lists.proofs.Laws.{boolCase, length-numbers}
 use Rattle.lists.specs.Lists.{allZero, bit, numbers, occ}
@@ -11,9 +13,8 @@ use Rattle.rules.proofs.Cases.{and-l, and-r}
 use Rattle.rules.proofs.Layouts.{Laid}
 use Rattle.rules.proofs.Numbers.{no-stage}
 use Rattle.rules.proofs.Reading.{read-hub, read-task, read-tasks}
-use Rattle.rules.specs.Table.{Hub, Layout, Ready, State, Task, Waiting, hub, hubAt, hubsAt, read, stageOf, task, taskAt, taskSize, tasksAt}
-use Rattle.rules.specs.WellFormed.{fieldsRight, forAll, stageRight}
-use Rattle.wellformed.proofs.Parts.{so-many, to-end}
+use Rattle.rules.specs.Table.{Hub, Layout, Ready, State, Task, Waiting, hub, hubAt, hubsAt, read, stageOf, taskAt, taskSize, tasksAt}
+use Rattle.rules.specs.WellFormed.{fieldsRight, stageRight}
 use Rattle.wellformed.specs.Walks.{Marked, Marks, listed, meets, recordOf, recordRight, restRight, taskRight, walks}
 use borrow.Author.Tests.{eq-eqb, eqb-false, eqb-true, le-leb, leb-true, lt-leb, ltb-false, ltb-true, ne-eqb}
 use lib.Dec.{eqb, leb, ltb}
@@ -22,19 +23,19 @@ use lib.Seq.{drop-cons, getD-drop, getD-set-other, getD-set-same, getD-take}
 use mathlib.Core.Bool.{Bool, _&&_, _||_, and-assoc, and-false, and-self, and-true, false, false≢true, not, or-true, true}
 use mathlib.Core.List.{List, [], _∷_}
 use mathlib.Core.Path.{_∙_, _≡_, ap, refl, sym}
-use native.Mathlib.Nat.{add-assoc, add-zero, not-suc-le-zero}
+use native.Mathlib.Nat.{add-assoc, add-zero}
 use native.Mathlib.Numerals.{add-one}
 use native.Mathlib.Omega.{arith}
 
 -- ---- a list's walk from place k on, by the word there
 
 module _ (l : List ℕ) (k : ℕ) (h : k < length l) where
-  module _ (s : State) (a d owner p : ℕ) where
-    walks-end : getD l k 0 ≡ 0 → walks s a d owner p (drop k l) ≡ allZero (drop k l)
+  module _ (s : State) (a d owner : ℕ) where
+    walks-end : getD l k 0 ≡ 0 → walks s a d owner (drop k l) ≡ allZero (drop k l)
     unfolding allZero walks
     walks-end e = rw (drop-cons l k 0 h, eq-eqb (getD l k 0) 0 e)
 
-    walks-turn : (getD l k 0 ≡ 0 → ⊥) → walks s a d owner p (drop k l) ≡ (meets s a d owner p (getD l k 0) && walks s a d owner (task s (pred (getD l k 0)) .priority) (drop (suc k) l))
+    walks-turn : (getD l k 0 ≡ 0 → ⊥) → walks s a d owner (drop k l) ≡ (meets s a d owner (getD l k 0) && walks s a d owner (drop (suc k) l))
     unfolding walks
     walks-turn n = rw (drop-cons l k 0 h, ne-eqb (getD l k 0) 0 n)
 
@@ -49,40 +50,17 @@ module _ (l : List ℕ) (k : ℕ) (h : k < length l) where
 -- ---- an entry, by the words of its task's record, which starts at word b
 
 -- what the code tests of an entry that is a task in use
-abbrev fits : List ℕ → ℕ → ℕ → ℕ → ℕ → ℕ → ℕ → Bool
-fits t b a d owner p e =
-    eqb (getD t (b + 3) 0) a && (eqb (getD t (b + 5) 0) d && (leb p (getD t (b + 2) 0) && not (eqb e owner)))
+abbrev fits : List ℕ → ℕ → ℕ → ℕ → ℕ → ℕ → Bool
+fits t b a d owner e = eqb (getD t (b + 3) 0) a && (eqb (getD t (b + 5) 0) d && not (eqb e owner))
 
 module _ {ts : ℕ} (L : Layout) (y : Laid ts L) (t : List ℕ) (e b : ℕ) (n : e ≡ 0 → ⊥) (u : e ≤ getD t 1 0) (at : b ≡ 8 + (e - 1) * ts) where
-  known : task (read L t) (pred e) ≡ taskAt L t (pred e)
-  known = read-task L t (pred e) (omega arith)
-
-  start : tasksAt + pred e * taskSize L ≡ b
-  start = let q : e - 1 ≡ pred e = omega arith in rw (at, q, y .size)
-
-  entry-priority : task (read L t) (pred e) .priority ≡ getD t (b + 2) 0
-  unfolding taskAt
-  entry-priority = ap (λ (x : Task). x .priority) known ∙ ap (λ (k : ℕ). getD t (k + 2) 0) start
-
-  entry-hub : task (read L t) (pred e) .hub ≡ getD t (b + 3) 0
-  unfolding taskAt
-  entry-hub = ap (λ (x : Task). x .hub) known ∙ ap (λ (k : ℕ). getD t (k + 3) 0) start
-
-  pub entry-state : task (read L t) (pred e) .state ≡ getD t b 0
-  unfolding taskAt
-  entry-state = ap (λ (x : Task). x .state) known ∙ ap (λ (k : ℕ). getD t k 0) (omega (arith, start))
-
-  pub entry-side : task (read L t) (pred e) .side ≡ getD t (b + 5) 0
-  unfolding taskAt
-  entry-side = ap (λ (x : Task). x .side) known ∙ ap (λ (k : ℕ). getD t (k + 5) 0) start
-
-  pub meets-words : (a d owner p : ℕ) → meets (read L t) a d owner p e ≡ fits t b a d owner p e
+  pub meets-words : (a d owner : ℕ) → meets (read L t) a d owner e ≡ fits t b a d owner e
   unfolding meets
-  meets-words a d owner p = rw (read-tasks L t, le-leb e (getD t 1 0) u, entry-hub, entry-side, entry-priority)
+  meets-words a d owner = rw (read-tasks L t, le-leb e (getD t 1 0) u, entry-hub L y t e b n u at, entry-side L y t e b n u at)
 
-pub meets-far : (L : Layout) (t : List ℕ) (a d owner p e : ℕ) → getD t 1 0 < e → meets (read L t) a d owner p e ≡ false
+pub meets-far : (L : Layout) (t : List ℕ) (a d owner e : ℕ) → getD t 1 0 < e → meets (read L t) a d owner e ≡ false
 unfolding meets
-meets-far L t a d owner p e h = rw (read-tasks L t, lt-leb e (getD t 1 0) h)
+meets-far L t a d owner e h = rw (read-tasks L t, lt-leb e (getD t 1 0) h)
 
 -- ---- a task's record by its words, and the kind of the hub that it names
 
@@ -286,28 +264,28 @@ mark-step m i j h =
 
 -- what it gives back
 abbrev Walked : Layout → List ℕ → List ℕ → ℕ → ℕ → ℕ → List ℕ → Bool → List ℕ → Type 0
-Walked L t l a d owner m₀ r m = Marked r (walks (read L t) a d owner 0 l) (λ j. occ j (numbers l)) m₀ m
+Walked L t l a d owner m₀ r m = Marked r (walks (read L t) a d owner l) (λ j. occ j (numbers l)) m₀ m
 
--- at place k, where the last priority was p and the marks are m
+-- at place k, where the marks are m
 
-pub record Walking (L : Layout) (t l : List ℕ) (a d owner : ℕ) (m₀ m : List ℕ) (p k : ℕ) : Type 0 where
+pub record Walking (L : Layout) (t l : List ℕ) (a d owner : ℕ) (m₀ m : List ℕ) (k : ℕ) : Type 0 where
   pub inside : k ≤ 16
   pub long : length m ≡ length m₀
-  pub rest : walks (read L t) a d owner 0 l ≡ walks (read L t) a d owner p (drop k l)
+  pub rest : walks (read L t) a d owner l ≡ walks (read L t) a d owner (drop k l)
   pub met : (j : ℕ) → getD m j 0 + occ j (numbers (drop k l)) ≡ getD m₀ j 0 + occ j (numbers l)
 
 module _ (L : Layout) (t l : List ℕ) (a d owner : ℕ) (m₀ : List ℕ) where
-  pub walking-begin : {n : ℕ} → Marks n m₀ → Walking L t l a d owner m₀ m₀ 0 0
+  pub walking-begin : {n : ℕ} → Marks n m₀ → Walking L t l a d owner m₀ m₀ 0
   walking-begin w = record { inside = zero-le; long = refl; rest = refl; met = λ j. refl }
 
-  module _ (m : List ℕ) (p k : ℕ) (w : Walking L t l a d owner m₀ m p k) (n : length l ≡ 16) where
+  module _ (m : List ℕ) (k : ℕ) (w : Walking L t l a d owner m₀ m k) (n : length l ≡ 16) where
     pub walking-low : {b : ℕ} → Marks b m₀ → (j : ℕ) → getD m j 0 ≤ b + 16
     walking-low ok j = omega (arith, w .met j, ok .low j, occ-most j (numbers l), length-numbers l)
 
-    refused : walks (read L t) a d owner p (drop k l) ≡ false → Walked L t l a d owner m₀ false m
+    refused : walks (read L t) a d owner (drop k l) ≡ false → Walked L t l a d owner m₀ false m
     refused e = record { right = sym (w .rest ∙ e); long = w .long; marks = λ f. absurd (false≢true f) }
 
-    accepted : (r : Bool) → r ≡ walks (read L t) a d owner p (drop k l) → numbers (drop k l) ≡ [] → Walked L t l a d owner m₀ r m
+    accepted : (r : Bool) → r ≡ walks (read L t) a d owner (drop k l) → numbers (drop k l) ≡ [] → Walked L t l a d owner m₀ r m
     unfolding occ
     accepted r e z = record { right = e ∙ sym (w .rest); long = w .long; marks = λ f j. sym (add-zero (getD m j 0)) ∙ rw z at (w .met j) }
 
@@ -322,60 +300,28 @@ module _ (L : Layout) (t l : List ℕ) (a d owner : ℕ) (m₀ : List ℕ) where
 
       pub walking-end : getD l k 0 ≡ 0 → (r : Bool) → r ≡ allZero (take (length l - k) (drop k l)) → Walked L t l a d owner m₀ r m
       walking-end e r q =
-          accepted r (q ∙ ap allZero (to-end k l) ∙ sym (walks-end l k inner (read L t) a d owner p e)) (numbers-end l k inner e)
+          accepted r (q ∙ ap allZero (to-end k l) ∙ sym (walks-end l k inner (read L t) a d owner e)) (numbers-end l k inner e)
 
       module _ (some : getD l k 0 ≡ 0 → ⊥) where
-        turned : walks (read L t) a d owner p (drop k l) ≡ (meets (read L t) a d owner p (getD l k 0) && walks (read L t) a d owner (task (read L t) (pred (getD l k 0)) .priority) (drop (suc k) l))
-        turned = walks-turn l k inner (read L t) a d owner p some
+        turned : walks (read L t) a d owner (drop k l) ≡ (meets (read L t) a d owner (getD l k 0) && walks (read L t) a d owner (drop (suc k) l))
+        turned = walks-turn l k inner (read L t) a d owner some
 
-        pub walking-miss : meets (read L t) a d owner p (getD l k 0) ≡ false → Walked L t l a d owner m₀ false m
+        pub walking-miss : meets (read L t) a d owner (getD l k 0) ≡ false → Walked L t l a d owner m₀ false m
         walking-miss e = refused (turned ∙ rw e)
 
-        module _ (e : meets (read L t) a d owner p (getD l k 0) ≡ true) where
+        module _ (e : meets (read L t) a d owner (getD l k 0) ≡ true) where
           pub walking-used : getD l k 0 ≤ getD t 1 0
           unfolding meets
           walking-used = rw (read-tasks L t) at (leb-true (getD l k 0) _ (and-l _ _ e))
 
-          pub walking-hit : {ts : ℕ} → Laid ts L → (b : ℕ) → b ≡ 8 + (getD l k 0 - 1) * ts → length m₀ ≡ 16 → getD t 1 0 ≤ 16 → Walking L t l a d owner m₀ (set m (getD l k 0 - 1) (getD m (getD l k 0 - 1) 0 + 1)) (getD t (b + 2) 0) (k + 1)
+          pub walking-hit : length m₀ ≡ 16 → getD t 1 0 ≤ 16 → Walking L t l a d owner m₀ (set m (getD l k 0 - 1) (getD m (getD l k 0 - 1) 0 + 1)) (k + 1)
           unfolding occ
-          walking-hit y b at all few = record {
+          walking-hit all few = record {
             inside = omega arith;
             long = length-set m (getD l k 0 - 1) (getD m (getD l k 0 - 1) 0 + 1) ∙ w .long;
-            rest = rw add-one (w .rest ∙ turned ∙ rw (e, entry-priority L y t (getD l k 0) b some walking-used at));
+            rest = rw add-one (w .rest ∙ turned ∙ rw e);
             met = λ j.
                 let q : getD l k 0 - 1 ≡ pred (getD l k 0) = omega arith in
                 let x = rw (numbers-turn l k inner some) at (w .met j) in
                 rw (q, mark-step m (pred (getD l k 0)) j (omega (arith, w .long, walking-used)), add-one k) (omega (arith, x));
           }
-
--- ---- a test of every number below n, from 0 up
-
-pub forAll-fail : (p : ℕ → Bool) (n k : ℕ) → k < n → p k ≡ false → forAll n p ≡ false
-unfolding forAll
-forAll-fail p zero k h e = absurd (not-suc-le-zero h)
-forAll-fail p (suc n) k h e =
-    boolCase (eqb k n)
-    (λ b. rw (← eqb-true k n b, e))
-    (λ b. let m = eqb-false k n b in rw (forAll-fail p n k (omega arith) e, and-false))
-
-pub forAll-none : (p : ℕ → Bool) → forAll 0 p ≡ true
-unfolding forAll
-forAll-none p = refl
-
-pub forAll-step : (p : ℕ → Bool) (k : ℕ) → forAll k p ≡ true → p k ≡ true → forAll (k + 1) p ≡ true
-unfolding forAll
-forAll-step p k a e = rw (add-one, e, a)
-
-pub forAll-end : (p : ℕ → Bool) (n k : ℕ) → k ≤ n → n ≤ k → forAll k p ≡ true → forAll n p ≡ true
-forAll-end p n k a b e = let q : n ≡ k = omega arith in rw (q, e)
-
-pub forAll-both : (p q r : ℕ → Bool) → ((k : ℕ) → r k ≡ (p k && q k)) → (n : ℕ) → forAll n r ≡ (forAll n p && forAll n q)
-unfolding forAll
-forAll-both p q r e zero = refl
-forAll-both p q r e (suc n) = rw (e n, forAll-both p q r e n) (four (p n) (q n) (forAll n p) (forAll n q))
-  where
-    four : (a b c d : Bool) → ((a && b) && (c && d)) ≡ ((a && c) && (b && d))
-    four false b c d = refl
-    four true b true d = refl
-    four true true false d = refl
-    four true false false d = refl

@@ -1,6 +1,7 @@
--- The tests of this crate, taken together, are `wellFormedIn`, in any layout: `passed-well` and `well-passed`.
--- Not here: what a walk of a list says (Queues.antt), exact lists by marks (Marks.antt). Assumes nothing.
+-- The tests of this crate but that of order, taken together, are `exactIn`, in any layout: `passed-exact` and `exact-passed`.
+-- Not here: what a walk of a list says (Queues.antt), exact lists by marks (Marks.antt), the order (Ordered.antt). Assumes nothing.
 use Prim.Native.Nat.{_+_, _<_, _≤_, pred, suc, zero, ℕ}
+use Rattle.bodies.specs.Bodies.{Used, bodyTest, kindTest, ownerOf, ownerTest, storeTest}
 use Rattle.lists.proofs.Counting.{occ-most}
 use Rattle.lists.proofs.Laws.{boolCase, length-numbers}
 use Rattle.lists.specs.Lists.{numbers, occ, packed}
@@ -8,15 +9,15 @@ use Rattle.records.specs.Records.{tableSize}
 use Rattle.rules.proofs.Cases.{and-l, and-r}
 use Rattle.rules.proofs.Reading.{read-hub, read-hubs, read-tasks}
 use Rattle.rules.proofs.Standing.{listed-ready, listed-waiting, listed-waits}
-use Rattle.rules.proofs.Tests.{t-all, t-each, t-is, t-kind, t-may, t-oneSide, t-owner, t-records, t-sorted, t-task, tested}
-use Rattle.rules.proofs.Valid.{Valid}
-use Rattle.rules.proofs.Written.{Written, read-fits, written-says}
+use Rattle.rules.proofs.Tests.{t-all, t-each, t-is, t-kind, t-may, t-oneSide, t-owner, t-records, t-task}
+use Rattle.rules.proofs.Written.{Written, written-says}
 use Rattle.rules.specs.Table.{Hub, Layout, State, Task, hub, hubAt, hubWordAt, inactive, kindOf, part, read, readyAt, sideOf, size, stageOf, storePart, task, waitPart}
-use Rattle.rules.specs.WellFormed.{contentsRight, fieldsRight, forAll, hubsRight, inOrder, kindRight, listsExact, listsPacked, mayWait, ownerRight, ownersRight, stageRight, storeRight, storesRight, tasksRight, unusedZero, urgency, valid, waitersRight, wellFormedIn, written}
+use Rattle.rules.specs.WellFormed.{contentsRight, fieldsRight, forAll, hubsRight, kindRight, listsExact, listsPacked, mayWait, ownerRight, ownersRight, stageRight, storeRight, storesRight, tasksRight, unusedZero, waitersRight, written}
 use Rattle.wellformed.proofs.Hubs.{wait-words}
 use Rattle.wellformed.proofs.Marks.{Placed, exact-marks, marks-exact, ready-shape}
-use Rattle.wellformed.proofs.Queues.{Entry, Line, Queue, first-in, first-none, low-zero, may-wait, queue-holds, queue-says, walks-holds, walks-says}
-use Rattle.wellformed.specs.Walks.{Marked, Marks, Used, hubRight, kindTest, listed, may, metAt, ownerOf, ownerTest, queueTest, recordRight, storeTest, taskRight, walks}
+use Rattle.wellformed.proofs.Ordered.{Exact, exact-says}
+use Rattle.wellformed.proofs.Queues.{Entry, Line, Queue, first-in, first-none, may-wait, queue-holds, queue-says, walks-holds, walks-says}
+use Rattle.wellformed.specs.Walks.{Marked, Marks, exactIn, hubRight, listed, may, metAt, queueTest, recordRight, taskRight, walks}
 use borrow.Author.Tests.{eq-eqb, eqb-false, eqb-true, leb-true, ltb-false, ltb-true, ne-eqb, not-true}
 use lib.Dec.{eqb, leb, ltb}
 use lib.ListN.{List·getD-eq-default, getD, length, replicate}
@@ -33,7 +34,7 @@ pub record Passed (L : Layout) (t : List ℕ) : Type 0 where
   pub long : length t ≡ size L
   pub contents : contentsRight L t ≡ true
   pub unused : unusedZero L t ≡ true
-  pub ready : walks (read L t) 0 0 0 0 (part (readyAt L) 16 t) ≡ true
+  pub ready : walks (read L t) 0 0 0 (part (readyAt L) 16 t) ≡ true
   pub hubs : forAll (getD t 2 0) (hubRight L t) ≡ true
   pub tasks : forAll (getD t 1 0) (λ i. taskRight (read L t) i (markOf L t i)) ≡ true
 
@@ -57,34 +58,38 @@ each-at n p = t-all (λ i. p i ≡ true) p (λ i. t-is (p i)) n .yes
 each-so : (n : ℕ) (p : ℕ → Bool) → ((i : ℕ) → i < n → p i ≡ true) → forAll n p ≡ true
 each-so n p = t-all (λ i. p i ≡ true) p (λ i. t-is (p i)) n .conv
 
--- ---- what passed is well formed
+-- ---- what passed is exact
 
 module _ (L : Layout) (t : List ℕ) (p : Passed L t) where
   abbrev s : State
   s = read L t
 
-  queue : Queue s 0 0 0 0 (part (readyAt L) 16 t)
-  queue = walks-says s 0 0 0 0 (part (readyAt L) 16 t) (p .ready)
+  queue : Queue s 0 0 0 (part (readyAt L) 16 t)
+  queue = walks-says s 0 0 0 (part (readyAt L) 16 t) (p .ready)
 
   module _ (h : ℕ) (u : h < getD t 2 0) where
     right : hubRight L t h ≡ true
     right = each-at (getD t 2 0) (hubRight L t) (p .hubs) h u
 
+    body : bodyTest L t h ≡ true
+    unfolding hubRight
+    body = and-l _ _ right
+
     kind-passed : kindRight (kindOf (hub s h .kind)) (length (s .tasks)) (hub s h) ≡ true
-    unfolding hubRight kindTest
-    kind-passed = rw (read-tasks L t) (and-l (kindTest L t h) _ right)
+    unfolding bodyTest kindTest
+    kind-passed = rw (read-tasks L t) (and-l (kindTest L t h) _ body)
 
     store-passed : storeRight L (kindOf (hubWordAt L t h 0)) (hubWordAt L t h 1) (hubWordAt L t h 2) (storePart L t h) ≡ true
-    unfolding hubAt hubRight storeTest
-    store-passed = rw (read-hub L t h u) at (and-l (storeTest L t h) _ (and-r (kindTest L t h) _ right))
+    unfolding bodyTest hubAt storeTest
+    store-passed = rw (read-hub L t h u) at (and-l (storeTest L t h) _ (and-r (kindTest L t h) _ body))
 
     line : Line s h (hub s h) (waitPart L t h)
     unfolding hubRight queueTest
-    line = queue-says s h (hub s h) (waitPart L t h) (and-r (ownerTest L t h) _ (and-r (storeTest L t h) _ (and-r (kindTest L t h) _ right)))
+    line = queue-says s h (hub s h) (waitPart L t h) (and-r (bodyTest L t h) _ right)
 
     owner-passed : ownerRight s (hub s h) ≡ true
-    unfolding hubRight ownerTest
-    owner-passed = and-l (ownerTest L t h) _ (and-r (storeTest L t h) _ (and-r (kindTest L t h) _ right))
+    unfolding bodyTest ownerTest
+    owner-passed = and-r (storeTest L t h) _ (and-r (kindTest L t h) _ body)
 
     waits : (i : ℕ) → 1 ≤ occ i (hub s h .waiters) → 1 ≤ occ i (numbers (waitPart L t h))
     waits i o = rw (wait-words L t h u) at o
@@ -118,13 +123,6 @@ module _ (L : Layout) (t : List ℕ) (p : Passed L t) where
       marks-exact s (t-records s .yes tasks-passed) placed
       (λ i u. rw (read-hubs L t) (eqb-true _ _ (and-r (stageRight (stageOf (task s i .state)) s (task s i)) _ (and-r (fieldsRight (task s i)) _ (task-passed i (rw (read-tasks L t) at u))))))
 
-  order-passed : inOrder s ≡ true
-  unfolding inOrder read
-  order-passed =
-      rw
-      (t-sorted (urgency s) (s .ready) .conv (queue .sorted))
-      (each-so (length (s .hubs)) _ (λ h k. let u = rw (read-hubs L t) at k in t-sorted (urgency s) (hub s h .waiters) .conv (rw (wait-words L t h u) (line h u .queue .sorted))))
-
   waiters-passed : waitersRight s ≡ true
   unfolding waitersRight
   waiters-passed =
@@ -142,10 +140,6 @@ module _ (L : Layout) (t : List ℕ) (p : Passed L t) where
   unfolding ownersRight
   owners-passed = each-so (length (s .hubs)) _ (λ h k. owner-passed h (rw (read-hubs L t) at k))
 
-  valid-passed : valid s ≡ true
-  unfolding valid
-  valid-passed = rw (hubs-passed, lists-passed, order-passed, tasks-passed, waiters-passed, owners-passed)
-
   written-passed : written L t ≡ true
   unfolding listsPacked storesRight written
   written-passed =
@@ -158,11 +152,11 @@ module _ (L : Layout) (t : List ℕ) (p : Passed L t) where
       )
       (each-so (getD t 2 0) _ store-passed)
 
-  pub passed-well : wellFormedIn L t ≡ true
-  unfolding wellFormedIn
-  passed-well = rw (written-passed, valid-passed)
+  pub passed-exact : exactIn L t ≡ true
+  unfolding exactIn
+  passed-exact = rw (written-passed, hubs-passed, lists-passed, tasks-passed, waiters-passed, owners-passed)
 
--- ---- what is well formed passes
+-- ---- what is exact passes
 
 -- a task that is ready or waits is in use
 in-use : (s : State) (i n : ℕ) → task s i .state ≡ suc (suc n) → i < length (s .tasks)
@@ -171,27 +165,21 @@ in-use s i n e =
     boolCase (ltb i (length (s .tasks))) (ltb-true i _)
     (λ b. absurd (omega (arith, e, ap (λ (x : Task). x .state) (List·getD-eq-default (s .tasks) (inactive 0) (ltb-false i (length (s .tasks)) b)))))
 
-module _ (L : Layout) (t : List ℕ) (e : wellFormedIn L t ≡ true) where
-  wrote : written L t ≡ true
-  unfolding wellFormedIn
-  wrote = and-l _ _ e
+module _ (L : Layout) (t : List ℕ) (e : exactIn L t ≡ true) where
+  state : Exact L t
+  state = exact-says L t e
 
   says : Written L t
-  says = written-says L t wrote
-
-  state : Valid (read L t)
-  unfolding wellFormedIn
-  state = let v = and-r (written L t) _ e in tested (read L t) (read-fits L t wrote) v
+  says = written-says L t (state .wrote)
 
   contents-pass : contentsRight L t ≡ true
   unfolding written
-  contents-pass = and-l _ _ (and-r (eqb (length t) (size L)) _ wrote)
+  contents-pass = and-l _ _ (and-r (eqb (length t) (size L)) _ (state .wrote))
 
-  ready-pass : walks (read L t) 0 0 0 0 (part (readyAt L) 16 t) ≡ true
+  ready-pass : walks (read L t) 0 0 0 (part (readyAt L) 16 t) ≡ true
   unfolding read
   ready-pass =
-      walks-holds (read L t) 0 0 0 0 (part (readyAt L) 16 t)
-      (record { full = says .ready; each = entry; low = low-zero _ _; sorted = state .ordered .ready })
+      walks-holds (read L t) 0 0 0 (part (readyAt L) 16 t) (record { full = says .ready; each = entry })
     where
       entry : (i : ℕ) → 1 ≤ occ i (read L t .ready) → Entry (read L t) 0 0 0 i
       entry i o =
@@ -204,7 +192,7 @@ module _ (L : Layout) (t : List ℕ) (e : wellFormedIn L t ≡ true) where
     x = hub (read L t) h
 
     kind-pass : kindRight (kindOf (x .kind)) (length (read L t .tasks)) x ≡ true
-    kind-pass = t-kind (kindOf (x .kind)) (length (read L t .tasks)) x .conv (state .ranges .range h (rw (read-hubs L t) u))
+    kind-pass = t-kind (kindOf (x .kind)) (length (read L t .tasks)) x .conv (state .ranges h (rw (read-hubs L t) u))
 
     store-pass : storeRight L (kindOf (x .kind)) (x .count) (x .limit) (storePart L t h) ≡ true
     unfolding hubAt
@@ -239,8 +227,6 @@ module _ (L : Layout) (t : List ℕ) (e : wellFormedIn L t ≡ true) where
               side = same-side i o;
               other = eqb-false _ _ (not-true _ (and-r (may (task (read L t) i .side) (x .kind) (x .count) (x .limit)) _ (may-pass i o)));
             };
-        low = low-zero _ _;
-        sorted = rw (wait-words L t h u) at (state .ordered .waiters h);
       };
       allowed = λ i o. rw (same-side i o) at (and-l (may (task (read L t) i .side) (x .kind) (x .count) (x .limit)) _ (may-pass i o));
     }
@@ -249,7 +235,7 @@ module _ (L : Layout) (t : List ℕ) (e : wellFormedIn L t ≡ true) where
     owner-pass = t-owner (read L t) x .conv (state .owners .active h)
 
     hub-pass : hubRight L t h ≡ true
-    unfolding hubRight kindTest ownerTest queueTest storeTest
+    unfolding bodyTest hubRight kindTest ownerTest queueTest storeTest
     hub-pass =
         rw (rw (read-tasks L t) at kind-pass, store-pass, owner-pass) (queue-holds (read L t) h x (waitPart L t h) line-pass)
 
@@ -261,8 +247,8 @@ module _ (L : Layout) (t : List ℕ) (e : wellFormedIn L t ≡ true) where
       let a : fieldsRight (task (read L t) i) ≡ true = and-l _ _ q in
       rw (a, and-r (fieldsRight (task (read L t) i)) _ q, eq-eqb (markOf L t i) _ m)
 
-  pub well-passed : Passed L t
-  well-passed = record {
+  pub exact-passed : Passed L t
+  exact-passed = record {
     long = says .long;
     contents = contents-pass;
     unused = says .unused;
@@ -271,12 +257,12 @@ module _ (L : Layout) (t : List ℕ) (e : wellFormedIn L t ≡ true) where
     tasks = each-so (getD t 1 0) (λ i. taskRight (read L t) i (markOf L t i)) (λ i u. task-pass i);
   }
 
--- ---- a test that well formed tables pass, and the last one
+-- ---- a test that exact tables pass, and the last one
 
-pub refused : (L : Layout) (t : List ℕ) (b : Bool) → (wellFormedIn L t ≡ true → b ≡ true) → b ≡ false → false ≡ wellFormedIn L t
-refused L t b f e = boolCase (wellFormedIn L t) (λ w. absurd (false≢true (sym e ∙ f w))) (λ w. sym w)
+pub refused : (L : Layout) (t : List ℕ) (b : Bool) → (exactIn L t ≡ true → b ≡ true) → b ≡ false → false ≡ exactIn L t
+refused L t b f e = boolCase (exactIn L t) (λ w. absurd (false≢true (sym e ∙ f w))) (λ w. sym w)
 
-settled : (L : Layout) (t : List ℕ) (b : Bool) → (wellFormedIn L t ≡ true → b ≡ true) → (b ≡ true → wellFormedIn L t ≡ true) → b ≡ wellFormedIn L t
+settled : (L : Layout) (t : List ℕ) (b : Bool) → (exactIn L t ≡ true → b ≡ true) → (b ≡ true → exactIn L t ≡ true) → b ≡ exactIn L t
 settled L t b f g = boolCase b (λ e. rw (e, g e)) (λ e. rw e (refused L t b f e))
 
 -- the same test of every number
@@ -300,13 +286,13 @@ ready-marks l g e n = record {
 
 -- all tests but the last have passed, and the last is of the marks that they left
 pub whole : (L : Layout) (t : List ℕ) {m n : List ℕ} (a b r : Bool) → length t ≡ size L → contentsRight L t ≡ true → unusedZero L t ≡ true
-    → Marked a (walks (read L t) 0 0 0 0 (part (readyAt L) 16 t)) (λ j. occ j (numbers (part (readyAt L) 16 t))) (replicate 16 0) m → a ≡ true
+    → Marked a (walks (read L t) 0 0 0 (part (readyAt L) 16 t)) (λ j. occ j (numbers (part (readyAt L) 16 t))) (replicate 16 0) m → a ≡ true
     → Marked b (forAll (getD t 2 0) (hubRight L t)) (metAt (read L t) (getD t 2 0)) m n → b ≡ true
-    → r ≡ forAll (getD t 1 0) (λ i. taskRight (read L t) i (getD n i 0)) → r ≡ wellFormedIn L t
+    → r ≡ forAll (getD t 1 0) (λ i. taskRight (read L t) i (getD n i 0)) → r ≡ exactIn L t
 unfolding read
 whole L t {m} {n} a b r long c z f fa g gb e =
-    settled L t r (λ w. same ∙ well-passed L t w .tasks)
-    (λ o. passed-well L t (record { long = long; contents = c; unused = z; ready = sym (f .right) ∙ fa; hubs = sym (g .right) ∙ gb; tasks = sym same ∙ o }))
+    settled L t r (λ w. same ∙ exact-passed L t w .tasks)
+    (λ o. passed-exact L t (record { long = long; contents = c; unused = z; ready = sym (f .right) ∙ fa; hubs = sym (g .right) ∙ gb; tasks = sym same ∙ o }))
   where
     mark : (j : ℕ) → getD n j 0 ≡ markOf L t j
     mark j = omega (arith, f .marks fa j, g .marks gb j, no-marks 16 j)

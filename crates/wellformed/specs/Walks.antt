@@ -1,38 +1,30 @@
--- What each function of this crate tests: a list of words in one walk, a hub with its store and its list, a task with its
--- mark. In the code's order. Not here: that together they are `wellFormedIn` (proofs/).
+-- What each function of this crate tests: a list of words in one walk, a hub with its list, a task with its mark, the whole. In
+-- the code's order. Not here: that together they are `wellFormedIn` (proofs/).
 use Prim.Native.Nat.{_+_, _≤_, pred, suc, zero, ℕ}
+use Rattle.bodies.specs.Bodies.{bodyTest, ownerOf}
 use Rattle.lists.specs.Lists.{allZero, bit, occ}
-use Rattle.records.specs.Records.{tableSize}
-use Rattle.rules.specs.Table.{Hub, Layout, Stage, State, Task, hub, kindOf, read, stageOf, storeFrom, storePart, task, taskFrom, waitPart}
-use Rattle.rules.specs.WellFormed.{fieldsRight, forAll, kindRight, ownerRight, stageRight, storeRight}
+use Rattle.rules.specs.Effective.{effective}
+use Rattle.rules.specs.Table.{Hub, Layout, Stage, State, Task, hub, read, stageOf, task, taskFrom, waitPart}
+use Rattle.rules.specs.WellFormed.{fieldsRight, hubsRight, listsExact, ownersRight, stageRight, tasksRight, waitersRight, wellFormedIn, written}
 use lib.Dec.{eqb, leb}
 use lib.ListN.{getD, length}
 use mathlib.Core.Bool.{Bool, _&&_, _||_, cond, not, true}
 use mathlib.Core.List.{List, [], _∷_}
 use mathlib.Core.Path.{_≡_}
 
--- a table of an edition whose counts are right, so that every place that is read is in it
-pub record Used (ts : ℕ) (t : List ℕ) : Type 0 where
-  pub low : 8 ≤ ts
-  pub high : ts ≤ 9
-  pub long : length t ≡ tableSize ts
-  pub tasks : getD t 1 0 ≤ 16
-  pub hubs : getD t 2 0 ≤ 16
-
 -- ---- one list
 
--- entry x: a task in use, at this hub, on this side, not more urgent than the entry before it, and not the owner
-unfoldable pub meets : State → ℕ → ℕ → ℕ → ℕ → ℕ → Bool
-meets s h d owner p x =
+-- entry x: a task in use, at this hub, on this side, and not the owner
+unfoldable pub meets : State → ℕ → ℕ → ℕ → ℕ → Bool
+meets s h d owner x =
     leb x (length (s .tasks))
     && (eqb (task s (pred x) .hub) h
-    && (eqb (task s (pred x) .side) d && (leb p (task s (pred x) .priority) && not (eqb x owner))))
+    && (eqb (task s (pred x) .side) d && not (eqb x owner)))
 
 -- such entries, then nothing but zeros
-unfoldable pub walks : State → ℕ → ℕ → ℕ → ℕ → List ℕ → Bool
-walks s h d owner p [] = true
-walks s h d owner p (x ∷ xs) =
-    cond (eqb x 0) (allZero xs) (meets s h d owner p x && walks s h d owner (task s (pred x) .priority) xs)
+unfoldable pub walks : State → ℕ → ℕ → ℕ → List ℕ → Bool
+walks s h d owner [] = true
+walks s h d owner (x ∷ xs) = cond (eqb x 0) (allZero xs) (meets s h d owner x && walks s h d owner xs)
 
 -- a mark for each task, none above n
 pub record Marks (n : ℕ) (m : List ℕ) : Type 0 where
@@ -54,45 +46,20 @@ may side kind count limit =
     (eqb side 1 && ((not (eqb kind 5) && (not (eqb kind 6) && not (eqb kind 7))) && eqb count limit))
     || (eqb side 2 && ((eqb kind 5 && not (eqb count 0)) || (not (eqb kind 5) && eqb count 0)))
 
--- a Resource's owner plus 1, else 0
-abbrev pub ownerOf : ℕ → ℕ → ℕ
-ownerOf kind count = cond (eqb kind 5) count 0
-
 -- a hub's list: the side of the first entry may wait, and all others are on that side
 unfoldable pub queueRight : State → ℕ → Hub → List ℕ → Bool
 queueRight s h x l =
     cond (eqb (getD l 0 0) 0) (allZero l)
     (leb (getD l 0 0) (length (s .tasks))
     && (may (task s (pred (getD l 0 0)) .side) (x .kind) (x .count) (x .limit)
-    && walks s (suc h) (task s (pred (getD l 0 0)) .side) (ownerOf (x .kind) (x .count)) 0 l))
-
--- the marks of a Memory hub's blocks, as many as its limit, and how many are free
-abbrev pub marksOf : Layout → List ℕ → ℕ → ℕ → List ℕ
-marksOf L t h limit = storeFrom L limit (storePart L t h)
-
-unfoldable pub marksTest : Layout → List ℕ → ℕ → ℕ → ℕ → Bool
-marksTest L t h count limit =
-    forAll limit (λ b. leb (getD (marksOf L t h limit) b 0) 1) && eqb count (occ 0 (marksOf L t h limit))
-
--- a hub of the table: its record, its store, its owner, its list; all but its list, and all four
-unfoldable pub kindTest : Layout → List ℕ → ℕ → Bool
-kindTest L t h = kindRight (kindOf (hub (read L t) h .kind)) (getD t 1 0) (hub (read L t) h)
-
-unfoldable pub storeTest : Layout → List ℕ → ℕ → Bool
-storeTest L t h =
-    storeRight L (kindOf (hub (read L t) h .kind)) (hub (read L t) h .count) (hub (read L t) h .limit) (storePart L t h)
-
-unfoldable pub ownerTest : Layout → List ℕ → ℕ → Bool
-ownerTest L t h = ownerRight (read L t) (hub (read L t) h)
+    && walks s (suc h) (task s (pred (getD l 0 0)) .side) (ownerOf (x .kind) (x .count)) l))
 
 unfoldable pub queueTest : Layout → List ℕ → ℕ → Bool
 queueTest L t h = queueRight (read L t) h (hub (read L t) h) (waitPart L t h)
 
-unfoldable pub bodyTest : Layout → List ℕ → ℕ → Bool
-bodyTest L t h = kindTest L t h && (storeTest L t h && ownerTest L t h)
-
+-- a hub of the table: what stands in its record and its store, and its list
 unfoldable pub hubRight : Layout → List ℕ → ℕ → Bool
-hubRight L t h = kindTest L t h && (storeTest L t h && (ownerTest L t h && queueTest L t h))
+hubRight L t h = bodyTest L t h && queueTest L t h
 
 -- how often task j stands in the list of hub h
 abbrev pub waitsOf : Layout → List ℕ → ℕ → ℕ → ℕ
@@ -129,3 +96,19 @@ taskRight s i mark = recordRight s (task s i) mark
 -- the record that a list of words holds
 abbrev pub recordOf : Layout → List ℕ → Task
 recordOf L l = taskFrom L (λ k. getD l k 0)
+
+-- ---- the whole
+
+-- all clauses of `wellFormedIn` but the order of the lists
+unfoldable pub exactIn : Layout → List ℕ → Bool
+exactIn L t =
+    written L t
+    && (hubsRight (read L t)
+    && (listsExact (read L t)
+    && (tasksRight (read L t) && (waitersRight (read L t) && ownersRight (read L t)))))
+
+-- what the test of a table gives back: the answer, and where it is yes each task's effective priority, its key
+pub record Formed (L : Layout) (t : List ℕ) (r : Bool) (ks : List ℕ) : Type 0 where
+  pub right : r ≡ wellFormedIn L t
+  pub long : r ≡ true → length ks ≡ 16
+  pub keys : r ≡ true → (j : ℕ) → getD ks j 0 ≡ effective (read L t) j

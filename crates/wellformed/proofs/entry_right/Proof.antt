@@ -13,7 +13,7 @@ shared-slice-read-if1 c = search needs
 returns : tie.Need-returns
 returns c L y =
     let a = c .before .before .before .args in
-    sym (meets-far L (a .t .now) (a .hub) (a .side) (a .owner) (a .last) (a .e) (c .if1 .taken))
+    sym (meets-far L (a .t .now) (a .hub) (a .side) (a .owner) (a .e) (c .if1 .taken))
 
 sub-result : tie.Need-sub-result
 sub-result c = search needs
@@ -42,21 +42,12 @@ mul-result-2 c = search needs
 shared-slice-read-result-2 : tie.Need-shared-slice-read-result-2
 shared-slice-read-result-2 c = search needs
 
-add-result-3 : tie.Need-add-result-3
-add-result-3 c = search needs
-
-mul-result-3 : tie.Need-mul-result-3
-mul-result-3 c = search needs
-
-shared-slice-read-result-3 : tie.Need-shared-slice-read-result-3
-shared-slice-read-result-3 c = search needs
-
 returns-2 : tie.Need-returns-2
 returns-2 c L y =
-    let b = c .before .before .before .before .before .before .before in
+    let b = c .before .before .before .before .before .before in
     let a = b .args in
-    let p = c .before .before .before .task-at in
-    sym (meets-words L y (a .t .now) (a .e) (p .result) (λ z. omega arith) (c .before .before .before .before .if1 .left) (p .ensures .place) (a .hub) (a .side) (a .owner) (a .last))
+    let p = c .before .before .task-at in
+    sym (meets-words L y (a .t .now) (a .e) (p .result) (λ z. omega arith) (c .before .before .before .if1 .left) (p .ensures .place) (a .hub) (a .side) (a .owner))
 
 pub entry-right-spec : {M : Type 1} → statement M
 entry-right-spec =
@@ -73,7 +64,4 @@ entry-right-spec =
     add-result-2
     mul-result-2
     shared-slice-read-result-2
-    add-result-3
-    mul-result-3
-    shared-slice-read-result-3
     returns-2)

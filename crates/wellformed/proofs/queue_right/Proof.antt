@@ -1,8 +1,8 @@
 -- `wellformed::queue_right` meets its contract: an empty list, else the answer by the list's first word. Assumes nothing.
 use Prim.Native.Nat.{_*_, _+_}
+use Rattle.bodies.proofs.Parts.{lent-long}
 use Rattle.lists.proofs.Padding.{allZero-at}
 use Rattle.wellformed.proofs.Hubs.{queue-as, queue-barred, queue-far, queue-none, queue-walked}
-use Rattle.wellformed.proofs.Parts.{lent-long}
 use Rattle.wellformed.proofs.queue_right.Statement.{statement}
 use Rattle.wellformed.proofs.queue_right.Tie as tie
 use borrow.Author.Needs.{needs}

@@ -1,11 +1,12 @@
 -- `wellformed::tasks_right` meets its contract. The loop's invariant: the tasks so far are right, in every layout.
 -- Assumes nothing.
 use Prim.Native.Nat.{_-_, _≤_, ℕ}
+use Rattle.bodies.proofs.Parts.{lent-long}
+use Rattle.bodies.proofs.Turns.{forAll-end, forAll-fail, forAll-none, forAll-step}
 use Rattle.rules.proofs.Layouts.{Laid}
 use Rattle.rules.specs.Table.{Layout, read}
 use Rattle.rules.specs.WellFormed.{forAll}
-use Rattle.wellformed.proofs.Parts.{lent-long}
-use Rattle.wellformed.proofs.Turns.{forAll-end, forAll-fail, forAll-none, forAll-step, record-task}
+use Rattle.wellformed.proofs.Turns.{record-task}
 use Rattle.wellformed.proofs.tasks_right.Statement.{statement}
 use Rattle.wellformed.proofs.tasks_right.Tie as tie
 use Rattle.wellformed.specs.Walks.{taskRight}

@@ -13,10 +13,10 @@ use mathlib.Core.Path.{_∙_, sym}
 use native.Mathlib.Omega.{arith}
 
 abbrev Inv-loop : tie.InvT-loop
-Inv-loop t ts list hub side owner marks₀ last₀ k₀ marks last k = (L : Layout) → Laid ts L → Walking L t list hub side owner marks₀ marks last k
+Inv-loop t ts list hub side owner marks₀ k₀ marks k = (L : Layout) → Laid ts L → Walking L t list hub side owner marks₀ marks k
 
 abbrev μ-loop : tie.MeasureT-loop
-μ-loop t ts list hub side owner marks₀ last₀ k₀ marks last k = 16 - k
+μ-loop t ts list hub side owner marks₀ k₀ marks k = 16 - k
 
 loop-holds : tie.Need-loop-holds Inv-loop μ-loop
 loop-holds c L y = walking-begin _ _ _ _ _ _ _ (c .before .before .pre .1 .1)
@@ -46,7 +46,7 @@ returns : tie.Need-returns Inv-loop μ-loop
 returns c L y =
     let b = c .before .before .before .before .before .before .before .before in
     let l = c .before .before .before .before .before .loop in
-    walking-end L (b .args .t .now) (b .args .list .now) (b .args .hub) (b .args .side) (b .args .owner) (b .args .marks .now) (l .marks) (l .last) (l .k) (l .inv L y) (b .pre .1 .0) (c .before .before .before .before .loop-test .taken) (c .before .before .if1 .taken) (c .zeros .result) (c .zeros .ensures)
+    walking-end L (b .args .t .now) (b .args .list .now) (b .args .hub) (b .args .side) (b .args .owner) (b .args .marks .now) (l .marks) (l .k) (l .inv L y) (b .pre .1 .0) (c .before .before .before .before .loop-test .taken) (c .before .before .if1 .taken) (c .zeros .result) (c .zeros .ensures)
 
 entry-right-requires : tie.Need-entry-right-requires Inv-loop μ-loop
 entry-right-requires c κs = (c .before .before .before .before .before .before .pre .0, omega arith)
@@ -55,7 +55,7 @@ returns-2 : tie.Need-returns-2 Inv-loop μ-loop
 returns-2 c L y =
     let b = c .before .before .before .before .before .before .before .before in
     let l = c .before .before .before .before .before .loop in
-    walking-miss L (b .args .t .now) (b .args .list .now) (b .args .hub) (b .args .side) (b .args .owner) (b .args .marks .now) (l .marks) (l .last) (l .k) (l .inv L y) (b .pre .1 .0) (c .before .before .before .before .loop-test .taken) (c .before .before .if1 .left) (sym (c .before .entry-right .ensures L y) ∙ not-true _ (c .if2 .taken))
+    walking-miss L (b .args .t .now) (b .args .list .now) (b .args .hub) (b .args .side) (b .args .owner) (b .args .marks .now) (l .marks) (l .k) (l .inv L y) (b .pre .1 .0) (c .before .before .before .before .loop-test .taken) (c .before .before .if1 .left) (sym (c .before .entry-right .ensures L y) ∙ not-true _ (c .if2 .taken))
 
 -- the entry is a task in use
 used : (c : tie.Else2 Inv-loop μ-loop) → getD (c .before .before .before .before .before .before .before .before .args .list .now) (c .before .before .before .before .before .loop .k) 0 ≤ 16
@@ -63,7 +63,7 @@ used c =
     let b = c .before .before .before .before .before .before .before .before in
     let l = c .before .before .before .before .before .loop in
     in-some (b .args .ts) (b .pre .0 .low) (b .pre .0 .high)
-    (λ L y. omega (arith, walking-used L (b .args .t .now) (b .args .list .now) (b .args .hub) (b .args .side) (b .args .owner) (b .args .marks .now) (l .marks) (l .last) (l .k) (l .inv L y) (b .pre .1 .0) (c .before .before .before .before .loop-test .taken) (c .before .before .if1 .left) (sym (c .before .entry-right .ensures L y) ∙ not-false _ (c .if2 .left))))
+    (λ L y. omega (arith, walking-used L (b .args .t .now) (b .args .list .now) (b .args .hub) (b .args .side) (b .args .owner) (b .args .marks .now) (l .marks) (l .k) (l .inv L y) (b .pre .1 .0) (c .before .before .before .before .loop-test .taken) (c .before .before .if1 .left) (sym (c .before .entry-right .ensures L y) ∙ not-false _ (c .if2 .left))))
 
 sub-i : tie.Need-sub-i Inv-loop μ-loop
 sub-i c = search needs
@@ -82,25 +82,13 @@ add-marks c =
     let b = c .before .before .before .before .before .before .before .before .before in
     let l = c .before .before .before .before .before .before .loop in
     in-some (b .args .ts) (b .pre .0 .low) (b .pre .0 .high)
-    (λ L y. omega (arith, walking-low L (b .args .t .now) (b .args .list .now) (b .args .hub) (b .args .side) (b .args .owner) (b .args .marks .now) (l .marks) (l .last) (l .k) (l .inv L y) (b .pre .1 .0) (b .pre .1 .1) (getD (b .args .list .now) (l .k) 0 - 1)))
+    (λ L y. omega (arith, walking-low L (b .args .t .now) (b .args .list .now) (b .args .hub) (b .args .side) (b .args .owner) (b .args .marks .now) (l .marks) (l .k) (l .inv L y) (b .pre .1 .0) (b .pre .1 .1) (getD (b .args .list .now) (l .k) 0 - 1)))
 
 mul-marks-2 : tie.Need-mul-marks-2 Inv-loop μ-loop
 mul-marks-2 c = omega (arith, used (c .before))
 
 element-write-marks : tie.Need-element-write-marks Inv-loop μ-loop
 element-write-marks c = omega (arith, used (c .before))
-
-task-at-requires : tie.Need-task-at-requires Inv-loop μ-loop
-task-at-requires c κs = (c .before .before .before .before .before .before .before .before .before .pre .0 .high, omega (arith, used (c .before)))
-
-add-last : tie.Need-add-last Inv-loop μ-loop
-add-last c = search needs
-
-mul-last : tie.Need-mul-last Inv-loop μ-loop
-mul-last c = search needs
-
-shared-slice-read-last : tie.Need-shared-slice-read-last Inv-loop μ-loop
-shared-slice-read-last c = search needs
 
 add-k : tie.Need-add-k Inv-loop μ-loop
 add-k c = search needs
@@ -110,16 +98,15 @@ loop-less c = search needs
 
 loop-again : tie.Need-loop-again Inv-loop μ-loop
 loop-again c L y =
-    let b = c .before .before .before .before .before .before .before .before .before .before .before in
-    let l = c .before .before .before .before .before .before .before .before .loop in
-    let p = c .before .task-at in
-    walking-hit L (b .args .t .now) (b .args .list .now) (b .args .hub) (b .args .side) (b .args .owner) (b .args .marks .now) (l .marks) (l .last) (l .k) (l .inv L y) (b .pre .1 .0) (c .before .before .before .before .before .before .before .loop-test .taken) (c .before .before .before .before .before .if1 .left) (sym (c .before .before .before .before .entry-right .ensures L y) ∙ not-false _ (c .before .before .before .if2 .left)) y (p .result) (p .ensures .place) (b .pre .1 .1 .long) (b .pre .0 .tasks)
+    let b = c .before .before .before .before .before .before .before .before .before in
+    let l = c .before .before .before .before .before .before .loop in
+    walking-hit L (b .args .t .now) (b .args .list .now) (b .args .hub) (b .args .side) (b .args .owner) (b .args .marks .now) (l .marks) (l .k) (l .inv L y) (b .pre .1 .0) (c .before .before .before .before .before .loop-test .taken) (c .before .before .before .if1 .left) (sym (c .before .before .entry-right .ensures L y) ∙ not-false _ (c .before .if2 .left)) (b .pre .1 .1 .long) (b .pre .0 .tasks)
 
 returns-3 : tie.Need-returns-3 Inv-loop μ-loop
 returns-3 c L y =
     let b = c .before .before .before .before in
     let l = c .before .loop in
-    walking-full L (b .args .t .now) (b .args .list .now) (b .args .hub) (b .args .side) (b .args .owner) (b .args .marks .now) (l .marks) (l .last) (l .k) (l .inv L y) (b .pre .1 .0) (c .loop-test .left)
+    walking-full L (b .args .t .now) (b .args .list .now) (b .args .hub) (b .args .side) (b .args .owner) (b .args .marks .now) (l .marks) (l .k) (l .inv L y) (b .pre .1 .0) (c .loop-test .left)
 
 pub walk-spec : {M : Type 1} → statement M
 walk-spec =
@@ -145,10 +132,6 @@ walk-spec =
     add-marks
     mul-marks-2
     element-write-marks
-    task-at-requires
-    add-last
-    mul-last
-    shared-slice-read-last
     add-k
     loop-less
     loop-again

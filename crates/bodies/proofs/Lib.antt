@@ -1,0 +1,5 @@
+pub mod Blocks
+pub mod Entries
+pub mod Hubs
+pub mod Parts
+pub mod Turns
