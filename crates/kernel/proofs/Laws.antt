@@ -2,34 +2,42 @@
 -- a table, test by test; what an accepted call knows of the table and of its numbers; the reply.
 -- Not here: what each service does (the crates below). Assumes nothing.
 use Prim.Native.Nat.{_<_, _≤_, suc, zero, ℕ}
-use Rattle.kernel.specs.Promise.{CalledIn, ServedIn}
+use Rattle.kernel.specs.Promise.{CalledIn, Judged, ServedIn}
 use Rattle.lists.proofs.Laws.{boolCase}
-use Rattle.moves.specs.Moves.{keyOf}
 use Rattle.messages.specs.Messages.{messages}
+use Rattle.moves.specs.Moves.{keyOf}
 use Rattle.records.specs.Records.{Table, width}
 use Rattle.rules.proofs.Accepted.{caller-ready, on-task, request-tests}
 use Rattle.rules.proofs.After.{accepted, accepted-formed, accepted-long, valid-in, words-in}
+use Rattle.rules.proofs.Ahead.{ahead-other, ahead-reordered, ahead-request}
+use Rattle.rules.proofs.Calm.{calm-number, calm-still}
+use Rattle.rules.proofs.Cases.{sameOr}
 use Rattle.rules.proofs.Changes.{inUse}
+use Rattle.rules.proofs.Inherited.{kept-reordered}
+use Rattle.rules.proofs.Kept.{unsorted-serve, unsorted-sound, valid-unsorted}
 use Rattle.rules.proofs.Layouts.{Laid, store-place}
 use Rattle.rules.proofs.Lengths.{length-serve, tasksAfter}
 use Rattle.rules.proofs.Numbers.{bears-answer, silent-first, silent-past}
-use Rattle.rules.proofs.Valid.{Valid}
-use Rattle.rules.specs.Calls.{AddHub, AddTask, Blank, HubRequest, Resume, Service, Sleep, Start, Stop, Suspend, Tick, Unknown, Yield, serve, served, serviceOf}
+use Rattle.rules.proofs.Valid.{Sound, Valid}
+use Rattle.rules.specs.Calls.{AddHub, AddTask, Blank, HubRequest, Resume, Service, Sleep, Start, Stop, Suspend, Tick, Unknown, Yield, keyAdded, serve, served, serviceOf}
+use Rattle.rules.specs.Effective.{effective}
 use Rattle.rules.specs.HubTable.{message}
 use Rattle.rules.specs.Lists.{next}
 use Rattle.rules.specs.Refusals.{behind, goodMessage, need, refusal, refusalAt, refusalFor, refusalIn}
-use Rattle.rules.specs.Reply.{outcome, outcomeOf, replyBy, replyIn, tableBy, tableIn}
+use Rattle.rules.specs.Reorder.{reordered}
+use Rattle.rules.specs.Reply.{ahead, aheadFor, outcome, outcomeOf, replyBy, replyIn, tableBy, tableIn}
 use Rattle.rules.specs.Table.{Layout, State, read, size, task, words}
-use Rattle.rules.specs.WellFormed.{urgency, wellFormedIn}
+use Rattle.rules.specs.WellFormed.{wellFormedIn}
 use Rattle.rules.specs.declared.Answer.the-variants.{Accepted, Refused}
 use Rattle.rules.specs.declared.Call.{Call}
 use Rattle.rules.specs.declared.Outcome.the-variants.{NothingYet}
 use Rattle.rules.specs.declared.Outcome.{Outcome}
 use Rattle.rules.specs.declared.Served.{Served}
 use borrow.Author.Tests.{eq-eqb, eqb-true, leb-false, leb-true, ne-eqb}
-use lib.Dec.{leb}
-use lib.ListN.{List·getD-eq-default, getD, length}
-use mathlib.Core.Bool.{false, true}
+use lib.Dec.{eqb, leb}
+use lib.ListN.{List·getD-eq-default, getD, length, set}
+use lib.Seq.{getD-set-other, getD-set-same}
+use mathlib.Core.Bool.{_&&_, _||_, false, true}
 use mathlib.Core.List.{List, [], _∷_}
 use mathlib.Core.Path.{_∙_, _≡_, ap, refl, subst, sym}
 use mir.Syntax.{w32}
@@ -55,6 +63,16 @@ module _ (s : State) (c : Call) (v : Service) (e : serviceOf (c .service) ≡ v)
 pub key-is : (ks : List ℕ) (key : ℕ → ℕ) → ((j : ℕ) → getD ks j 0 ≡ key j) → keyOf ks ≡ key
 key-is ks key e = λ i j. e j i
 
+-- the keys with the added task's: its own priority (M-108)
+pub key-added : (ks : List ℕ) (n p : ℕ) (s : State) → n ≡ length (s .tasks) → n < length ks → keyOf (set ks n p) ≡ keyAdded (keyOf ks) p s
+key-added ks n p s e h = λ i j. at j i
+  where
+    at : (j : ℕ) → getD (set ks n p) j 0 ≡ keyAdded (keyOf ks) p s j
+    at j =
+        sameOr j (length (s .tasks))
+        (λ q. rw (eq-eqb j (length (s .tasks)) q) (ap (λ (m : ℕ). getD (set ks n p) m 0) (q ∙ sym e) ∙ getD-set-same ks n p 0 h))
+        (λ q. rw (ne-eqb j (length (s .tasks)) q) (getD-set-other ks n j p 0 (λ z. q (z ∙ e))))
+
 -- ---- the refusal of a table, test by test
 
 module _ (L : Layout) (t : List ℕ) (c : Call) where
@@ -75,6 +93,13 @@ module _ (L : Layout) (t : List ℕ) (c : Call) where
       pub refused-by-service : wellFormedIn L t ≡ true → refusalAt L (read L t) c ≡ refusalIn L t c
       unfolding need refusalIn
       refused-by-service e = rw (eq-eqb (length t) (size L) long, ne-eqb (c .service) 0 n, e) refl
+
+-- a refused call has no keys to tell; an accepted one has
+pub judged-no : (L : Layout) (t : List ℕ) (c : Call) {ks : List ℕ} (r : ℕ) → r ≡ refusalIn L t c → (r ≡ 0 → ⊥) → Judged L t c r ks
+judged-no L t c r e n = record { refusal = e; long = λ z. absurd (n z); keys = λ z m j. absurd (n z) }
+
+pub judged-yes : {L : Layout} {t : List ℕ} {c : Call} {ks : List ℕ} {r : ℕ} → Judged L t c r ks → r ≡ 0 → Judged L t c 0 ks
+judged-yes j z = record { refusal = sym z ∙ j .refusal; long = λ _. j .long z; keys = λ _. j .keys z }
 
 -- ---- what an accepted call knows: the table's size; of any but Blank, that the table holds a valid state
 
@@ -161,8 +186,56 @@ keeps-tasks key s c p q = length-serve key (serviceOf (c .service)) s c ∙ at (
 pub caller-after : (L : Layout) (t : List ℕ) (c : Call) → refusalIn L t c ≡ 0 → 1 ≤ c .service → c .service ≤ 7 → c .caller < length (served (read L t) c .tasks)
 unfolding served
 caller-after L t c a p q =
+    let s = read L t in
     let formed = accepted-formed L t c a (ne-eqb (c .service) 0 (λ z. omega arith)) in
-    rw (keeps-tasks (urgency (read L t)) (read L t) c p q) (caller-in (read L t) (valid-in L t formed) c (accepted L t c a .1) p q)
+    rw (kept-reordered s (serve (effective s) (serviceOf (c .service)) s c) .tasks, keeps-tasks (effective s) s c p q) (caller-in s (valid-in L t formed) c (accepted L t c a .1) p q)
+
+-- ---- a service that is done, before the reordering (M-108)
+
+-- none but Blank has fewer tasks afterwards
+pub tasks-stay : (key : ℕ → ℕ) (s : State) (c : Call) → 1 ≤ c .service → length (s .tasks) ≤ length (serve key (serviceOf (c .service)) s c .tasks)
+unfolding serviceOf tasksAfter
+tasks-stay key s c p = rw (length-serve key (serviceOf (c .service)) s c) (at (c .service) p)
+  where
+    at : (n : ℕ) → 1 ≤ n → length (s .tasks) ≤ tasksAfter (serviceOf n) (length (s .tasks))
+    at zero p = absurd (omega arith)
+    at (suc zero) p = omega arith
+    at (suc (suc zero)) p = omega arith
+    at (suc (suc (suc zero))) p = omega arith
+    at (suc (suc (suc (suc zero)))) p = omega arith
+    at (suc (suc (suc (suc (suc zero))))) p = omega arith
+    at (suc (suc (suc (suc (suc (suc zero)))))) p = omega arith
+    at (suc (suc (suc (suc (suc (suc (suc zero))))))) p = omega arith
+    at (suc (suc (suc (suc (suc (suc (suc (suc zero)))))))) p = omega arith
+    at (suc (suc (suc (suc (suc (suc (suc (suc (suc zero))))))))) p = omega arith
+    at (suc (suc (suc (suc (suc (suc (suc (suc (suc (suc zero)))))))))) p = omega arith
+    at (suc (suc (suc (suc (suc (suc (suc (suc (suc (suc (suc n))))))))))) p = omega arith
+
+module _ (s : State) (g : Valid s) (c : Call) (a : refusal s c ≡ 0) where
+  abbrev done : State
+  done = serve (effective s) (serviceOf (c .service)) s c
+
+  pub sound-after : Sound done
+  unfolding refusal
+  sound-after = unsorted-sound done (unsorted-serve (effective s) (serviceOf (c .service)) s c (valid-unsorted s g) a)
+
+  -- after these five nobody is put in another order
+  pub calm-served : (eqb (c .service) 2 || (leb 4 (c .service) && leb (c .service) 7)) ≡ true → served s c ≡ done
+  unfolding refusal served
+  calm-served e = calm-still (effective s) (serviceOf (c .service)) (calm-number (c .service) e) s g c a
+
+  -- the number ahead is the same before the reordering and after
+  pub ahead-stays : ahead (served s c) c ≡ ahead done c
+  unfolding refusal served serviceOf
+  ahead-stays =
+      sameOr (c .service) 1
+      (λ e. let v = service-is c 1 e in
+      ahead-request (reordered s done) c e
+      ∙ ap (λ (u : Service). aheadFor HubRequest (reordered s (serve (effective s) u s c)) c) v
+      ∙ ahead-reordered s g c (by-service s c HubRequest v a)
+      ∙ ap (λ (u : Service). aheadFor HubRequest (serve (effective s) u s c) c) (sym v)
+      ∙ sym (ahead-request done c e))
+      (λ n. ahead-other (reordered s done) c n ∙ sym (ahead-other done c n))
 
 -- ---- the reply
 

@@ -8,8 +8,8 @@ use rules::Outcome;
 use rules::Reply;
 use rules::Served;
 use rules::Summary;
-ghost use Prim.Native.Nat.{_<_, _≤_, ℕ};
-ghost use Rattle.kernel.specs.Promise.{Accepts, Called, CalledIn, ServedIn};
+ghost use Prim.Native.Nat.{_<_, _≤_};
+ghost use Rattle.kernel.specs.Promise.{Accepts, Called, CalledIn, Judged, ServedIn};
 ghost use Rattle.moves.specs.Moves.{keyOf};
 ghost use Rattle.records.specs.Records.{Table};
 ghost use Rattle.rules.proofs.Layouts.{Laid};
@@ -21,11 +21,13 @@ ghost use Rattle.rules.specs.Table.{Layout, State, read, words};
 ghost use lib.ListN.{getD, length};
 ghost use mathlib.Core.Path.{_≡_};
 
-// "Refusal numbers, tested in this order": 1 and 2 here, then the service's own. 0 is no refusal.
-fn refusal_of(t: &[u32], ts: usize, c: Call) -> u32
+// "Refusal numbers, tested in this order": 1 and 2 here, then the service's own. 0 is no refusal. Of a table that is well formed
+// `keys` then holds each task's effective priority, which the test of order has asked for: the call joins lists by them.
+fn refusal_of(t: &[u32], ts: usize, c: Call, keys: &mut [u32; 16]) -> u32
     requires { ⌜ 8 ≤ ts ⌝ }
     requires { ⌜ ts ≤ 9 ⌝ }
-    ensures { λ r. ⌜ ((L : Layout) → Laid ts L → r ≡ refusalIn L (now (t .entry)) c) ⌝ }
+    requires { ⌜ length (now keys) ≡ 16 ⌝ }
+    ensures { λ r. ⌜ ((L : Layout) → Laid ts L → Judged L (now (t .entry)) c r (now (keys .exit))) ⌝ }
 {
     if t.len() != records::table_size(ts) {
         return rules::WRONG_LENGTH;
@@ -33,7 +35,7 @@ fn refusal_of(t: &[u32], ts: usize, c: Call) -> u32
     if c.service == rules::BLANK {
         return 0;
     }
-    if !wellformed::well_formed(t, ts) {
+    if !wellformed::well_formed_keys(t, ts, keys) {
         return rules::NOT_WELL_FORMED;
     }
     refusals::for_service(t, ts, c)
@@ -74,82 +76,106 @@ fn serve_caller(t: &mut [u32], ts: usize, keys: &[u32], c: Call)
 }
 
 // "side 1 starts it at once": a task is added, and joins by its own priority.
-fn add_started(t: &mut [u32], ts: usize, priority: u32)
+fn add_started(t: &mut [u32], ts: usize, keys: &[u32; 16], priority: u32)
     requires { ⌜ Table ts (now t) ⌝ }
     requires { ⌜ getD (now t) 1 0 < 16 ⌝ }
+    requires { ⌜ length (now keys) ≡ 16 ⌝ }
     ensures { λ _. ⌜ ((L : Layout) (s : State) → Laid ts L → length (s .tasks) < 16 → now (t .entry) ≡ words L s
-        → now (t .exit) ≡ words L (addStarted priority s)) ⌝ }
+        → now (t .exit) ≡ words L (addStarted (keyOf (now (keys .entry))) priority s)) ⌝ }
 {
-    let i = TaskNo(t[records::TASKS] as usize);
+    let n = t[records::TASKS] as usize;
     setup::add_task(t, ts, priority);
-    let keys = setup::keys(&*t, ts);
-    moves::make_ready(t, ts, i, 0, 0);
-    moves::join_ready(t, ts, &keys, i);
+    moves::make_ready(t, ts, TaskNo(n), 0, 0);
+    let mut added = *keys;
+    added[n] = priority;
+    moves::join_ready(t, ts, &added, TaskNo(n));
 }
 
 // "Add task: target is priority, side 1 starts it at once, side 0 doesn't."
-fn serve_add_task(t: &mut [u32], ts: usize, c: Call)
+fn serve_add_task(t: &mut [u32], ts: usize, keys: &[u32; 16], c: Call)
     requires { ⌜ Table ts (now t) ⌝ }
     requires { ⌜ getD (now t) 1 0 < 16 ⌝ }
-    ensures { λ _. ⌜ ((L : Layout) (key : ℕ → ℕ) (s : State) → Laid ts L → length (s .tasks) < 16
-        → now (t .entry) ≡ words L s
-        → now (t .exit) ≡ words L (serve key AddTask s c)) ⌝ }
+    requires { ⌜ length (now keys) ≡ 16 ⌝ }
+    ensures { λ _. ⌜ ((L : Layout) (s : State) → Laid ts L → length (s .tasks) < 16 → now (t .entry) ≡ words L s
+        → now (t .exit) ≡ words L (serve (keyOf (now (keys .entry))) AddTask s c)) ⌝ }
 {
     if c.side == 1 {
-        add_started(t, ts, c.target);
+        add_started(t, ts, keys, c.target);
     } else {
         setup::add_task(t, ts, c.target);
     }
 }
 
-// One accepted call's service, but for a hub request. Blank looks at nothing; any other fixes each task's key before it does anything.
-fn serve_other(t: &mut [u32], ts: usize, c: Call)
+// One accepted call's service, but for Blank and a hub request, by the keys that it is given.
+fn serve_other(t: &mut [u32], ts: usize, keys: &[u32; 16], c: Call)
     requires { ⌜ 8 ≤ ts ⌝ }
     requires { ⌜ ts ≤ 9 ⌝ }
     requires { ⌜ Accepts ts (now t) c ⌝ }
-    requires { ⌜ (c .service ≡ 1 → ⊥) ⌝ }
+    requires { ⌜ 2 ≤ c .service ⌝ }
+    requires { ⌜ length (now keys) ≡ 16 ⌝ }
     ensures { λ _. ⌜ ((L : Layout) → Laid ts L → refusalIn L (now (t .entry)) c ≡ 0
-        → now (t .exit) ≡ words L (served (read L (now (t .entry))) c)) ⌝ }
+        → now (t .exit) ≡ words L (serve (keyOf (now (keys .entry))) (serviceOf (c .service)) (read L (now (t .entry))) c)) ⌝ }
 {
     let service = c.service;
-    if service == rules::BLANK {
-        setup::blank(t, ts);
-        return;
-    }
-    let keys = setup::keys(&*t, ts);
     if service <= rules::RESUME {
-        serve_target(t, ts, &keys, c);
+        serve_target(t, ts, keys, c);
         return;
     }
     if service <= rules::SLEEP {
-        serve_caller(t, ts, &keys, c);
+        serve_caller(t, ts, keys, c);
         return;
     }
     if service == rules::TICK {
-        clock::tick(t, ts, &keys);
+        clock::tick(t, ts, keys);
         return;
     }
     if service == rules::ADD_TASK {
-        serve_add_task(t, ts, c);
+        serve_add_task(t, ts, keys, c);
         return;
     }
     setup::add_hub(t, ts, c.target, c.ticks, c.word);
 }
 
-// One accepted call's service, and what it hands up: only a hub request has any ahead.
-fn serve_call(t: &mut [u32], ts: usize, c: Call) -> Served
+// One accepted call's service, but for Blank, and what it hands up: only a hub request has any ahead.
+fn serve_one(t: &mut [u32], ts: usize, keys: &[u32; 16], c: Call) -> Served
     requires { ⌜ 8 ≤ ts ⌝ }
     requires { ⌜ ts ≤ 9 ⌝ }
     requires { ⌜ Accepts ts (now t) c ⌝ }
+    requires { ⌜ 1 ≤ c .service ⌝ }
+    requires { ⌜ length (now keys) ≡ 16 ⌝ }
     ensures { λ r. ⌜ ((L : Layout) → Laid ts L → refusalIn L (now (t .entry)) c ≡ 0
-        → ServedIn L (served (read L (now (t .entry))) c) c r (now (t .exit))) ⌝ }
+        → ServedIn L (serve (keyOf (now (keys .entry))) (serviceOf (c .service)) (read L (now (t .entry))) c) c r (now (t .exit))) ⌝ }
 {
     if c.service == rules::HUB_REQUEST {
-        let keys = setup::keys(&*t, ts);
-        return requests::request(t, ts, &keys, c);
+        return requests::request(t, ts, keys, c);
     }
-    serve_other(t, ts, c);
+    serve_other(t, ts, keys, c);
     Served { ahead: 0 }
+}
+
+// One accepted call. Blank looks at nothing. Any other is served by the effective priorities before it, and at its end all tasks
+// whose effective priority changed are put in order (M-108); the number ahead is the same before that and after. Start, Suspend,
+// Resume, Yield and Sleep leave who waits for whom as it was, so nobody is asked after them.
+fn serve_call(t: &mut [u32], ts: usize, keys: &[u32; 16], c: Call) -> Served
+    requires { ⌜ 8 ≤ ts ⌝ }
+    requires { ⌜ ts ≤ 9 ⌝ }
+    requires { ⌜ Accepts ts (now t) c ⌝ }
+    requires { ⌜ length (now keys) ≡ 16 ⌝ }
+    ensures { λ r. ⌜ ((L : Layout) → Laid ts L → Judged L (now (t .entry)) c 0 (now (keys .entry))
+        → ServedIn L (served (read L (now (t .entry))) c) c r (now (t .exit))) ⌝ }
+{
+    if c.service == rules::BLANK {
+        setup::blank(t, ts);
+        return Served { ahead: 0 };
+    }
+    let n = t[records::TASKS] as usize;
+    let served = serve_one(t, ts, keys, c);
+    let service = c.service;
+    if (service == rules::START) | ((rules::SUSPEND <= service) & (service <= rules::SLEEP)) {
+        return served;
+    }
+    reorder::reorder(t, ts, keys, n);
+    served
 }
 
 // "For services 1 to 7 the answer is the caller's answer word after the call; for 0, 8, 9 and 10 it is 0."
@@ -180,7 +206,8 @@ fn call_in(t: &mut [u32], ts: usize, c: Call) -> Reply
     requires { ⌜ ts ≤ 9 ⌝ }
     ensures { λ r. ⌜ ((L : Layout) → Laid ts L → CalledIn L (now (t .entry)) c r (now (t .exit))) ⌝ }
 {
-    let refused = refusal_of(&*t, ts, c);
+    let mut keys = [0u32; 16];
+    let refused = refusal_of(&*t, ts, c, &mut keys);
     if refused != 0 {
         return Reply {
             answer: Answer::Refused(refused),
@@ -188,7 +215,7 @@ fn call_in(t: &mut [u32], ts: usize, c: Call) -> Reply
             ahead: 0,
         };
     }
-    let served = serve_call(t, ts, c);
+    let served = serve_call(t, ts, &keys, c);
     Reply {
         answer: Answer::Accepted(outcome_of(&*t, ts, c)),
         next: refusals::running(&*t, ts),

@@ -1,11 +1,10 @@
-// Services 0, 9 and 10 in the words of a table, and the keys that order its lists.
+// Services 0, 9 and 10 in the words of a table.
 // Not here: when these calls are refused, and the start of a task that is added.
-ghost use Prim.Native.Nat.{_<_, _≤_, ℕ};
+ghost use Prim.Native.Nat.{_<_};
 ghost use Rattle.records.specs.Records.{Table};
 ghost use Rattle.rules.proofs.Layouts.{Laid};
 ghost use Rattle.rules.specs.Calls.{addHub, addTask, blank};
 ghost use Rattle.rules.specs.Table.{Layout, State, kindOf, stored, words};
-ghost use Rattle.rules.specs.WellFormed.{urgency};
 ghost use lib.ListN.{getD, length, replicate};
 ghost use mathlib.Core.List.{[]};
 ghost use mathlib.Core.Path.{_≡_};
@@ -91,19 +90,4 @@ pub fn add_hub(t: &mut [u32], ts: usize, kind: u32, limit: u32, start: u32)
         },
     );
     t[records::HUBS] = (n + 1) as u32;
-}
-
-// The key of each task number, by which it joins a list: its own priority; of a number not in use 0.
-pub fn keys(t: &[u32], ts: usize) -> [u32; 16]
-    requires { ⌜ Table ts (now t) ⌝ }
-    ensures { λ r. ⌜ ((L : Layout) (s : State) → Laid ts L → length (s .tasks) ≤ 16 → now (t .entry) ≡ words L s
-        → (j : ℕ) → getD r j 0 ≡ urgency s j) ⌝ }
-{
-    let mut ks = [0u32; 16];
-    let mut i = 0;
-    while i < 16 {
-        ks[i] = t[records::task_at(ts, TaskNo(i)) + records::PRIORITY];
-        i += 1;
-    }
-    ks
 }

@@ -17,7 +17,7 @@ same-length c = search needs
 
 returns : tie.Need-returns
 unfolding serve
-returns c = λ L key s y room e.
+returns c = λ L s y room e.
     c .before .before .add-started .ensures L s y room e ∙ rw (eq-eqb _ 1 (c .before .before .before .before .if1 .taken)) refl
 
 same-length-2 : tie.Need-same-length-2
@@ -25,7 +25,7 @@ same-length-2 c = search needs
 
 returns-2 : tie.Need-returns-2
 unfolding serve
-returns-2 c = λ L key s y room e.
+returns-2 c = λ L s y room e.
     c .before .before .add-task .ensures L s y room e ∙ rw (ne-eqb _ 1 (c .before .before .before .before .if1 .left)) refl
 
 pub serve-add-task-spec : {M : Type 1} → statement M
