@@ -7,7 +7,7 @@ use Rattle.lines.proofs.Decimal.{length-decimal}
 use Rattle.lines.specs.Lines.{all, decimal, joined, numberLimit, numbersOf, printed, readLines, spaced}
 use Rattle.listing.specs.Listing.{HubSetUp, SetUp, blankLine, built, hubLine, hubSetUp, listing, listingIn, newHub, priorityOf, setUp, setUpLines, setUpText, taskLine, textOfLines}
 use Rattle.lists.proofs.Laws.{boolCase}
-use Rattle.rebuilt.proofs.Building.{Steps, add-hubs, add-tasks, moreTasks, steps-append}
+use Rattle.rebuilt.proofs.Building.{Steps, add-hubs, add-tasks, idle-blank, moreTasks, steps-append}
 use Rattle.rebuilt.proofs.Reading.{Eight, good, text-read}
 use Rattle.rebuilt.specs.Rebuilt.{Acceptable, Every, GoodHub, allAccepted, rebuilt, rebuiltUp}
 use Rattle.rules.proofs.After.{read-valid}
@@ -16,8 +16,9 @@ use Rattle.rules.proofs.Kept.{valid-blank}
 use Rattle.rules.proofs.Layouts.{edition-two}
 use Rattle.rules.proofs.Promise.{blank-accepted}
 use Rattle.rules.proofs.States.{one-fitting, read-back, two-fitting}
+use Rattle.rules.proofs.Still.{served-blank}
 use Rattle.rules.proofs.Valid.{Range, Valid}
-use Rattle.rules.specs.Calls.{blank, serve, served, serviceOf}
+use Rattle.rules.specs.Calls.{blank, served, serviceOf}
 use Rattle.rules.specs.Editions.{downRefusal, movedDown, movedUp, upRefusal}
 use Rattle.rules.specs.Lists.{firstFree, next}
 use Rattle.rules.specs.Refusals.{goodHub, refusalOf}
@@ -146,9 +147,9 @@ module _ (u : SetUp) (a : Acceptable u) where
   steps : Steps blank added (built u)
   unfolding blank built
   steps =
-      let first = add-tasks (u .priorities) blank valid-blank refl (rw zero-add (a .tasks)) (a .priorities) in
+      let first = add-tasks (u .priorities) blank valid-blank idle-blank (rw zero-add (a .tasks)) (a .priorities) in
       let s₁ = moreTasks (u .priorities) blank in
-      let then = add-hubs (u .hubs) s₁ (first .valid) refl (rw zero-add (a .hubs)) (a .kinds) in
+      let then = add-hubs (u .hubs) s₁ (first .valid) (first .idle) (rw zero-add (a .hubs)) (a .kinds) in
       steps-append blank s₁ (built u) (map taskLine (u .priorities)) (map hubLine (u .hubs)) first then
 
   long : length zeros ≡ size two
@@ -162,15 +163,22 @@ module _ (u : SetUp) (a : Acceptable u) where
   unfolding numbersOf
   accepts-blank = blank-accepted zeros (callOf (numbersOf blankLine)) (rw edition long) refl
 
+  -- whatever stood there
+  blank-served : served (read two zeros) (callOf (numbersOf blankLine)) ≡ blank
+  unfolding numbersOf serviceOf
+  blank-served = served-blank (read two zeros) (callOf (numbersOf blankLine)) refl
+
+  blank-table : tableAfter zeros (callOf (numbersOf blankLine)) ≡ words two blank
+  unfolding tableBy tableIn
+  blank-table = rw (accepts-blank, edition, blank-served) refl
+
   blanked : tableThrough zeros (map good (blankLine ∷ added)) ≡ tableThrough (words two blank) (map good added)
-  unfolding blank numbersOf serve served serviceOf tableBy tableIn tableThrough
-  blanked =
-      let e : tableAfter zeros (callOf (numbersOf blankLine)) ≡ words two blank = rw (accepts-blank, edition) refl in
-      ap (λ (t : List ℕ). tableThrough t (map good added)) e
+  unfolding tableThrough
+  blanked = ap (λ (t : List ℕ). tableThrough t (map good added)) blank-table
 
   blank-text : textThrough zeros (map good (blankLine ∷ added)) ≡ printed (0 ∷ 0 ∷ 0 ∷ 0 ∷ []) ++ textThrough (words two blank) (map good added)
-  unfolding ahead aheadFor bearsAnswer blank firstFree next numbersOf outcome replyBy replyIn replyText serve served serviceOf tableBy tableIn textThrough
-  blank-text = rw (accepts-blank, edition) refl
+  unfolding ahead aheadFor bearsAnswer blank firstFree next numbersOf outcome replyBy replyIn replyText serviceOf textThrough
+  blank-text = rw (blank-table, accepts-blank, edition, blank-served) refl
 
   pub form-builds : tableThrough zeros (readLines (setUpText u)) ≡ words two (built u)
   unfolding setUpLines setUpText
