@@ -15,7 +15,7 @@
  *   task 4   state       state, suspended, hub, ticks and side     inactive; ready; sleeps, 9 ticks
  *                                                                  left; waits at hub 3 to get, no
  *                                                                  limit; and then , suspended
- *   task 4   priority    priority                                  5
+ *   task 4   priority    priority                                  5; 7, effective 3
  *   task 4   answer      message and answer                        none; OK; failed; timed out;
  *                                                                  met, word 77 high 3
  *   hub 1    kind        kind, limit and start                     Semaphore, limit 5, start 2
@@ -26,6 +26,10 @@
  *
  * A task or a hub that one of the tables doesn't use is there `not in use`; what neither uses has
  * no rows. Every word of a table is covered by one row, so tables without a marked row are equal.
+ * The effective priority (M-108) is said where it isn't the task's own: the smallest among its own
+ * and those of all tasks that wait, directly or through others, for a Resource that it owns.
+ * Texts alone differ, no word of their row, where a word of another row tells: a suspended task's,
+ * who runs; a waiting task's or an owner's, the effective priority; a hub's kind, what it holds.
  * OK is said where the message is 0: a request was met, or a service done; the record doesn't tell
  * which.
  *

@@ -4,8 +4,9 @@
  *   byte for byte, into just enough room, into more, and refused with 8 into less; no byte
  *   besides is written;
  *   what hub_kernel_compare (M-106) says and what is marked agree: the place of every entry lies
- *   in a row that is shown and marked; a marked row has an entry in it, but for the three cases
+ *   in a row that is shown and marked; a marked row has an entry in it, but for the four cases
  *   that `text_alone` names;
+ *   the row of a priority is marked where the effective one differs, which is worked out here;
  *   a marked row's two texts differ, but for what `words_alone` names; an unmarked row's are equal;
  *   refused pairs are refused with the comparison's number.
  *
@@ -47,6 +48,7 @@ typedef struct {
     family family;
     uint64_t number, drawn[EDITIONS][FAMILIES], refusals[14], equal, marked, entries;
     uint64_t by_text; /* marked rows without an entry */
+    uint64_t lent;    /* of them those of a priority whose effective one differs */
 } state;
 
 static void fail(const state *at, const char *what)
@@ -89,6 +91,14 @@ static int row_of(uint32_t edition, uint32_t place)
     if (place < 488)
         return HUB_ROWS + 3 * (int)((place - 232) / 16) + 2;
     return HUB_ROWS + 3 * (int)((place - 488) / 16) + 1;
+}
+
+/* The word at a place. */
+static uint32_t word(const uint8_t *table, uint32_t place)
+{
+    const uint8_t *at = table + 4 * place;
+
+    return at[0] | (uint32_t)at[1] << 8 | (uint32_t)at[2] << 16 | (uint32_t)at[3] << 24;
 }
 
 /* ---- The text, read -------------------------------------------------------- */
@@ -170,11 +180,47 @@ static void read_rows(const state *at, const uint8_t *text, size_t length, row r
     }
 }
 
+/* M-108, the effective priority of each task: the smallest among its own and those of all who wait
+ * for it, directly or through others, of which all pairs are laid out, from the waiting lists. */
+static void effective(uint32_t edition, const uint8_t *table, uint32_t least[16])
+{
+    uint32_t size = edition == 1 ? 8 : 9, hubs = edition == 1 ? 136 : 152, lists = hubs + 80;
+    int waits[16][16] = {{0}}; /* the first waits for the second */
+
+    for (uint32_t hub = 0; hub < 16; hub++)
+        for (uint32_t i = 0; i < 16; i++) {
+            uint32_t kind = word(table, hubs + 4 * hub), owner = word(table, hubs + 4 * hub + 1);
+            uint32_t waiter = word(table, lists + 16 * hub + i);
+            if (kind == 5 && owner != 0 && waiter != 0)
+                waits[waiter - 1][owner - 1] = 1;
+        }
+    for (int via = 0; via < 16; via++)
+        for (int i = 0; i < 16; i++)
+            for (int j = 0; j < 16; j++)
+                waits[i][j] |= waits[i][via] && waits[via][j];
+    for (uint32_t j = 0; j < 16; j++) {
+        least[j] = word(table, 8 + size * j + 2);
+        for (uint32_t i = 0; i < 16; i++)
+            if (waits[i][j] && word(table, 8 + size * i + 2) < least[j])
+                least[j] = word(table, 8 + size * i + 2);
+    }
+}
+
+/* Whether the row is the priority of a task that both tables use, with another effective one. */
+static int lent_apart(const row rows[ROWS], int number, const uint32_t lent[2][16])
+{
+    int task = (number - TASK_ROWS) / 3;
+
+    return number >= TASK_ROWS && number < HUB_ROWS && (number - TASK_ROWS) % 3 == 1 &&
+           !rows[number].in_one_only && lent[0][task] != lent[1][task];
+}
+
 /* A row that is marked though none of its words differs: its texts do, because a word differs
  * elsewhere. The ready list, where a task is suspended in one table alone, which changes who runs;
- * what a hub holds, where it is of another kind in each table; any row of a task or hub that one
- * table doesn't use, whose state or kind is 0 there. */
-static int text_alone(const row rows[ROWS], int number)
+ * a task's priority, where its effective one differs; what a hub holds, where it is of another kind
+ * in each table; any row of a task or hub that one table doesn't use, whose state or kind is 0
+ * there. */
+static int text_alone(const row rows[ROWS], int number, const uint32_t lent[2][16])
 {
     int suspended = 0, subject = number - (number - TASK_ROWS) % 3;
 
@@ -182,6 +228,8 @@ static int text_alone(const row rows[ROWS], int number)
         suspended |= rows[i].entry;
     if (number < TASK_ROWS)
         return number == READY_LIST && suspended;
+    if (lent_apart(rows, number, lent))
+        return 1;
     return rows[subject].entry &&
            (rows[number].in_one_only || (number >= HUB_ROWS && number == subject + 1));
 }
@@ -197,10 +245,16 @@ static int words_alone(const row rows[ROWS], int number)
            kind->right_length > 6 && memcmp(kind->right, "Memory", 6) == 0;
 }
 
-static void check_rows(state *at, row rows[ROWS], const uint32_t *places, uint32_t count)
+static void check_rows(state *at, const pair *of, row rows[ROWS], const uint32_t *places,
+                       uint32_t count)
 {
+    /* the tables' own: a spoiled pair may be one of the other edition, and accepted */
+    uint32_t edition = word(of->first, 0), lent[2][16];
+
+    effective(edition, of->first, lent[0]);
+    effective(edition, of->second, lent[1]);
     for (uint32_t i = 0; i < count; i++) {
-        row *in = &rows[row_of(at->form->edition, places[3 * i])];
+        row *in = &rows[row_of(edition, places[3 * i])];
         if (!in->shown || !in->marked)
             fail(at, "a word differs in a row that isn't marked");
         in->entry = 1;
@@ -215,9 +269,12 @@ static void check_rows(state *at, row rows[ROWS], const uint32_t *places, uint32
             fail(at, "a marked row whose two texts are equal");
         if (!it->marked && !equal)
             fail(at, "a row that isn't marked, and two texts");
-        if (it->marked && !it->entry && !text_alone(rows, i))
+        if (it->marked && !it->entry && !text_alone(rows, i, lent))
             fail(at, "a marked row without a word that differs");
+        if (!it->marked && lent_apart(rows, i, lent))
+            fail(at, "another effective priority in a row that isn't marked");
         at->by_text += it->marked && !it->entry;
+        at->lent += it->marked && !it->entry && lent_apart(rows, i, lent);
     }
 }
 
@@ -279,7 +336,7 @@ static void check_pair(state *at, const pair *of)
     if ((second.marked == 0) != (entries.count == 0))
         fail(at, "no row marked and words that differ, or the other way round");
     read_rows(at, buffer + AROUND, second.length, rows);
-    check_rows(at, rows, places, entries.count);
+    check_rows(at, of, rows, places, entries.count);
     at->equal += entries.count == 0;
     at->marked += second.marked;
     at->entries += entries.count;
@@ -331,15 +388,18 @@ static void next_of_run(state *at)
     second_call(at->run, at->form->words, call);
 }
 
-/* A table, and a call that meets many at once. */
+/* A table, and a call that meets many at once, or after which many have another effective priority. */
 static void draw_met(state *at, uint32_t *first, uint32_t call[CALL_NUMBERS])
 {
-    switch (gen_below(&at->random, 3)) {
+    switch (gen_below(&at->random, 4)) {
     case 0:
         gen_stop(&at->random, at->form->edition, first, call);
         break;
     case 1:
         gen_board(&at->random, at->form->edition, first, call);
+        break;
+    case 2:
+        gen_chain(&at->random, at->form->edition, first, call);
         break;
     default:
         gen_queue(&at->random, at->form->edition, first, call);
@@ -442,9 +502,9 @@ static family drawn_family(state *at)
 static void report(const state *at, uint64_t accepted)
 {
     printf("pairs      %" PRIu64 " accepted, %" PRIu64 " of them equal; %" PRIu64
-           " marked rows, %" PRIu64 " of them by their texts alone; %" PRIu64
-           " words differ, each in a marked row\n",
-           accepted, at->equal, at->marked, at->by_text, at->entries);
+           " marked rows, %" PRIu64 " of them by their texts alone, of these %" PRIu64
+           " by an effective priority; %" PRIu64 " words differ, each in a marked row\n",
+           accepted, at->equal, at->marked, at->by_text, at->lent, at->entries);
     printf("           refused with 1, 2, 8, 13: %" PRIu64 ", %" PRIu64 ", %" PRIu64 ", %" PRIu64
            "\n",
            at->refusals[BAD_LENGTH], at->refusals[NOT_WELL_FORMED], at->refusals[SHORT_BUFFER],
@@ -480,7 +540,8 @@ int main(int count, char **words)
         if (wanted >= 10000 && (at.drawn[0][i] < 50 || at.drawn[1][i] < 50))
             fail(&at, "a family was drawn too seldom");
     if (!at.refusals[BAD_LENGTH] || !at.refusals[NOT_WELL_FORMED] || !at.refusals[SHORT_BUFFER] ||
-        !at.refusals[DIFFERING_EDITIONS] || !at.equal || !at.by_text)
+        !at.refusals[DIFFERING_EDITIONS] || !at.equal || !at.by_text ||
+        !at.lent)
         fail(&at, "a refusal, an equal pair or a row marked by its texts never came up");
     return 0;
 }

@@ -107,9 +107,36 @@ static void tell_state(cell *to, const uint32_t *table, uint32_t task)
         say(to, ", suspended");
 }
 
+/* M-108: a task that waits for a Resource lends its owner its priority, and what others lend it
+ * in turn: lent on, by each task's record, until nothing changes. */
+static uint32_t effective_priority(const uint32_t *table, uint32_t task)
+{
+    uint32_t lent[TASKS], changed = 1;
+
+    for (uint32_t i = 0; i < table[TASKS_IN_USE_AT]; i++)
+        lent[i] = task_field(table, i, T_PRIORITY);
+    while (changed) {
+        changed = 0;
+        for (uint32_t i = 0; i < table[TASKS_IN_USE_AT]; i++) {
+            if (task_field(table, i, T_STATE) != WAITING)
+                continue;
+            uint32_t hub = task_field(table, i, T_HUB) - 1, owner = hub_field(table, hub, H_COUNT);
+            if (hub_field(table, hub, H_KIND) != RESOURCE || owner == 0 || lent[owner - 1] <= lent[i])
+                continue;
+            lent[owner - 1] = lent[i];
+            changed = 1;
+        }
+    }
+    return lent[task];
+}
+
 static void tell_priority(cell *to, const uint32_t *table, uint32_t task)
 {
-    say(to, "%" PRIu32, task_field(table, task, T_PRIORITY));
+    uint32_t own = task_field(table, task, T_PRIORITY), lent = effective_priority(table, task);
+
+    say(to, "%" PRIu32, own);
+    if (lent != own)
+        say(to, ", effective %" PRIu32, lent);
 }
 
 static void tell_answer(cell *to, const uint32_t *table, uint32_t task)

@@ -2,6 +2,7 @@
 -- row, and all rows. The bounds are not the least: they show that the buffer of our own has room for every text.
 -- Assumes nothing.
 use Prim.Native.Nat.{_%_, _*_, _+_, _/_, _<_, _≤_, pred, suc, zero, ℕ}
+use Rattle.hubtexts.specs.Cells.{blockText, blocksFrom, boardText, countText, heldFrom, holdsText, kindText, noneText, wordText, wordsFrom, wordsText}
 use Rattle.lines.proofs.Putting.{short}
 use Rattle.lines.specs.Lines.{decimal}
 use Rattle.lists.proofs.Laws.{boolCase}
@@ -10,19 +11,22 @@ use Rattle.messages.specs.Messages.{messageAt}
 use Rattle.records.specs.Records.{hubAt, hubsAt, readyAt, storeSize, storesAt, taskAt, waitsAt, width}
 use Rattle.records.specs.declared.HubRecord.{HubRecord}
 use Rattle.records.specs.declared.TaskRecord.{TaskRecord}
-use Rattle.rules.specs.Table.{part}
-use Rattle.sidebyside.specs.Rows.{cell, hubRows, lineText, markText, marked, rowNumber, rowText, rows, rowsText, shown, taskRows, title, used, usedText}
-use Rattle.sidebyside.specs.declared.Row.the-variants.{Answer, Contents, Holds, Kind, Priority, ReadyList, State, Waiting}
-use Rattle.sidebyside.specs.declared.Row.{Row}
+use Rattle.rows.specs.Rows.{hubRows, marked, rowNumber, rows, shown, taskRows, used}
+use Rattle.rows.specs.declared.Row.the-variants.{Answer, Contents, Holds, Kind, Priority, ReadyList, State, Waiting}
+use Rattle.rows.specs.declared.Row.{Row}
+use Rattle.rowtexts.specs.RowTexts.{cell, markText, title, usedText}
+use Rattle.rules.specs.Effective.{effective}
+use Rattle.rules.specs.Table.{part, stateOf}
+use Rattle.sidebyside.specs.RowLines.{lineText, rowText, rowsText}
 use Rattle.texts.proofs.Lists.{numbers-end, numbers-next}
-use Rattle.texts.specs.Cells.{answerText, blockText, blocksFrom, boardText, contentsText, countText, entriesFrom, entryText, heldFrom, holdsText, kindText, messageText, noneText, outcomeText, stageText, stateText, taskText, tasksText, ticksText, waitsText, wordText, wordsFrom, wordsText}
+use Rattle.texts.specs.Cells.{answerText, contentsText, entriesFrom, entryText, messageText, outcomeText, priorityText, stageText, stateText, taskText, tasksText, ticksText, waitsText}
 use Rattle.texts.specs.Texts.{bytes}
-use borrow.Author.Tests.{eqb-false, eqb-true, ltb-true}
+use borrow.Author.Tests.{eqb-false, eqb-true}
 use lib.Dec.{eqb, ltb}
 use lib.ListN.{getD, length, length-append}
 use mathlib.Core.Bool.{Bool, cond, false, true}
 use mathlib.Core.List.{List, List·Memᴰ, List·Memᴰ·head, List·Memᴰ·tail, [], _++_, _∷_}
-use mathlib.Core.Path.{_∙_, _≡_, ap, refl, sym}
+use mathlib.Core.Path.{_≡_, ap, refl}
 use native.Mathlib.Omega.{arith}
 
 -- ---- a text of at most n bytes
@@ -142,6 +146,12 @@ state-most x h g =
     (most-more 29 53 _ (omega arith) (most-append 6 23 (bytes "sleeps") _ (lit (bytes "sleeps")) (ticks-most (x .ticks) g))))))
     (most-cond 11 (eqb (x .suspended) 0) _ _ (none 11) (lit (bytes ", suspended")))
 
+priority-most : (own eff : ℕ) → Word own → Word eff → Most 32 (priorityText own eff)
+unfolding priorityText
+priority-most own eff h g =
+    most-append 10 22 _ _ (number-most own h)
+    (most-cond 22 (eqb own eff) _ _ (none 22) (most-append 12 10 (bytes ", effective ") _ (lit (bytes ", effective ")) (number-most eff g)))
+
 answer-most : (x : TaskRecord) → x .word < 18446744073709551616 → Most 42 (answerText x)
 unfolding answerText outcomeText
 answer-most x h =
@@ -193,7 +203,7 @@ unfoldable pub cellMost : Row → ℕ
 cellMost Contents = 55
 cellMost ReadyList = 384
 cellMost (State i) = 64
-cellMost (Priority i) = 10
+cellMost (Priority i) = 32
 cellMost (Answer i) = 42
 cellMost (Kind h) = 45
 cellMost (Holds h) = 224
@@ -210,10 +220,11 @@ ten (Kind h) = omega arith
 ten (Holds h) = omega arith
 ten (Waiting h) = omega arith
 
--- a table of words of 32 bits whose FIFOs hold at most 8 words
+-- a table of words of 32 bits whose FIFOs hold at most 8 words, and whose effective priorities fit a word as well
 pub record Bounded (ts : ℕ) (t : List ℕ) : Type 0 where
   pub low : (k : ℕ) → getD t k 0 < 4294967296
   pub few : (h : ℕ) → used t (Holds h) ≡ true → getD t (hubsAt ts + h * 4) 0 ≡ 4 → getD t (hubsAt ts + h * 4 + 1) 0 ≤ 8
+  pub keys : (i : ℕ) → effective (stateOf t) i < 4294967296
 
 module _ (ts : ℕ) (t : List ℕ) (b : Bounded ts t) (runs : ℕ) where
   used-most : (r : Row) → used t r ≡ true → Most (cellMost r) (usedText ts t runs r)
@@ -222,7 +233,7 @@ module _ (ts : ℕ) (t : List ℕ) (b : Bounded ts t) (runs : ℕ) where
       most-append 45 10 _ _ (most-append 27 18 _ _ (between-most 8 9 (getD t 0 0) (bytes "edition ") (bytes ", tasks: ") (b .low 0) (lit (bytes "edition ")) (lit (bytes ", tasks: "))) (most-append 10 8 _ _ (number-most (getD t 1 0) (b .low 1)) (lit (bytes ", hubs: ")))) (number-most (getD t 2 0) (b .low 2))
   used-most ReadyList i = tasks-most t (b .low) runs (readyAt ts)
   used-most (State n) i = state-most _ (b .low (8 + n * ts + 3)) (b .low (8 + n * ts + 4))
-  used-most (Priority n) i = number-most _ (b .low (8 + n * ts + 2))
+  used-most (Priority n) i = priority-most _ _ (b .low (8 + n * ts + 2)) (b .keys n)
   used-most (Answer n) i = answer-most _ (stored t (b .low) (width ts) (8 + n * ts + 6))
   used-most (Kind h) i = kind-most _ (b .low (hubsAt ts + h * 4 + 2)) (b .low (hubsAt ts + h * 4 + 3))
   used-most (Holds h) i =

@@ -2,40 +2,44 @@
 -- lies in a marked row that is shown; what an unmarked row says, and a marked one; no row is marked exactly if the tables are equal; the
 -- marked rows and M-106's entries; how long the text is at most; a table against itself; the state that the cells speak of.
 -- Not here: that the code does what the definitions say (the functions' proofs). Assumes nothing.
-use Prim.Native.Nat.{_*_, _+_, _-_, _<_, _≤_, suc, zero, ℕ}
+use Prim.Native.Nat.{_*_, _+_, _-_, _<_, _≤_, ℕ}
 use Rattle.differences.proofs.Promise.{OneEdition, differs-listed, listed-differs}
 use Rattle.differences.proofs.Ways.{Formed}
 use Rattle.differences.specs.Differences.{Entry, entries}
 use Rattle.lists.proofs.Laws.{boolCase}
 use Rattle.lists.proofs.Padding.{zero-at}
-use Rattle.lists.specs.Lists.{bit, numbers}
+use Rattle.lists.specs.Lists.{numbers}
 use Rattle.records.specs.Records.{hubAt as hubRecordAt, hubsAt, readyAt, tableSize, taskAt as taskRecordAt, taskSizeOf, waitsAt}
 use Rattle.records.specs.declared.TaskRecord.{TaskRecord}
+use Rattle.rows.proofs.Turns.{row-few}
+use Rattle.rows.proofs.Words.{Differing, marked-by, marked-shown, none-differs, once, row-of-place, self-no-mark, some-differ, some-differs, times, unmarked, unmarked-all}
+use Rattle.rows.specs.Rows.{apart, covers, differs, lies, marked, moreDiffers, rows, shown, used}
+use Rattle.rows.specs.declared.Row.the-variants.{Answer, Contents, Holds, Kind, Priority, ReadyList, State, Waiting}
+use Rattle.rows.specs.declared.Row.{Row}
+use Rattle.rowtexts.proofs.Cells.{Few, Same, cell-same, one-run, part-same}
+use Rattle.rowtexts.proofs.Distinct.{kind-said, kindSaid, never-unused, priority-said, runs-said}
+use Rattle.rowtexts.specs.RowTexts.{cell, usedText}
 use Rattle.rules.proofs.After.{valid-in}
 use Rattle.rules.proofs.Layouts.{Laid, store-place}
-use Rattle.rules.proofs.Reading.{read-hub, read-hubs, read-task}
+use Rattle.rules.proofs.Least.{none-urgent, task-le}
+use Rattle.rules.proofs.Reading.{read-hub, read-hubs, read-task, read-tasks}
 use Rattle.rules.proofs.Valid.{Range}
-use Rattle.rules.specs.Table as RulesTable
 use Rattle.rules.proofs.Written.{written-says}
+use Rattle.rules.specs.Effective.{effective}
 use Rattle.rules.specs.Lists.{firstFree, next}
+use Rattle.rules.specs.Table as RulesTable
 use Rattle.rules.specs.Table.{Hub, NoKind, Task, editionOf, hub, hubAt, kindOf, part, read, stateOf, task, taskSize, tasksAt}
 use Rattle.rules.specs.WellFormed.{unusedZero, valid, wellFormedIn, written, zeroFrom}
-use Rattle.sidebyside.proofs.Cells.{Few, cell-same, one-run, part-same}
-use Rattle.sidebyside.proofs.Distinct.{kind-said, kindSaid, never-unused, runs-said}
 use Rattle.sidebyside.proofs.Lengths.{text-most}
-use Rattle.sidebyside.proofs.Words.{Differing, RowOf, Unmarked, marked-by, marked-shown, none-differs, once, row-of-place, some-differ, some-differs, times, unmarked}
-use Rattle.sidebyside.specs.Rows.{Range as Run, apart, cell, covers, differ, differs, hubRows, lies, marked, markedIn, moreDiffers, rowNumber, rows, shown, taskRows, used, usedText}
 use Rattle.sidebyside.specs.Shows.{isMarked, isShown, marksOf, runsIn, sizeOf, textOf}
-use Rattle.sidebyside.specs.declared.Row.the-variants.{Answer, Contents, Holds, Kind, Priority, ReadyList, State, Waiting}
-use Rattle.sidebyside.specs.declared.Row.{Row}
 use Rattle.texts.specs.Cells.{tasksText}
 use Rattle.wellformed.proofs.Editions.{edition-laid-of}
 use borrow.Author.Tests.{eq-eqb, eqb-false, eqb-true, ltb-false, ltb-true}
 use lib.Dec.{eqb, ltb}
 use lib.ListN.{List·getD-eq-default, getD, length}
 use lib.Seq.{ext-getD}
-use mathlib.Core.Bool.{Bool, and-eq-true-iff, cond, false, false≢true, true}
-use mathlib.Core.List.{List, List·Memᴰ, List·Memᴰ·cases-cons, List·Memᴰ·head, List·Memᴰ·not-nil, List·Memᴰ·tail, [], _∷_}
+use mathlib.Core.Bool.{and-eq-true-iff, false, false≢true, true}
+use mathlib.Core.List.{List, List·Memᴰ, [], _∷_}
 use mathlib.Core.Logic.{_↔_, _⊎_, inl, inr, ⊎-elim}
 use mathlib.Core.Path.{_∙_, _≡_, ap, refl, sym}
 use native.Mathlib.Nat.{add-zero}
@@ -111,44 +115,25 @@ kind-unused t f h few here =
     let place : a + (h * 4 - getD t 2 0 * 4) ≡ hubsAt (sizeOf t) + h * 4 = omega (arith, laid t .size) in
     rw place at (zero-at t a (RulesTable.readyAt L - a) (h * 4 - getD t 2 0 * 4) (omega arith) behind)
 
+-- ---- the effective priorities of a table: of a task not in use 0, and each fits a word
+
+key-unused : (t : List ℕ) (i : ℕ) → getD t 1 0 ≤ i → effective (stateOf t) i ≡ 0
+key-unused t i h = none-urgent (stateOf t) i (omega (arith, read-tasks (editionOf t) t))
+
+key-low : (t : List ℕ) → ((k : ℕ) → getD t k 0 < 4294967296) → (i : ℕ) → effective (stateOf t) i < 4294967296
+unfolding RulesTable.taskAt effective
+key-low t low i =
+    let L = editionOf t in
+    boolCase (ltb i (getD t 1 0))
+    (λ q.
+    let own : task (stateOf t) i .priority ≡ getD t (tasksAt + i * taskSize L + 2) 0 = ap (λ (x : Task). x .priority) (read-task L t i (ltb-true i (getD t 1 0) q)) in
+    omega (arith, task-le 16 (stateOf t) i (task (stateOf t) i .priority), own, low (tasksAt + i * taskSize L + 2)))
+    (λ q. omega (arith, key-unused t i (ltb-false i (getD t 1 0) q)))
+
 -- ---- every place of a table lies in exactly one row
 
 pub place-in-one-row : (t : List ℕ) → Formed t → (p : ℕ) → p < length t → times (sizeOf t) p rows ≡ 1
 place-in-one-row t f p h = once (sizeOf t) (size-low (length t)) (size-high (length t)) p (rw (table-long t f) at h)
-
--- ---- rows none of which is marked
-
-module _ (ts : ℕ) (a b : List ℕ) (ra rb : ℕ) where
-  unmarked-all : (rs : List Row) → markedIn ts a b ra rb rs ≡ 0 → (r : Row) → List·Memᴰ r rs → marked ts a b ra rb r ≡ false
-  unfolding markedIn
-  unmarked-all [] e r m = absurd (List·Memᴰ·not-nil m)
-  unmarked-all (x ∷ rs) e r m =
-      boolCase (marked ts a b ra rb x)
-      (λ q. absurd (let z : bit true + markedIn ts a b ra rb rs ≡ 0 = rw q at e in omega arith))
-      (λ q.
-      let z : bit false + markedIn ts a b ra rb rs ≡ 0 = rw q at e in
-      ⊎-elim (λ s. rw s q) (λ s. unmarked-all rs (omega arith) r s) (List·Memᴰ·cases-cons m))
-
--- ---- a row is about one of 16
-
-lowRows : List Row → Bool
-lowRows [] = true
-lowRows (r ∷ rs) = cond (ltb (rowNumber r) 16) (lowRows rs) false
-
-low-rows : lowRows rows ≡ true
-unfolding hubRows lowRows rows taskRows
-low-rows = refl
-
-low-row : (rs : List Row) → lowRows rs ≡ true → (r : Row) → List·Memᴰ r rs → rowNumber r < 16
-unfolding lowRows
-low-row [] e r m = absurd (List·Memᴰ·not-nil m)
-low-row (x ∷ rs) e r m =
-    boolCase (ltb (rowNumber x) 16)
-    (λ q. ⊎-elim (λ s. rw s (ltb-true (rowNumber x) 16 q)) (λ s. low-row rs (rw q at e) r s) (List·Memᴰ·cases-cons m))
-    (λ q. absurd (false≢true (rw q at e)))
-
-row-few : (r : Row) → List·Memᴰ r rows → rowNumber r < 16
-row-few r m = low-row rows low-rows r m
 
 -- ---- a differing word lies in a marked row that is shown
 
@@ -194,7 +179,7 @@ module _ (a b : List ℕ) (w : OneEdition a b) where
   -- both use it, its words are equal, and what its text says beside them differs
   more-apart : (r : Row) → used a r ≡ true → used b r ≡ true → differs a b (covers (sizeOf a) r) ≡ false → moreDiffers (sizeOf a) a b (runsIn a) (runsIn b) r ≡ true
       → usedText (sizeOf a) a (runsIn a) r ≡ usedText (sizeOf a) b (runsIn b) r → ⊥
-  unfolding covers hubRecordAt moreDiffers next used usedText
+  unfolding Same covers hubRecordAt moreDiffers next taskRecordAt used usedText
   more-apart Contents p q d m e = false≢true m
   more-apart ReadyList p q d m e =
       let l = numbers (part (readyAt (sizeOf a)) 16 a) in
@@ -206,7 +191,11 @@ module _ (a b : List ℕ) (w : OneEdition a b) where
       let same : runsIn a ≡ runsIn b = ra ∙ runs-said (stateOf a) (stateOf b) l said ∙ sym rb in
       false≢true (rw (eq-eqb (runsIn a) (runsIn b) same) at m)
   more-apart (State i) p q d m e = false≢true m
-  more-apart (Priority i) p q d m e = false≢true m
+  more-apart (Priority i) p q d m e =
+      let k = 8 + i * sizeOf a + 2 in
+      let own : getD a k 0 ≡ getD b k 0 = one-run a b k 1 d k (omega arith) (omega arith) in
+      let same = priority-said (getD a k 0) (getD b k 0) (effective (stateOf a) i) (effective (stateOf b) i) own e in
+      false≢true (rw (eq-eqb (effective (stateOf a) i) (effective (stateOf b) i) same) at m)
   more-apart (Answer i) p q d m e = false≢true m
   more-apart (Kind h) p q d m e = false≢true m
   more-apart (Holds h) p q d m e =
@@ -225,7 +214,10 @@ module _ (a b : List ℕ) (w : OneEdition a b) where
   unused-apart Contents l p q m = false≢true m
   unused-apart ReadyList l p q m = false≢true (sym p)
   unused-apart (State i) l p q m = false≢true m
-  unused-apart (Priority i) l p q m = false≢true m
+  unused-apart (Priority i) l p q m =
+      let first = key-unused a i (ltb-false i (getD a 1 0) p) in
+      let second = key-unused b i (ltb-false i (getD b 1 0) q) in
+      false≢true (rw (eq-eqb (effective (stateOf a) i) (effective (stateOf b) i) (first ∙ sym second)) at m)
   unused-apart (Answer i) l p q m = false≢true m
   unused-apart (Kind h) l p q m = false≢true m
   unused-apart (Holds h) l p q m =
@@ -317,8 +309,8 @@ module _ (a b : List ℕ) (w : OneEdition a b) (low-a : (k : ℕ) → getD a k 0
   pub text-short : length (textOf a b) ≤ 65535
   text-short =
       text-most (sizeOf a) a b
-      (record { low = low-a; few = fifo-few a (w .first) })
-      (record { low = low-b; few = rw (← w .same) at (fifo-few b (w .second)) })
+      (record { low = low-a; few = fifo-few a (w .first); keys = key-low a low-a })
+      (record { low = low-b; few = rw (← w .same) at (fifo-few b (w .second)); keys = key-low b low-b })
       (runsIn a) (runsIn b) row-few
 
 -- ---- the cells speak of the state that the table holds: a task's record, a hub's waiting list (of the ready list: `ready-is`)
@@ -349,38 +341,6 @@ module _ (t : List ℕ) where
       rw (read-hub L t h here) (ap (λ (p : ℕ). numbers (part p 16 t)) place)
 
 -- ---- a table against itself
-
-differ-self : (t : List ℕ) (p n : ℕ) → differ t t p n ≡ false
-unfolding differ
-differ-self t p zero = refl
-differ-self t p (suc n) = rw (eq-eqb (getD t p 0) (getD t p 0) refl) (differ-self t (suc p) n)
-
-differs-self : (t : List ℕ) (rs : List Run) → differs t t rs ≡ false
-unfolding differs
-differs-self t [] = refl
-differs-self t (r ∷ rs) = rw (differ-self t (r .from) (r .count)) (differs-self t rs)
-
-more-self : (ts : ℕ) (t : List ℕ) (ra : ℕ) (r : Row) → moreDiffers ts t t ra ra r ≡ false
-unfolding moreDiffers
-more-self ts t ra Contents = refl
-more-self ts t ra ReadyList = rw (eq-eqb ra ra refl) refl
-more-self ts t ra (State i) = refl
-more-self ts t ra (Priority i) = refl
-more-self ts t ra (Answer i) = refl
-more-self ts t ra (Kind h) = refl
-more-self ts t ra (Holds h) = differ-self t (hubsAt ts + h * 4) 1
-more-self ts t ra (Waiting h) = refl
-
-self-unmarked : (ts : ℕ) (t : List ℕ) (ra : ℕ) (r : Row) → marked ts t t ra ra r ≡ false
-unfolding apart marked
-self-unmarked ts t ra r =
-    let same : apart ts t t ra ra r ≡ false = rw (differs-self t (covers ts r)) (more-self ts t ra r) in
-    boolCase (used t r) (λ q. rw q same) (λ q. rw q same)
-
-pub self-no-mark : (ts : ℕ) (t : List ℕ) (ra : ℕ) (rs : List Row) → markedIn ts t t ra ra rs ≡ 0
-unfolding markedIn
-self-no-mark ts t ra [] = refl
-self-no-mark ts t ra (r ∷ rs) = rw (self-unmarked ts t ra r) (omega (arith, self-no-mark ts t ra rs))
 
 -- no row is marked
 pub same-no-mark : (t : List ℕ) → marksOf t t ≡ 0

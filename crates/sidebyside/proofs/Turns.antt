@@ -1,48 +1,15 @@
--- The rows by their numbers, and a turn of the loops that write them and count the marked ones. In order: the rows are those that the
--- definition lists, and each is about one of 16; what is left to write, and to count.
+-- A turn of the loop that writes the rows: what is left to write.
 -- Not here: what a row says. Assumes nothing.
-use Prim.Native.Nat.{_%_, _+_, _-_, _/_, _<_, _≤_, suc, ℕ}
-use Rattle.lists.proofs.Laws.{boolCase}
-use Rattle.lists.specs.Lists.{bit}
+use Prim.Native.Nat.{_+_, _-_, _<_, _≤_, suc, ℕ}
+use Rattle.rows.proofs.Turns.{rows-are}
+use Rattle.rows.specs.Rows.{rowAt, rows}
 use Rattle.rules.specs.Table.{tab}
-use Rattle.sidebyside.specs.Rows.{hubRow, hubRows, marked, markedIn, rowAt, rowNumber, rowText, rows, rowsText, taskRow, taskRows}
-use Rattle.sidebyside.specs.declared.Row.{Row}
-use borrow.Author.Tests.{ltb-false, ltb-true}
-use lib.Dec.{eqb, ltb}
-use mathlib.Core.List.{List, [], _++_, _∷_}
-use mathlib.Core.Path.{_∙_, _≡_, ap, refl, sym}
+use Rattle.sidebyside.specs.RowLines.{rowText, rowsText}
+use mathlib.Core.List.{List, [], _++_}
+use mathlib.Core.Path.{_≡_, ap, refl}
 use native.Mathlib.Nat.{sub-zero}
 use native.Mathlib.Numerals.{add-one}
 use native.Mathlib.Omega.{arith}
-
--- ---- the rows by number
-
-pub rows-are : tab 98 0 rowAt ≡ rows
-unfolding hubRow hubRows rowAt rows tab taskRow taskRows
-rows-are = refl
-
-task-number : (i j : ℕ) → rowNumber (taskRow i j) ≡ i
-unfolding taskRow
-task-number i j = boolCase (eqb j 0) (λ b. rw b refl) (λ b. boolCase (eqb j 1) (λ d. rw (b, d) refl) (λ d. rw (b, d) refl))
-
-hub-number : (h j : ℕ) → rowNumber (hubRow h j) ≡ h
-unfolding hubRow
-hub-number h j = boolCase (eqb j 0) (λ b. rw b refl) (λ b. boolCase (eqb j 1) (λ d. rw (b, d) refl) (λ d. rw (b, d) refl))
-
-pub row-low : (k : ℕ) → k < 98 → rowNumber (rowAt k) < 16
-unfolding rowAt
-row-low k h =
-    boolCase (eqb k 0)
-    (λ b. rw b (omega arith))
-    (λ b.
-    boolCase (ltb k 2)
-    (λ d. rw (b, d) (omega arith))
-    (λ d.
-    boolCase (ltb k 50)
-    (λ e. rw (b, d, e) (omega (arith, task-number ((k - 2) / 3) ((k - 2) % 3), ltb-true k 50 e)))
-    (λ e. rw (b, d, e) (omega (arith, hub-number ((k - 50) / 3) ((k - 50) % 3))))))
-
--- ---- what is left
 
 module _ (ts : ℕ) (a b : List ℕ) (ra rb : ℕ) where
   abbrev pub textLeft : ℕ → List ℕ
@@ -50,12 +17,6 @@ module _ (ts : ℕ) (a b : List ℕ) (ra rb : ℕ) where
 
   abbrev pub textAll : List ℕ
   textAll = rowsText ts a b ra rb rows
-
-  abbrev pub markedLeft : ℕ → ℕ
-  markedLeft k = markedIn ts a b ra rb (tab (98 - k) k rowAt)
-
-  abbrev pub markedAll : ℕ
-  markedAll = markedIn ts a b ra rb rows
 
   pub text-begin : textLeft 0 ≡ textAll
   text-begin = ap (rowsText ts a b ra rb) (rw sub-zero rows-are)
@@ -67,14 +28,3 @@ module _ (ts : ℕ) (a b : List ℕ) (ra rb : ℕ) where
   pub text-end : (k : ℕ) → 98 ≤ k → textLeft k ≡ []
   unfolding rowsText tab
   text-end k h = let e : 98 - k ≡ 0 = omega arith in rw e refl
-
-  pub marked-begin : markedLeft 0 ≡ markedAll
-  marked-begin = ap (markedIn ts a b ra rb) (rw sub-zero rows-are)
-
-  pub marked-turn : (k : ℕ) → k < 98 → markedLeft k ≡ bit (marked ts a b ra rb (rowAt k)) + markedLeft (k + 1)
-  unfolding markedIn tab
-  marked-turn k h = let e : 98 - k ≡ suc (98 - (k + 1)) = omega arith in rw (e, add-one k) refl
-
-  pub marked-end : (k : ℕ) → 98 ≤ k → markedLeft k ≡ 0
-  unfolding markedIn tab
-  marked-end k h = let e : 98 - k ≡ 0 = omega arith in rw e refl

@@ -1,16 +1,19 @@
--- The ways out of `show`. In order: the tables' own refusals, and what two tables that pass them know; who runs in one of them; the
--- reply and the buffer of each way out.
+-- The ways out of `show`. In order: the tables' own refusals, and what two tables that pass them know; who runs in one of them, and its
+-- keys; the reply and the buffer of each way out.
 -- Not here: what the rows say. Assumes nothing.
 use Prim.Native.Nat.{_+_, _<_, _≤_, ℕ}
 use Rattle.differences.proofs.Promise.{OneEdition}
 use Rattle.differences.proofs.Ways.{Formed, edition-long, edition-same, table-passed, table-refused, table-to}
 use Rattle.differences.specs.Differences.{tableRefusal}
 use Rattle.lists.proofs.Laws.{boolCase}
-use Rattle.records.specs.Records.{taskSizeOf}
+use Rattle.records.specs.Records.{Table, taskSizeOf}
+use Rattle.rows.specs.Rows.{KeysOf}
 use Rattle.rules.proofs.After.{valid-in, words-in}
-use Rattle.rules.proofs.Layouts.{Laid}
+use Rattle.rules.proofs.Layouts.{Laid, store-place}
+use Rattle.rules.proofs.Meaning.{valid-sound}
 use Rattle.rules.proofs.Room.{valid-room}
-use Rattle.rules.proofs.Valid.{Listed, Room}
+use Rattle.rules.proofs.Valid.{Listed, Room, Sound}
+use Rattle.rules.specs.Effective.{effective}
 use Rattle.rules.specs.Lists.{next}
 use Rattle.rules.specs.Refusals.{need}
 use Rattle.rules.specs.Table.{Layout, State, editionOf, stateOf, words}
@@ -71,6 +74,20 @@ runs-is t f low {ts} {r} size found =
     let y = edition-laid-of t ts size in
     let v = valid-in (editionOf t) t (f .formed) in
     found (editionOf t) (stateOf t) y (valid-room (stateOf t) v) (v .listed) (words-in (editionOf t) t (f .formed) y low)
+
+-- ---- its keys
+
+-- a table that passes has the room that the code asks for
+pub table-is : (t : List ℕ) → Formed t → {ts : ℕ} → ts ≡ taskSizeOf (length t) → 8 ≤ ts → ts ≤ 9 → Table ts t
+table-is t f {ts} size low high = record { low = low; high = high; long = f .long ∙ sym (store-place (edition-laid-of t ts size) 16) }
+
+-- what the code finds are the effective priorities of the table's state
+pub keys-are : (t : List ℕ) → Formed t → ((k : ℕ) → getD t k 0 < 4294967296) → {ts : ℕ} {keys : List ℕ} → ts ≡ taskSizeOf (length t)
+    → ((L : Layout) (s : State) → Laid ts L → Sound s → t ≡ words L s → (j : ℕ) → getD keys j 0 ≡ effective s j) → KeysOf t keys
+keys-are t f low {ts} {keys} size found =
+    let y = edition-laid-of t ts size in
+    let v = valid-in (editionOf t) t (f .formed) in
+    record { key = found (editionOf t) (stateOf t) y (valid-sound (stateOf t) v) (words-in (editionOf t) t (f .formed) y low) }
 
 -- ---- the reply and the buffer
 

@@ -1,14 +1,15 @@
 -- What is given back for two tables, and what the buffer holds afterwards. In order: the refusals; the rows of two tables; the reply
 -- and every byte.
--- Not here: the rows themselves (Rows.antt), and what is proved of them (proofs/Promise).
+-- Not here: the rows themselves (crate rows), their lines (RowLines.antt), and what is proved of them (proofs/Promise).
 use Prim.Native.Nat.{ℕ}
 use Rattle.differences.specs.Differences.{tableRefusal}
 use Rattle.records.specs.Records.{taskSizeOf}
+use Rattle.rows.specs.Rows.{marked, markedIn, rows, shown}
+use Rattle.rows.specs.declared.Row.{Row}
 use Rattle.rules.specs.Lists.{next}
 use Rattle.rules.specs.Refusals.{need}
 use Rattle.rules.specs.Table.{editionOf, stateOf}
-use Rattle.sidebyside.specs.Rows.{cell, marked, markedIn, rows, rowsText, shown}
-use Rattle.sidebyside.specs.declared.Row.{Row}
+use Rattle.sidebyside.specs.RowLines.{rowsText}
 use Rattle.sidebyside.specs.declared.Shown.{Shown}
 use lib.Dec.{eqb, leb}
 use lib.ListN.{drop, length}

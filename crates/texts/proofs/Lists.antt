@@ -1,20 +1,18 @@
--- A list in words, entry by entry, and its text. In order: the numbers of a list from a word on; the tasks of a list from entry k on;
--- the words of a FIFO from word k on; the blocks of a Memory hub from block b on.
+-- A list in words, entry by entry, and its text. In order: the numbers of a list from a word on; the tasks of a list from entry k on.
 -- Not here: how a text is put (Putting.antt). Assumes nothing.
 use Prim.Native.Nat.{_+_, _-_, _<_, _≤_, pred, suc, zero, ℕ}
 use Rattle.lists.proofs.Laws.{boolCase}
 use Rattle.lists.specs.Lists.{numbers}
-use Rattle.messages.specs.Messages.{messageAt}
 use Rattle.rules.specs.Table.{part}
-use Rattle.texts.specs.Cells.{blockText, blocksFrom, blocksText, entriesFrom, entryText, heldFrom, noneText, tasksText, wordText, wordsFrom, wordsText}
+use Rattle.texts.specs.Cells.{entriesFrom, entryText, tasksText}
 use Rattle.texts.specs.Texts.{bytes}
 use borrow.Author.Tests.{eq-eqb, ltb-false, ltb-true, ne-eqb}
 use lib.Dec.{ltb}
-use lib.ListN.{List·getD-eq-default, drop, drop-of-length-le, getD, length, take}
+use lib.ListN.{List·getD-eq-default, drop-of-length-le, getD, length, take}
 use lib.Seq.{drop-cons, take-nil}
-use mathlib.Core.List.{List, [], _++_, _∷_, append-nil}
-use mathlib.Core.Path.{_∙_, _≡_, ap, refl, sym}
-use native.Mathlib.Nat.{add-zero, sub-zero}
+use mathlib.Core.List.{List, [], _++_, _∷_}
+use mathlib.Core.Path.{_∙_, _≡_, ap, refl}
+use native.Mathlib.Nat.{add-zero}
 use native.Mathlib.Numerals.{add-one}
 use native.Mathlib.Omega.{arith}
 
@@ -70,52 +68,3 @@ module _ (t : List ℕ) (from runs : ℕ) where
   pub tasks-end : (k : ℕ) → 16 ≤ k → tasksLeft k ≡ []
   unfolding entriesFrom numbers
   tasks-end k h = let n : 16 - k ≡ 0 = omega arith in rw n refl
-
--- ---- the words of a FIFO: n messages of w words each, the first at word `from`
-
-module _ (w : ℕ) (t : List ℕ) (from n : ℕ) where
-  abbrev pub wordsLeft : ℕ → ℕ → List ℕ
-  wordsLeft p k = wordsFrom k (heldFrom w t p (n - k))
-
-  abbrev pub wordsAll : List ℕ
-  wordsAll = wordsText (heldFrom w t from n)
-
-  pub words-empty : n ≡ 0 → bytes "empty" ≡ wordsAll
-  unfolding heldFrom wordsText
-  words-empty e = rw e refl
-
-  pub words-begin : (n ≡ 0 → ⊥) → wordsLeft from 0 ≡ wordsAll
-  unfolding heldFrom wordsText
-  words-begin d = let e : n ≡ suc (pred n) = omega arith in rw (sub-zero, e) refl
-
-  pub words-turn : (p k : ℕ) → k < n → wordsLeft p k ≡ wordText k (messageAt w t p) ++ wordsLeft (p + w) (k + 1)
-  unfolding heldFrom wordsFrom
-  words-turn p k h =
-      let e : n - k ≡ suc (n - (k + 1)) = omega arith in
-      rw (e, add-one k) refl
-
-  pub words-end : (p k : ℕ) → n ≤ k → wordsLeft p k ≡ []
-  unfolding heldFrom wordsFrom
-  words-end p k h = let e : n - k ≡ 0 = omega arith in rw e refl
-
--- ---- the blocks of a Memory hub that are out, by eight marks, the first at word `from`; k were named before block b
-
-module _ (w : ℕ) (t : List ℕ) (from : ℕ) where
-  abbrev pub blocksLeft : ℕ → ℕ → ℕ → List ℕ
-  blocksLeft p k b = blocksFrom k b (heldFrom w t p (8 - b))
-
-  pub blocks-out : (p k b : ℕ) → b < 8 → (messageAt w t p ≡ 0 → ⊥) → blocksLeft p k b ≡ blockText k b ++ blocksLeft (p + w) (k + 1) (b + 1)
-  unfolding blocksFrom heldFrom
-  blocks-out p k b h d =
-      let e : 8 - b ≡ suc (8 - (b + 1)) = omega arith in
-      rw (e, ne-eqb (messageAt w t p) 0 d, add-one k, add-one b) refl
-
-  pub blocks-in : (p k b : ℕ) → b < 8 → messageAt w t p ≡ 0 → blocksLeft p k b ≡ blocksLeft (p + w) k (b + 1)
-  unfolding blocksFrom heldFrom
-  blocks-in p k b h d =
-      let e : 8 - b ≡ suc (8 - (b + 1)) = omega arith in
-      rw (e, eq-eqb (messageAt w t p) 0 d, add-one b) refl
-
-  pub blocks-end : (p k b : ℕ) → 8 ≤ b → blocksLeft p k b ≡ noneText k ++ []
-  unfolding blocksFrom heldFrom
-  blocks-end p k b h = let e : 8 - b ≡ 0 = omega arith in rw (e, append-nil) refl

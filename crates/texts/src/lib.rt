@@ -1,16 +1,16 @@
-// The words that people read about a table: what a cell of the comparison says of a task, a hub, a list and a store. Each function
+// The words that people read about a table: what a cell of the comparison says of a task, a list and the contents. Each function
 // writes its text into a lent buffer at `at` and answers the place behind it. What has no room is left out, and the place stays at
 // the buffer's end: so no function asks for room, and whether all of a text is there is seen from the last place.
-// Not here: which cells there are, in which order, and which are marked (crate sidebyside).
+// Not here: what a cell says of a hub (crate hubtexts); which cells there are, in which order, and which are marked (crate
+// sidebyside).
 ghost use Prim.Native.Nat.{_≤_, pred};
 ghost use Rattle.lines.specs.Lines.{decimal};
 ghost use Rattle.lists.specs.Lists.{numbers};
 ghost use Rattle.rules.specs.Table.{part};
-ghost use Rattle.texts.specs.Cells.{answerText, blockText, blocksText, boardText, contentsText, countText, entryText, heldFrom, holdsText, kindText, messageText, noneText, outcomeText, stageText, stateText, taskText, tasksText, ticksText, waitsText, wordText, wordsText};
+ghost use Rattle.texts.specs.Cells.{answerText, contentsText, entryText, messageText, outcomeText, priorityText, stageText, stateText, taskText, tasksText, ticksText, waitsText};
 ghost use Rattle.texts.specs.Texts.{Put};
 ghost use mathlib.Core.List.{[], _++_, _∷_};
 ghost use mathlib.Core.Path.{_≡_};
-use records::HubRecord;
 use records::TaskRecord;
 
 // The room that a number of 32 bits and a newline take.
@@ -64,7 +64,7 @@ pub fn put_between(out: &mut [u8], at: usize, before: &[u8], n: u32, after: &[u8
 }
 
 // The number that an entry of a list names, or a task's hub word: it stands there plus 1.
-fn named(entry: u32) -> u32
+pub fn named(entry: u32) -> u32
     ensures { λ r. ⌜ r ≡ pred entry ⌝ }
 {
     if entry == 0 { 0 } else { entry - 1 }
@@ -122,8 +122,20 @@ pub fn put_state(out: &mut [u8], at: usize, x: TaskRecord) -> usize
     put_bytes(out, a, b", suspended")
 }
 
+// The priority of a task: its own, and its effective priority where that is another.
+pub fn put_priority(out: &mut [u8], at: usize, own: u32, effective: u32) -> usize
+    ensures { λ r. ⌜ Put (now (out .entry)) at (priorityText own effective) r (now (out .exit)) ⌝ }
+{
+    let a = put_number(out, at, own);
+    if own == effective {
+        return a;
+    }
+    let b = put_bytes(out, a, b", effective ");
+    put_number(out, b, effective)
+}
+
 // A message: its low word, and its high word where that isn't 0.
-fn put_message(out: &mut [u8], at: usize, m: u64) -> usize
+pub fn put_message(out: &mut [u8], at: usize, m: u64) -> usize
     ensures { λ r. ⌜ Put (now (out .entry)) at (messageText m) r (now (out .exit)) ⌝ }
 {
     let low = (m % WORDS) as u32;
@@ -164,159 +176,6 @@ pub fn put_answer(out: &mut [u8], at: usize, x: TaskRecord) -> usize
     }
     let b = put_bytes(out, a, b", word ");
     put_message(out, b, x.word)
-}
-
-// The kind of a hub, with its limit and start where a kind leaves them open.
-pub fn put_kind(out: &mut [u8], at: usize, x: HubRecord) -> usize
-    ensures { λ r. ⌜ Put (now (out .entry)) at (kindText x) r (now (out .exit)) ⌝ }
-{
-    if x.kind == rules::EVENT {
-        return put_bytes(out, at, b"Event");
-    }
-    if x.kind == rules::SEMAPHORE {
-        let a = put_between(out, at, b"Semaphore, limit ", x.limit, b", start ");
-        return put_number(out, a, x.start);
-    }
-    if x.kind == rules::PORT {
-        return put_bytes(out, at, b"Port");
-    }
-    if x.kind == rules::FIFO {
-        return put_between(out, at, b"FIFO, limit ", x.limit, b"");
-    }
-    if x.kind == rules::RESOURCE {
-        return put_bytes(out, at, b"Resource");
-    }
-    if x.kind == rules::BOARD {
-        return put_bytes(out, at, b"Board");
-    }
-    put_between(out, at, b"Memory, limit ", x.limit, b"")
-}
-
-// The k-th word of a FIFO, from 0.
-fn put_word(out: &mut [u8], at: usize, k: u32, m: u64) -> usize
-    ensures { λ r. ⌜ Put (now (out .entry)) at (wordText k m) r (now (out .exit)) ⌝ }
-{
-    if k == 0 {
-        return put_message(out, at, m);
-    }
-    let a = put_bytes(out, at, b", ");
-    put_message(out, a, m)
-}
-
-// The words of a FIFO: `count` messages of w words each, the first at word `from`.
-fn put_words(out: &mut [u8], at: usize, t: &[u32], from: usize, w: usize, count: u32) -> usize
-    requires { ⌜ from ≤ 65535 ⌝ }
-    requires { ⌜ w ≤ 2 ⌝ }
-    ensures { λ r. ⌜ Put (now (out .entry)) at (wordsText (heldFrom w (now (t .entry)) from count)) r (now (out .exit)) ⌝ }
-{
-    if count == 0 {
-        return put_bytes(out, at, b"empty");
-    }
-    let mut end = at;
-    let mut p = from;
-    let mut k = 0;
-    while k < count {
-        let m = messages::message(t, p, w);
-        end = put_word(out, end, k, m);
-        p += w;
-        k += 1;
-    }
-    end
-}
-
-// What a hub holds; its store starts at word `from`, in messages of w words each.
-pub fn put_holds(out: &mut [u8], at: usize, t: &[u32], from: usize, w: usize, x: HubRecord) -> usize
-    requires { ⌜ from ≤ 65535 ⌝ }
-    requires { ⌜ w ≤ 2 ⌝ }
-    ensures { λ r. ⌜ Put (now (out .entry)) at (holdsText w (now (t .entry)) from x) r (now (out .exit)) ⌝ }
-{
-    if x.kind == rules::FIFO {
-        return put_words(out, at, t, from, w, x.count);
-    }
-    if x.kind == rules::BOARD {
-        return put_board(out, at, t, from, w, x.count);
-    }
-    if x.kind == rules::MEMORY {
-        return put_blocks(out, at, t, from, w);
-    }
-    put_count(out, at, x)
-}
-
-// Block b of a Memory hub; k were named before.
-fn put_block(out: &mut [u8], at: usize, k: u32, b: u32) -> usize
-    ensures { λ r. ⌜ Put (now (out .entry)) at (blockText k b) r (now (out .exit)) ⌝ }
-{
-    if k == 0 {
-        return put_between(out, at, b"blocks out: ", b, b"");
-    }
-    put_between(out, at, b", ", b, b"")
-}
-
-// Behind the last block: that none is out, where none was named.
-fn put_none(out: &mut [u8], at: usize, k: u32) -> usize
-    ensures { λ r. ⌜ Put (now (out .entry)) at (noneText k) r (now (out .exit)) ⌝ }
-{
-    if k == 0 {
-        return put_bytes(out, at, b"no block out");
-    }
-    at
-}
-
-// The blocks of a Memory hub that are out, by its eight marks, messages of w words each, the first at word `from`.
-fn put_blocks(out: &mut [u8], at: usize, t: &[u32], from: usize, w: usize) -> usize
-    requires { ⌜ from ≤ 65535 ⌝ }
-    requires { ⌜ w ≤ 2 ⌝ }
-    ensures { λ r. ⌜ Put (now (out .entry)) at (blocksText w (now (t .entry)) from) r (now (out .exit)) ⌝ }
-{
-    let mut end = at;
-    let mut p = from;
-    let mut k = 0;
-    let mut b = 0;
-    while b < rules::MOST_HELD {
-        let m = messages::message(t, p, w);
-        if m != 0 {
-            end = put_block(out, end, k, b);
-            k += 1;
-        }
-        p += w;
-        b += 1;
-    }
-    put_none(out, end, k)
-}
-
-// What a Board holds.
-fn put_board(out: &mut [u8], at: usize, t: &[u32], from: usize, w: usize, count: u32) -> usize
-    requires { ⌜ from ≤ 65535 ⌝ }
-    ensures { λ r. ⌜ Put (now (out .entry)) at (boardText w (now (t .entry)) from count) r (now (out .exit)) ⌝ }
-{
-    if count == 0 {
-        return put_bytes(out, at, b"not written");
-    }
-    let a = put_bytes(out, at, b"written: ");
-    let m = messages::message(t, from, w);
-    put_message(out, a, m)
-}
-
-// What a hub holds whose count says all.
-fn put_count(out: &mut [u8], at: usize, x: HubRecord) -> usize
-    ensures { λ r. ⌜ Put (now (out .entry)) at (countText x) r (now (out .exit)) ⌝ }
-{
-    if x.kind == rules::EVENT {
-        if x.count == 0 {
-            return put_bytes(out, at, b"not set");
-        }
-        return put_bytes(out, at, b"set");
-    }
-    if x.kind == rules::SEMAPHORE {
-        return put_between(out, at, b"count ", x.count, b"");
-    }
-    if x.kind == rules::RESOURCE {
-        if x.count == 0 {
-            return put_bytes(out, at, b"free");
-        }
-        return put_between(out, at, b"owner: task ", named(x.count), b"");
-    }
-    put_bytes(out, at, b"nothing")
 }
 
 // The k-th task of a list, from 0.

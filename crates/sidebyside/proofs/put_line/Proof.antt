@@ -1,7 +1,7 @@
 -- `sidebyside::put_line` meets its contract: six texts, one behind the other. Assumes nothing.
 use Rattle.sidebyside.proofs.put_line.Statement.{statement}
 use Rattle.sidebyside.proofs.put_line.Tie as tie
-use Rattle.sidebyside.specs.Rows.{lineText, marked}
+use Rattle.sidebyside.specs.RowLines.{lineText}
 use Rattle.texts.proofs.Putting.{put-append}
 use borrow.Author.Needs.{needs}
 
@@ -15,13 +15,13 @@ put-title-requires : tie.Need-put-title-requires
 put-title-requires c κs = search needs
 
 put-cell-requires : tie.Need-put-cell-requires
-put-cell-requires c κs = search needs
+put-cell-requires c κs = let pre = c .before .before .before .before .before .before .before .before .before .before .before .before .before .before .before .pre in (pre .0, (pre .1 .0, (pre .1 .1 .0, pre .1 .1 .1 .0)))
 
 put-byte-requires : tie.Need-put-byte-requires
 put-byte-requires c κs = search needs
 
 put-cell-requires-2 : tie.Need-put-cell-requires-2
-put-cell-requires-2 c κs = search needs
+put-cell-requires-2 c κs = let pre = c .before .before .before .before .before .before .before .before .before .before .before .before .before .before .before .before .before .before .before .before .before .before .before .pre in (pre .0, (pre .1 .0, (pre .1 .1 .0, pre .1 .1 .1 .1)))
 
 put-byte-requires-2 : tie.Need-put-byte-requires-2
 put-byte-requires-2 c κs = search needs

@@ -1,7 +1,7 @@
 -- `sidebyside::put_row` meets its contract: shown, or not. Assumes nothing.
 use Rattle.sidebyside.proofs.put_row.Statement.{statement}
 use Rattle.sidebyside.proofs.put_row.Tie as tie
-use Rattle.sidebyside.specs.Rows.{rowText, shown}
+use Rattle.sidebyside.specs.RowLines.{rowText}
 use Rattle.texts.proofs.Putting.{put-nothing}
 use borrow.Author.Needs.{needs}
 use mathlib.Core.Path.{_∙_, sym}
