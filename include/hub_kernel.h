@@ -251,8 +251,8 @@
  * share no byte with the table, of a move's `from` and `to`, of which `to` may be written and
  * shares no byte with `from`, and of a comparison's two tables and its `places`, `words` words
  * that may be written, are aligned, and share no byte with a table (not NULL either, not even
- * for 0 words). About 4 kB of stack are used, by a move or a comparison about
- * 6 kB.
+ * for 0 words). Up to 7 kB of stack are used, by a move or a comparison up to 10 kB (most where
+ * sixteen tasks wait for each other: who waits for whom is followed task by task).
  */
 #ifndef HUB_KERNEL_H
 #define HUB_KERNEL_H
