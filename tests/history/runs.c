@@ -1,5 +1,5 @@
 /* Fourteen runs of the second program's generator, and what its ledger says of them:
- * `runs` writes crates/history/proofs/Generated.antt, in the layout of `rt fmt`,
+ * `runs` writes crates/runs/proofs/Generated.antt, in the layout of `rt fmt`,
  * to standard output and the figures to standard error.
  *
  * Each value in the file is the second program's: the calls from gen.c, replies
@@ -367,9 +367,9 @@ static const char head[] =
     "-- Every number here is the second program's: tests/history/runs.c writes the file, tests/history/run compares it.\n"
     "-- `Seen` shows the requests at all hubs, and of hub 0 the words met, the count and the words held. The last two runs move.\n"
     "-- In order: the runs, each with its proof, so that a run that disagrees is named; all of them, and `agree`.\n"
     "use Rattle.history.specs.History.{Step, down, failed, met, timedOut, up, waiting, withdrawn}\n"
     "use Rattle.history.specs.Statements.{Each}\n"
-    "use Rattle.history.specs.Worked.{Seen, call, row, shows}\n"
+    "use Rattle.runs.specs.Worked.{Seen, call, row, shows}\n"
     "use mathlib.Core.List.{List, [], _∷_}\n"
     "use mathlib.Core.Path.{_≡_, refl}\n"
     "\n"

@@ -8,7 +8,6 @@ pub mod Bound
 pub mod Classes
 pub mod Fates
 pub mod Following
-pub mod Generated
 pub mod Made
 pub mod Meetings
 pub mod Opened

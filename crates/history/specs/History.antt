@@ -1,7 +1,7 @@
 -- A run, and what became of each accepted hub request in it, read from the calls and the tables around them: definitions.
 -- In order: the classes; a request, and a request read again; the run so far, step by step; what is counted of it; what stands on
 -- a Board.
--- Not here: what is promised of a run (Statements.antt), a run worked out (Worked.antt).
+-- Not here: what is promised of a run (Statements.antt), runs worked out (crate runs).
 use Prim.Native.Nat.{suc, zero, ℕ}
 use Rattle.rules.specs.Calls.{AddHub, AddTask, Blank, HubRequest, Resume, Service, Sleep, Start, Stop, Suspend, Tick, Unknown, Yield, kept, serviceOf}
 use Rattle.rules.specs.Editions.{downRefusal, movedDown, movedUp, upRefusal}

@@ -2,9 +2,9 @@
 -- Every number here is the second program's: tests/history/runs.c writes the file, tests/history/run compares it.
 -- `Seen` shows the requests at all hubs, and of hub 0 the words met, the count and the words held. The last two runs move.
 -- In order: the runs, each with its proof, so that a run that disagrees is named; all of them, and `agree`.
 use Rattle.history.specs.History.{Step, down, failed, met, timedOut, up, waiting, withdrawn}
 use Rattle.history.specs.Statements.{Each}
-use Rattle.history.specs.Worked.{Seen, call, row, shows}
+use Rattle.runs.specs.Worked.{Seen, call, row, shows}
 use mathlib.Core.List.{List, [], _∷_}
 use mathlib.Core.Path.{_≡_, refl}
 
