@@ -8,8 +8,9 @@ use Rattle.lists.proofs.Counting.{occ-here}
 use Rattle.lists.proofs.Laws.{without-none}
 use Rattle.lists.specs.Lists.{entries, occ, without}
 use Rattle.moves.proofs.Laws.{waiter-in}
-use Rattle.requests.proofs.Laws.{held, range}
-use Rattle.requests.specs.Requests.{StoreFits, meetOne, meetings}
+use Rattle.verdicts.proofs.Laws.{held, range}
+use Rattle.requests.specs.Requests.{meetOne, meetings}
+use Rattle.stores.specs.Fits.{StoreFits}
 use Rattle.rules.proofs.Changes.{hub-set-keeps}
 use Rattle.rules.proofs.Hubs.{hubs-wake}
 use Rattle.rules.proofs.Listed.{listed-wake}

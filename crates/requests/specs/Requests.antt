@@ -1,25 +1,13 @@
--- When a store of 8 messages can take what a verdict does to what it holds. And the meetings of a whole list; and what a request
--- leaves.
-use Prim.Native.Nat.{_<_, _≤_, ℕ}
-use Rattle.hubtable.specs.declared.Store.the-variants.{Append, Back, Keep, Out, Take, TakeAppend}
-use Rattle.hubtable.specs.declared.Store.{Store}
+-- The meetings of a whole list; and what a request leaves.
+use Prim.Native.Nat.{ℕ}
 use Rattle.rules.specs.Calls.{HubRequest}
 use Rattle.rules.specs.HubTable.{Meeting}
 use Rattle.rules.specs.Lists.{wake}
 use Rattle.rules.specs.Reply.{aheadFor}
 use Rattle.rules.specs.Table.{Layout, State, words}
 use Rattle.rules.specs.declared.Call.{Call}
-use lib.ListN.{length}
 use mathlib.Core.List.{List, [], _∷_}
 use mathlib.Core.Path.{_≡_}
-
-unfoldable pub StoreFits : Store → List ℕ → Type 0
-StoreFits Keep held = Unit {0}
-StoreFits (Append w) held = length held < 8
-StoreFits Take held = length held ≤ 8
-StoreFits (TakeAppend w) held = length held ≤ 8
-StoreFits (Out b) held = length held ≤ 8
-StoreFits (Back b) held = length held ≤ 8
 
 -- the tasks of a list, each met with this word
 unfoldable pub meetings : ℕ → List ℕ → List Meeting

@@ -3,7 +3,8 @@ use Prim.Native.Nat.{_-_, pred}
 use Rattle.records.proofs.Laws.{first-none, first-some}
 use Rattle.hubtable.specs.Says.{Below, metWith, storeAfter}
 use Rattle.moves.specs.Moves.{keyOf}
-use Rattle.requests.proofs.Laws.{asked, caller-used, meeting-fits, met-state, told-in, told-sound, waiter-used}
+use Rattle.requests.proofs.Laws.{meeting-fits, met-state, told-in, told-sound, waiter-used}
+use Rattle.verdicts.proofs.Laws.{asked, caller-used}
 use Rattle.requests.proofs.meet.Statement.{statement}
 use Rattle.requests.proofs.meet.Tie as tie
 use Rattle.rules.specs.Calls.{hold, meetAll}

@@ -1,5 +1,6 @@
 -- `requests::request` meets its contract. Assumes nothing.
-use Rattle.requests.proofs.Laws.{asked, board-put, not-update, update-ahead}
+use Rattle.requests.proofs.Laws.{board-put, not-update, update-ahead}
+use Rattle.verdicts.proofs.Laws.{asked}
 use Rattle.requests.proofs.request.Statement.{statement}
 use Rattle.requests.proofs.request.Tie as tie
 use borrow.Author.Needs.{needs}

@@ -1,6 +1,7 @@
 -- `requests::settle` meets its contract. Assumes nothing.
 use Rattle.hubtable.specs.Says.{Below, says}
-use Rattle.requests.proofs.Laws.{asked, caller-used, failed-ahead, failed-state, met-ahead, refused-ahead, refused-state, waiting-state}
+use Rattle.requests.proofs.Laws.{failed-ahead, failed-state, met-ahead, refused-ahead, refused-state, waiting-state}
+use Rattle.verdicts.proofs.Laws.{asked, caller-used}
 use Rattle.requests.proofs.settle.Statement.{statement}
 use Rattle.requests.proofs.settle.Tie as tie
 use Rattle.rules.proofs.Valid.{Sound}

@@ -2,7 +2,8 @@
 use Rattle.hubtable.specs.Says.{StoreBelow, storeAfter}
 use Rattle.moves.specs.Moves.{keyOf}
 use Rattle.requests.proofs.Boards.{told, update-fits, update-state, written}
-use Rattle.requests.proofs.Laws.{asked, caller-used, held, told-sound, told-used}
+use Rattle.requests.proofs.Laws.{told-sound, told-used}
+use Rattle.verdicts.proofs.Laws.{asked, caller-used, held}
 use Rattle.requests.proofs.update.Statement.{statement}
 use Rattle.requests.proofs.update.Tie as tie
 use Rattle.rules.specs.Calls.{hold}

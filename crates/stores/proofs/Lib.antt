@@ -1,0 +1,3 @@
+mod Blocks
+pub mod Laws
+mod Stores
