@@ -1,6 +1,5 @@
 // Services 2 to 7: Start, Stop, Suspend, Resume, Yield, Sleep, each on a table that holds a state, by the caller that runs.
-// Not here: when a call is refused, and what it gives back.
-use records::HubNo;
+// Not here: when a call is refused, and what it gives back; how a stopped task's locks pass on (crate locks).
 use records::TaskNo;
 use records::TaskRecord;
 use rules::Call;
@@ -8,10 +7,9 @@ ghost use Prim.Native.Nat.{_<_, _≤_, ℕ};
 ghost use Rattle.moves.specs.Moves.{keyOf, taskOf};
 ghost use Rattle.records.specs.Records.{Table};
 ghost use Rattle.rules.proofs.Layouts.{Laid};
-ghost use Rattle.rules.proofs.Valid.{Sound, Valid, Waits};
-ghost use Rattle.rules.proofs.Waiting.{Good};
-ghost use Rattle.rules.specs.Calls.{Resume, Sleep, Start, Stop, Suspend, Yield, flag, mayStop, maySuspend, passAll, passOne, serve};
-ghost use Rattle.rules.specs.Table.{Layout, State, hub, inactive, owns, setTask, words};
+ghost use Rattle.rules.proofs.Valid.{Sound, Valid};
+ghost use Rattle.rules.specs.Calls.{Resume, Sleep, Start, Stop, Suspend, Yield, flag, mayStop, maySuspend, serve};
+ghost use Rattle.rules.specs.Table.{Layout, State, inactive, setTask, words};
 ghost use lib.ListN.{getD, length};
 ghost use mathlib.Core.Path.{_≡_};
 
@@ -69,57 +67,6 @@ fn may_stop(x: TaskRecord, c: Call) -> bool
     (x.state != rules::INACTIVE) & (c.target != c.caller)
 }
 
-// Whether task i owns hub h: a Resource's count is "0 free, else owner plus 1".
-fn is_owner(t: &[u32], ts: usize, i: TaskNo, h: HubNo) -> bool
-    requires { ⌜ Table ts (now t) ⌝ }
-    requires { ⌜ i .0 < 16 ⌝ }
-    requires { ⌜ h .0 < 16 ⌝ }
-    ensures { λ r. ⌜ ((L : Layout) (s : State) → Laid ts L → length (s .hubs) ≤ 16 → h .0 < length (s .hubs)
-        → now (t .entry) ≡ words L s → r ≡ owns (i .0) (hub s (h .0))) ⌝ }
-{
-    let x = records::hub(t, records::hubs_at(ts), h);
-    let n = i.0;
-    (x.kind == rules::RESOURCE) & (x.count == (n + 1) as u32)
-}
-
-// Hub h, where task i owns it: "passes ... to that hub's first waiter, who is met, or becomes free" (M-101). The count is the
-// new owner plus 1, or 0, as the waiter's number is.
-fn pass_one(t: &mut [u32], ts: usize, keys: &[u32], i: TaskNo, h: HubNo)
-    requires { ⌜ Table ts (now t) ⌝ }
-    requires { ⌜ i .0 < 16 ⌝ }
-    requires { ⌜ h .0 < 16 ⌝ }
-    ensures { λ _. ⌜ ((L : Layout) (s : State) → Laid ts L → Sound s → Waits s → h .0 < length (s .hubs)
-        → now (t .entry) ≡ words L s
-        → now (t .exit) ≡ words L (passOne (keyOf (now (keys .entry))) (i .0) (h .0) s)) ⌝ }
-{
-    if !is_owner(&*t, ts, i, h) {
-        return;
-    }
-    let waiter = moves::first_waiter(&*t, ts, h, rules::GET);
-    records::set_count(t, records::hubs_at(ts), h, waiter);
-    if 1 <= waiter {
-        if waiter <= 16 {
-            moves::wake_task(t, ts, keys, TaskNo((waiter - 1) as usize), rules::OK, 0);
-        }
-    }
-}
-
-// "each Resource it owns passes, in hub number order": n is the number of hubs.
-fn pass_all(t: &mut [u32], ts: usize, keys: &[u32], i: TaskNo, n: usize)
-    requires { ⌜ Table ts (now t) ⌝ }
-    requires { ⌜ i .0 < 16 ⌝ }
-    requires { ⌜ n ≤ 16 ⌝ }
-    ensures { λ _. ⌜ ((L : Layout) (s : State) → Laid ts L → Sound s → Good s → n ≡ length (s .hubs)
-        → now (t .entry) ≡ words L s
-        → now (t .exit) ≡ words L (passAll (keyOf (now (keys .entry))) (i .0) n s)) ⌝ }
-{
-    let mut h = 0;
-    while h < n {
-        pass_one(t, ts, keys, i, HubNo(h));
-        h += 1;
-    }
-}
-
 // Stop: "taken from any list, made inactive"; "after the task leaves its list, each Resource it owns passes".
 pub fn stop_task(t: &mut [u32], ts: usize, keys: &[u32], c: Call)
     requires { ⌜ Table ts (now t) ⌝ }
@@ -140,7 +87,7 @@ pub fn stop_task(t: &mut [u32], ts: usize, keys: &[u32], c: Call)
     }
     moves::leave_list(t, ts, i);
     make_inactive(t, ts, i, x.priority);
-    pass_all(t, ts, keys, i, hubs);
+    locks::pass_all(t, ts, keys, i, hubs);
     moves::give_answer(t, ts, caller, rules::OK, 0);
 }
 

@@ -1,4 +1,4 @@
--- `tasks::pass_all` meets its contract. Assumes nothing.
+-- `locks::pass_all` meets its contract. Assumes nothing.
 use Prim.Native.Nat.{_+_, _-_, _≤_, ℕ}
 use Rattle.moves.specs.Moves.{keyOf}
 use Rattle.rules.proofs.Hubs.{many-pass}
@@ -7,9 +7,9 @@ use Rattle.rules.proofs.Valid.{Sound}
 use Rattle.rules.proofs.Waiting.{Good, good-pass}
 use Rattle.rules.specs.Calls.{passAll}
 use Rattle.rules.specs.Table.{Layout, State, words}
-use Rattle.tasks.proofs.Laws.{sound-pass}
-use Rattle.tasks.proofs.pass_all.Statement.{statement}
-use Rattle.tasks.proofs.pass_all.Tie as tie
+use Rattle.locks.proofs.Laws.{sound-pass}
+use Rattle.locks.proofs.pass_all.Statement.{statement}
+use Rattle.locks.proofs.pass_all.Tie as tie
 use borrow.Author.Needs.{needs}
 use lib.ListN.{length}
 use mathlib.Core.Path.{_∙_, _≡_, ap, refl}

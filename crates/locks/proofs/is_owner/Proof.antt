@@ -1,7 +1,7 @@
--- `tasks::is_owner` meets its contract. Assumes nothing.
-use Rattle.tasks.proofs.Laws.{owner-read}
-use Rattle.tasks.proofs.is_owner.Statement.{statement}
-use Rattle.tasks.proofs.is_owner.Tie as tie
+-- `locks::is_owner` meets its contract. Assumes nothing.
+use Rattle.locks.proofs.Laws.{owner-read}
+use Rattle.locks.proofs.is_owner.Statement.{statement}
+use Rattle.locks.proofs.is_owner.Tie as tie
 use borrow.Author.Needs.{needs}
 
 hubs-at-requires : tie.Need-hubs-at-requires

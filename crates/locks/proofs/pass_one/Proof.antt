@@ -1,11 +1,11 @@
--- `tasks::pass_one` meets its contract: not owned, owned with a waiter, owned with none. Assumes nothing.
+-- `locks::pass_one` meets its contract: not owned, owned with a waiter, owned with none. Assumes nothing.
 use Rattle.moves.specs.Moves.{keyOf}
 use Rattle.rules.proofs.Handed.{one-not}
 use Rattle.rules.specs.Calls.{hold}
 use Rattle.rules.specs.Table.{hub, setHub, words}
-use Rattle.tasks.proofs.Laws.{count-set, heir-used, passed-none, passed-some, sound-hold}
-use Rattle.tasks.proofs.pass_one.Statement.{statement}
-use Rattle.tasks.proofs.pass_one.Tie as tie
+use Rattle.locks.proofs.Laws.{count-set, heir-used, passed-none, passed-some, sound-hold}
+use Rattle.locks.proofs.pass_one.Statement.{statement}
+use Rattle.locks.proofs.pass_one.Tie as tie
 use borrow.Author.Needs.{needs}
 use borrow.Author.Tests.{not-false, not-true}
 use mathlib.Core.Path.{_∙_, _≡_, ap, sym}
