@@ -187,13 +187,9 @@ record First (bs : List ℕ) (i : ℕ) (s : Scan) (x : Line) (t : Scan) (j : ℕ
   lines : ended s bs ≡ x ∷ ended t (drop (j - i) bs)
   state : after s bs ≡ after t (drop (j - i) bs)
 
-first : (bs : List ℕ) (i : ℕ) (s : Scan) (x : Line) (t : Scan) (j : ℕ) → progressOf i s bs ≡ Ended x t j → First bs i s x t j
-unfolding progressOf
-first [] i s x t j e = absurd (let z : _≡_ {A = ℕ} 0 1 = cc in omega arith)
-first (b ∷ bs) i s x t j e =
-    boolCase (eqb b newline)
-    (λ q.
-    let p : Ended (lineOfScan s) (nextOf s) (i + 1) ≡ Ended x t j = sym (progress-newline i s b bs q) ∙ e in
+first-newline : (b : ℕ) (bs : List ℕ) (i : ℕ) (s : Scan) (x : Line) (t : Scan) (j : ℕ) → eqb b newline ≡ true → Ended (lineOfScan s) (nextOf s) (i + 1) ≡ Ended x t j
+    → First (b ∷ bs) i s x t j
+first-newline b bs i s x t j q p =
     let x′ : lineOfScan s ≡ x = cc in
     let t′ : nextOf s ≡ t = cc in
     let j′ : i + 1 ≡ j = cc in
@@ -203,9 +199,10 @@ first (b ∷ bs) i s x t j e =
       inside = omega arith;
       lines = rw k (ended-newline s b bs q ∙ rw (x′, t′));
       state = rw k (after-newline s b bs q ∙ rw t′);
-    })
-    (λ q.
-    let r : First bs (i + 1) (byteStep s b) x t j = first bs (i + 1) (byteStep s b) x t j (sym (progress-byte i s b bs q) ∙ e) in
+    }
+
+first-byte : (b : ℕ) (bs : List ℕ) (i : ℕ) (s : Scan) (x : Line) (t : Scan) (j : ℕ) → eqb b newline ≡ false → First bs (i + 1) (byteStep s b) x t j → First (b ∷ bs) i s x t j
+first-byte b bs i s x t j q r =
     let f : i + 1 < j = r .forward in
     let k : j - i ≡ suc (j - (i + 1)) = omega arith in
     record {
@@ -213,7 +210,15 @@ first (b ∷ bs) i s x t j e =
       inside = omega (arith, r .inside);
       lines = rw k (ended-byte s b bs q ∙ r .lines);
       state = rw k (after-byte s b bs q ∙ r .state);
-    })
+    }
+
+first : (bs : List ℕ) (i : ℕ) (s : Scan) (x : Line) (t : Scan) (j : ℕ) → progressOf i s bs ≡ Ended x t j → First bs i s x t j
+unfolding progressOf
+first [] i s x t j e = absurd (let z : _≡_ {A = ℕ} 0 1 = cc in omega arith)
+first (b ∷ bs) i s x t j e =
+    boolCase (eqb b newline)
+    (λ q. first-newline b bs i s x t j q (sym (progress-newline i s b bs q) ∙ e))
+    (λ q. first-byte b bs i s x t j q (first bs (i + 1) (byteStep s b) x t j (sym (progress-byte i s b bs q) ∙ e)))
 
 pub turn : (l : List ℕ) (i : ℕ) (s : Scan) (x : Line) (t : Scan) (j : ℕ) → progressOf i s (drop i l) ≡ Ended x t j → Turn l i s x t j
 turn l i s x t j e =

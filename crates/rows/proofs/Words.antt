@@ -4,21 +4,20 @@
 use Prim.Native.Nat.{_*_, _+_, _<_, _≤_, suc, zero, ℕ}
 use Rattle.lists.proofs.Laws.{boolCase}
 use Rattle.lists.specs.Lists.{bit}
-use Rattle.records.specs.Records.{hubsAt, tableSize}
-use Rattle.rows.specs.Rows.{Range, apart, covers, differ, differs, hubRows, inRanges, lies, marked, markedIn, moreDiffers, rows, shown, taskRows, used}
+use Rattle.records.specs.Records.{hubsAt, readyAt, storeSize, storesAt, tableSize, waitsAt, width}
+use Rattle.rows.specs.Rows.{Range, apart, covers, differ, differs, hubRows, inRanges, lies, marked, markedIn, moreDiffers, range, rows, shown, taskRows, used}
 use Rattle.rows.specs.declared.Row.the-variants.{Answer, Contents, Holds, Kind, Priority, ReadyList, State, Waiting}
 use Rattle.rows.specs.declared.Row.{Row}
-use Rattle.rules.proofs.Tests.{t-below-all}
 use Rattle.rules.specs.Effective.{effective}
 use Rattle.rules.specs.Table.{stateOf}
-use Rattle.rules.specs.WellFormed.{forAll}
-use borrow.Author.Tests.{eq-eqb, eqb-false, eqb-true, le-leb, leb-true, lt-ltb, ltb-true}
+use borrow.Author.Tests.{eq-eqb, eqb-false, eqb-true, le-leb, le-ltb, leb-false, leb-true, lt-ltb, ltb-true}
 use lib.Dec.{eqb, leb, ltb}
 use lib.ListN.{getD}
 use mathlib.Core.Bool.{_&&_, false, false≢true, true}
-use mathlib.Core.List.{List, List·Memᴰ, List·Memᴰ·cases-cons, List·Memᴰ·head, List·Memᴰ·not-nil, List·Memᴰ·tail, [], _∷_}
+use mathlib.Core.List.{List, List·Memᴰ, List·Memᴰ·cases-cons, List·Memᴰ·head, List·Memᴰ·not-nil, List·Memᴰ·tail, [], _++_, _∷_}
 use mathlib.Core.Logic.{⊎-elim}
 use mathlib.Core.Path.{_∙_, _≡_, refl, sym}
+use native.Mathlib.Nat.{suc-mul}
 use native.Mathlib.Omega.{arith}
 
 -- ---- a run of words
@@ -104,22 +103,108 @@ unfoldable pub times : ℕ → ℕ → List Row → ℕ
 times ts p [] = 0
 times ts p (r ∷ rs) = bit (lies ts r p) + times ts p rs
 
--- by looking at each place of either edition's table
-once-one : forAll (tableSize 8) (λ p. eqb (times 8 p rows) 1) ≡ true
-unfolding covers forAll hubRows inRanges rows taskRows times
-once-one = refl
+-- 1 where p stands before place k. A run holds p just where this grows along it, so runs that follow one another add up
+unfoldable before : ℕ → ℕ → ℕ
+before p k = bit (ltb p k)
 
-once-two : forAll (tableSize 9) (λ p. eqb (times 9 p rows) 1) ≡ true
-unfolding covers forAll hubRows inRanges rows taskRows times
-once-two = refl
+module _ (p : ℕ) where
+  is-before : (k : ℕ) → p < k → before p k ≡ 1
+  unfolding before
+  is-before k h = rw (lt-ltb p k h) refl
+
+  not-before : (k : ℕ) → k ≤ p → before p k ≡ 0
+  unfolding before
+  not-before k h = rw (le-ltb p k h) refl
+
+  in-run : (k n : ℕ) → bit (leb k p && ltb p (k + n)) + before p k ≡ before p (k + n)
+  unfolding before
+  in-run k n =
+      boolCase (leb k p)
+      (λ q. rw (q, le-ltb p k (leb-true k p q)) (omega arith))
+      (λ q.
+      let h : p < k = leb-false k p q in
+      rw (q, lt-ltb p k h, lt-ltb p (k + n) (omega arith)) refl)
+
+  in-one : (k n : ℕ) → bit (inRanges (range k n ∷ []) p) + before p k ≡ before p (k + n)
+  unfolding inRanges
+  in-one k n =
+      boolCase (leb k p && ltb p (k + n))
+      (λ q. rw q (rw q at (in-run k n)))
+      (λ q. rw q (rw q at (in-run k n)))
+
+  -- two runs, the second behind the first
+  in-two : (j m k n : ℕ) → j + m ≤ k → bit (inRanges (range j m ∷ range k n ∷ []) p) + before p j + before p k ≡ before p (j + m) + before p (k + n)
+  unfolding inRanges
+  in-two j m k n h =
+      boolCase (leb j p && ltb p (j + m))
+      (λ q.
+      let one : bit true + before p j ≡ before p (j + m) = rw q at (in-run j m) in
+      let near : p < k = omega (arith, inside (range j m) p q .1) in
+      rw q (omega (arith, is-before k near, is-before (k + n) (omega arith))))
+      (λ q.
+      let one : bit false + before p j ≡ before p (j + m) = rw q at (in-run j m) in
+      rw q (omega (arith, in-one k n)))
+
+  same : (j k : ℕ) → j ≡ k → before p j ≡ before p k
+  same j k e = rw e refl
+
+  module _ (ts : ℕ) where
+    -- the rows of tasks i to j-1 hold the places of their records
+    in-tasks : 8 ≤ ts → (n i j : ℕ) (rs : List Row) → j ≡ i + n → times ts p (taskRows n i ++ rs) + before p (8 + i * ts) ≡ before p (8 + j * ts) + times ts p rs
+    unfolding covers taskRows times
+    in-tasks low zero i j rs e = let f : j ≡ i = omega arith in rw f (omega arith)
+    in-tasks low (suc n) i j rs e =
+        let at : ℕ = 8 + i * ts in
+        omega (
+          arith,
+          in-two at 2 (at + 3) 3 (omega arith),
+          in-one (at + 2) 1,
+          in-one (at + 6) (width ts + 1),
+          same (at + 2 + 1) (at + 3) (omega arith),
+          same (at + 3 + 3) (at + 6) (omega arith),
+          same (at + 6 + (width ts + 1)) (8 + suc i * ts) (omega (arith, suc-mul i ts)),
+          in-tasks low n (suc i) j rs (omega arith),
+        )
+
+    -- the rows of hubs h to j-1 hold the places of their records, of their waiting lists and of their stores
+    in-hubs : (n h j : ℕ) → j ≡ h + n → j ≤ 16
+        → times ts p (hubRows n h) + before p (hubsAt ts + h * 4) + before p (waitsAt ts + h * 16) + before p (storesAt ts + h * storeSize ts)
+        ≡ before p (hubsAt ts + j * 4) + before p (waitsAt ts + j * 16) + before p (storesAt ts + j * storeSize ts)
+    unfolding covers hubRows times
+    in-hubs zero h j e few = let f : j ≡ h = omega arith in rw f (omega arith)
+    in-hubs (suc n) h j e few =
+        let at : ℕ = hubsAt ts + h * 4 in
+        let waits : ℕ = waitsAt ts + h * 16 in
+        let store : ℕ = storesAt ts + h * storeSize ts in
+        omega (
+          arith,
+          in-two at 1 (at + 2) 2 (omega arith),
+          in-two (at + 1) 1 store (storeSize ts) (omega arith),
+          in-one waits 16,
+          same (at + 1 + 1) (at + 2) (omega arith),
+          same (at + 2 + 2) (hubsAt ts + suc h * 4) (omega arith),
+          same (waits + 16) (waitsAt ts + suc h * 16) (omega arith),
+          same (store + storeSize ts) (storesAt ts + suc h * storeSize ts) (omega (arith, suc-mul h (storeSize ts))),
+          in-hubs n (suc h) j (omega arith) few,
+        )
 
 pub once : (ts : ℕ) → 8 ≤ ts → ts ≤ 9 → (p : ℕ) → p < tableSize ts → times ts p rows ≡ 1
+unfolding covers rows times
 once ts low high p h =
-    boolCase (eqb ts 8)
-    (λ e. let one : ts ≡ 8 = eqb-true ts 8 e in rw one (eqb-true (times 8 p rows) 1 (t-below-all (λ q. eqb (times 8 q rows) 1) (tableSize 8) .yes once-one p (rw one at h))))
-    (λ e.
-    let two : ts ≡ 9 = omega (arith, eqb-false ts 8 e) in
-    rw two (eqb-true (times 9 p rows) 1 (t-below-all (λ q. eqb (times 9 q rows) 1) (tableSize 9) .yes once-two p (rw two at h))))
+    omega (
+      arith,
+      not-before p 0 (omega arith),
+      in-one p 0 8,
+      same p 8 (8 + 0 * ts) (omega arith),
+      in-tasks p ts low 16 0 16 (hubRows 16 0) refl,
+      same p (8 + 16 * ts) (hubsAt ts + 0 * 4) (omega arith),
+      in-hubs p ts 16 0 16 refl (omega arith),
+      same p (hubsAt ts + 16 * 4) (readyAt ts) (omega arith),
+      in-one p (readyAt ts) 16,
+      same p (readyAt ts + 16) (waitsAt ts + 0 * 16) (omega arith),
+      same p (waitsAt ts + 16 * 16) (storesAt ts + 0 * storeSize ts) (omega arith),
+      is-before p (tableSize ts) h,
+    )
 
 -- so there is such a row
 pub record RowOf (ts p : ℕ) (rs : List Row) : Type 0 where
