@@ -509,7 +509,7 @@ static double measure(const load *it, const work sides[SIDES], uint32_t rounds)
 
 /* ---- The worst call ---------------------------------------------------- */
 
-enum { WORST_TABLES = 20, WORST_TRIES = 15, WORST_MOST = 20 };
+enum { WORST_TABLES = 20, WORST_TRIES = 15, WORST_AGAIN = 100, WORST_MOST = 20 };
 
 /* The least of some tries, each on the table anew: what the call takes when nothing else
  * comes between. */
@@ -586,6 +586,11 @@ static int measure_worst(const layout *form, double mixed)
     for (size_t i = 0; i < WORST_TABLES * families; i++) {
         const char *name = draw_family(&random, form->edition, i % families, words, call);
         double took = least_time(words, 4 * (size_t)form->words, call);
+        /* other work on the machine may outlast the tries: who seems to be the worst is asked again */
+        for (int again = 0; took > most && again < WORST_AGAIN; again++) {
+            double later = least_time(words, 4 * (size_t)form->words, call);
+            took = later < took ? later : took;
+        }
         if (took > most) {
             most = took;
             worst = name;
