@@ -1,28 +1,31 @@
--- The links of a table. In order: the owner of a Resource with a waiter, by the words; the links of the hubs from one on, and of
--- one more (`Linking`).
+-- The links of a table. In order: a Resource with a waiter, by the words, and its owner; whether nobody is asked (`Unasked`); the
+-- links of the hubs from one on, and of one more (`Linking`).
 -- Not here: what following them finds (Passing.antt, Turns.antt). Assumes nothing.
-use Prim.Native.Nat.{_*_, _+_, _-_, _<_, _≤_, min, suc, ℕ}
+use Prim.Native.Nat.{_*_, _+_, _-_, _<_, _≤_, min, suc, zero-le, ℕ}
 use Rattle.inherit.proofs.Turns.{Every, all-used, count-word, entry-word, kind-word, used}
-use Rattle.inherit.specs.Asked.{askedFrom, askedOwner}
+use Rattle.inherit.specs.Asked.{askedFrom, askedOwner, isAsked, nobodyAsked}
 use Rattle.inherit.specs.Linked.{Linked}
 use Rattle.lists.specs.Lists.{entries}
 use Rattle.records.specs.Records.{hubsAt, waitsAt}
 use Rattle.rules.proofs.Cases.{and-l, and-r, sameOr}
 use Rattle.rules.proofs.Layouts.{Laid}
 use Rattle.rules.proofs.Numbers.{resource-number}
+use Rattle.rules.proofs.Places.{hubs-word}
 use Rattle.rules.proofs.Valid.{Sound}
 use Rattle.rules.specs.Table.{Hub, Layout, State, hub, noHub, words}
+use Rattle.rules.specs.WellFormed.{forAll}
 use borrow.Author.Tests.{eq-eqb, le-leb, leb-true, ne-eqb}
 use lib.Dec.{eqb, eqb·suc-zero, leb}
 use lib.ListN.{drop, drop-of-length-le, getD, getD-replicate, length, length-set, replicate, set}
 use lib.Seq.{drop-cons, getD-set-other, getD-set-same}
-use mathlib.Core.Bool.{_&&_, cond, false, false≢true, not, true}
+use mathlib.Core.Bool.{Bool, _&&_, cond, false, false≢true, not, true}
 use mathlib.Core.List.{List, [], _∷_}
 use mathlib.Core.Path.{_∙_, _≡_, ap, refl, sym}
 use native.Mathlib.Nat.{add-zero}
+use native.Mathlib.Numerals.{add-one}
 use native.Mathlib.Omega.{arith}
 
--- ---- the owner of a Resource with a waiter
+-- ---- a Resource with a waiter, and its owner
 
 -- the first entry of a list is 0 just where the list is empty
 first-word : (l : List ℕ) → eqb (getD (entries 16 l) 0 0) 0 ≡ eqb (length l) 0
@@ -31,23 +34,46 @@ first-word [] = refl
 first-word (x ∷ xs) = eqb·suc-zero x ∙ sym (eqb·suc-zero (length xs))
 
 module _ {ts : ℕ} (L : Layout) (s : State) (y : Laid ts L) (x : Sound s) (h : ℕ) (u : h < length (s .hubs)) (t : List ℕ) (w : t ≡ words L s) where
-  -- the three words that the code reads
-  owner-words : askedOwner (hub s h) ≡ cond (eqb (getD t (hubsAt ts + h * 4) 0) 5 && not (eqb (getD t (waitsAt ts + h * 16) 0) 0)) (getD t (hubsAt ts + h * 4 + 1) 0) 0
-  unfolding askedOwner
-  owner-words =
+  -- the two words that the code reads
+  pub asked-words : isAsked (hub s h) ≡ (eqb (getD t (hubsAt ts + h * 4) 0) 5 && not (eqb (getD t (waitsAt ts + h * 16) 0) 0))
+  unfolding isAsked
+  asked-words =
       let first : getD (words L s) (waitsAt ts + h * 16) 0 ≡ getD (entries 16 (hub s h .waiters)) 0 0 = rw add-zero at (entry-word L s y x h u 0 (omega arith)) in
-      rw (w, kind-word L s y x h u, count-word L s y x h u, first, first-word, resource-number)
+      rw (w, kind-word L s y x h u, first, first-word, resource-number)
 
-  module _ (b : ℕ) (record-at : b ≡ hubsAt ts + h * 4) where
-    pub owner-other : (getD t b 0 ≡ 5 → ⊥) → 0 ≡ askedOwner (hub s h)
-    owner-other n = sym (owner-words ∙ rw (ne-eqb (getD t (hubsAt ts + h * 4) 0) 5 (rw record-at at n)))
+  module _ (r : Bool) (is : r ≡ isAsked (hub s h)) where
+    pub owner-none : r ≡ false → 0 ≡ askedOwner (hub s h)
+    unfolding askedOwner
+    owner-none e = rw (sym is ∙ e)
 
-    module _ (a : ℕ) (list-at : a ≡ waitsAt ts + h * 16) (is : getD t b 0 ≡ 5) where
-      pub owner-alone : getD t a 0 ≡ 0 → 0 ≡ askedOwner (hub s h)
-      owner-alone e = sym (owner-words ∙ rw (eq-eqb (getD t (hubsAt ts + h * 4) 0) 5 (rw record-at at is), eq-eqb (getD t (waitsAt ts + h * 16) 0) 0 (rw list-at at e)))
+    pub owner-asked : r ≡ true → (a : ℕ) → a ≡ hubsAt ts → getD t (a + h * 4 + 1) 0 ≡ askedOwner (hub s h)
+    unfolding askedOwner
+    owner-asked e a at = rw (sym is ∙ e, at, w) (count-word L s y x h u)
 
-      pub owner-asked : (getD t a 0 ≡ 0 → ⊥) → getD t (b + 1) 0 ≡ askedOwner (hub s h)
-      owner-asked n = sym (owner-words ∙ rw (eq-eqb (getD t (hubsAt ts + h * 4) 0) 5 (rw record-at at is), ne-eqb (getD t (waitsAt ts + h * 16) 0) 0 (rw list-at at n), record-at))
+-- ---- nobody is asked at any of the hubs below h
+
+pub record Unasked (ts : ℕ) (t : List ℕ) (m : ℕ) (nobody : Bool) (h : ℕ) : Type 0 where
+  pub inside : h ≤ m
+  pub each : Every ts t (λ s. nobody ≡ forAll h (λ g. not (isAsked (hub s g))))
+
+module _ (ts : ℕ) (t : List ℕ) (m : ℕ) where
+  pub unasked-begin : Unasked ts t m true 0
+  unfolding forAll
+  unasked-begin = record { inside = zero-le; each = λ L s y x w. refl }
+
+  module _ (many : m ≡ min (getD t 2 0) 16) (nobody : Bool) (h : ℕ) (o : Unasked ts t m nobody h) where
+    pub unasked-step : h < m → (r : Bool) → Every ts t (λ s. h < length (s .hubs) → r ≡ isAsked (hub s h)) → Unasked ts t m (not r && nobody) (h + 1)
+    unfolding forAll
+    unasked-step l r is = record {
+      inside = omega arith;
+      each = λ L s y x w. rw (add-one, is L s y x w (used t m many L s w h l), o .each L s y x w);
+    }
+
+    pub unasked-end : m ≤ h → Every ts t (λ s. nobody ≡ nobodyAsked s)
+    unfolding nobodyAsked
+    unasked-end l L s y x w =
+        let all : h ≡ length (s .hubs) = omega (arith, o .inside, x .hubs, ap (λ (r : List ℕ). getD r 2 0) w, hubs-word L s) in
+        rw (sym all) (o .each L s y x w)
 
 -- ---- the links, of the hubs from h on
 

@@ -2,12 +2,13 @@
 -- asked at, and one that it is not; the first of a row (`AskedAt`); who is asked at none.
 -- Not here: the words (Turns.antt, Linking.antt). Assumes nothing.
 use Prim.Native.Nat.{_<_, _≤_, min, suc, ℕ}
-use Rattle.inherit.specs.Asked.{askedFrom, askedOwner}
+use Rattle.inherit.specs.Asked.{askedFrom, askedOwner, isAsked, nobodyAsked}
 use Rattle.lists.proofs.Laws.{boolCase}
 use Rattle.rules.proofs.Cases.{and-l, condCase}
+use Rattle.rules.proofs.Tests.{t-below-all}
 use Rattle.rules.specs.Effective.{effective, overOwned, overTask, overWaiters}
-use Rattle.rules.specs.Table.{Hub, State, isResource, kindOf, noHub, owns, task}
-use borrow.Author.Tests.{eq-eqb, eqb-true}
+use Rattle.rules.specs.Table.{Hub, State, hub, isResource, kindOf, noHub, owns, task}
+use borrow.Author.Tests.{eq-eqb, eqb-true, ne-eqb, not-true}
 use lib.Dec.{eqb, eqb·suc-zero}
 use lib.ListN.{drop, drop-of-length-le, getD, length, length-drop}
 use lib.Seq.{drop-cons}
@@ -20,7 +21,7 @@ use native.Mathlib.Omega.{arith}
 
 -- where task i is asked, it is the owner
 asked-owns : (i : ℕ) (x : Hub) → askedOwner x ≡ suc i → owns i x ≡ true
-unfolding askedOwner owns
+unfolding askedOwner isAsked owns
 asked-owns i x a =
     boolCase (isResource (kindOf (x .kind)) && not (eqb (length (x .waiters)) 0))
     (λ r. rw (and-l (isResource (kindOf (x .kind))) _ r) (eq-eqb (x .count) (suc i) (rw r at a)))
@@ -28,7 +29,7 @@ asked-owns i x a =
 
 -- a Resource that it owns and is not asked at has no waiter
 owned-empty : (ask : ℕ → ℕ → ℕ) (i : ℕ) (x : Hub) (p : ℕ) (l : List ℕ) → x .waiters ≡ l → eqb (askedOwner x) (suc i) ≡ false → owns i x ≡ true → overWaiters ask l p ≡ p
-unfolding askedOwner overWaiters owns
+unfolding askedOwner isAsked overWaiters owns
 owned-empty ask i x p [] is a o = refl
 owned-empty ask i x p (j ∷ js) is a o =
     boolCase (isResource (kindOf (x .kind)))
@@ -92,3 +93,15 @@ unfolding effective overTask
 own-alone s i few l =
     let q = min (task s i .priority) (task s i .priority) in
     passed i (s .hubs) few (overTask 15 s) q (s .hubs) 0 refl ∙ (past-all i (s .hubs) few (overTask 15 s) q (askedFrom i (s .hubs) 0) l ∙ omega arith)
+
+-- where nobody is asked, each task is asked at none
+none-from : (i : ℕ) (xs : List Hub) (k : ℕ) → ((h : ℕ) → h < length xs → isAsked (getD xs h noHub) ≡ false) → askedFrom i xs k ≡ 16
+unfolding askedFrom askedOwner
+none-from i [] k none = refl
+none-from i (x ∷ xs) k none = rw (none 0 (omega arith), ne-eqb 0 (suc i) (λ e. omega arith)) (none-from i xs (suc k) (λ h l. none (suc h) (omega arith)))
+
+pub nobody-alone : (s : State) → length (s .hubs) ≤ 16 → nobodyAsked s ≡ true → (i : ℕ) → effective s i ≡ task s i .priority
+unfolding nobodyAsked
+nobody-alone s few e i =
+    let none = none-from i (s .hubs) 0 (λ h l. not-true _ (t-below-all (λ g. not (isAsked (hub s g))) (length (s .hubs)) .yes e h l)) in
+    own-alone s i few (omega (arith, none))

@@ -2,8 +2,9 @@
 -- replaced by effective priorities, and one more (`Filling`).
 -- Not here: what an effective priority means (rules, Meaning.antt). Assumes nothing.
 use Prim.Native.Nat.{_+_, _<_, _≤_, zero-le, ℕ}
-use Rattle.inherit.proofs.Passing.{own-alone}
+use Rattle.inherit.proofs.Passing.{nobody-alone, own-alone}
 use Rattle.inherit.proofs.Turns.{Every}
+use Rattle.inherit.specs.Asked.{nobodyAsked}
 use Rattle.inherit.specs.Keyed.{Keyed, Owned}
 use Rattle.inherit.specs.Linked.{Linked}
 use Rattle.lists.proofs.Laws.{boolCase}
@@ -16,6 +17,7 @@ use lib.Dec.{ltb}
 use lib.ListN.{List·getD-eq-default, getD, length, length-set, set}
 use lib.Seq.{getD-set-other, getD-set-same}
 use mathlib.Core.List.{List}
+use mathlib.Core.Bool.{true}
 use mathlib.Core.Path.{_∙_, _≡_, ap, sym}
 use native.Mathlib.Omega.{arith}
 
@@ -85,3 +87,14 @@ module _ (ts : ℕ) (t ks : List ℕ) where
           (λ e. f .each L s y x w j (omega (arith, ltb-true j 16 e)))
           (λ e. let g = ltb-false j 16 e in List·getD-eq-default ks 0 (omega (arith, f .long)) ∙ sym (none-urgent s j (omega (arith, x .tasks))));
     }
+
+-- where nobody is asked, the own priorities are the keys
+pub keyed-own : (ts : ℕ) (t ks : List ℕ) → Owned ts t ks → Every ts t (λ s. nobodyAsked s ≡ true) → Keyed ts t ks
+keyed-own ts t ks o nobody =
+    let all : Filling ts t ks 16 = record {
+      inside = omega arith;
+      long = o .long;
+      each = λ L s y x w j l. o .each L s y x w j l ∙ sym (nobody-alone s (x .hubs) (nobody L s y x w) j);
+      rest = λ L s y x w j g l. absurd (omega arith);
+    } in
+    filling-end ts t ks 16 all (omega arith)

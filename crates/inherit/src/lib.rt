@@ -11,7 +11,7 @@ use records::LIST_SIZE;
 use records::PRIORITY;
 use records::TaskNo;
 ghost use Prim.Native.Nat.{_<_, min};
-ghost use Rattle.inherit.specs.Asked.{askedOwner};
+ghost use Rattle.inherit.specs.Asked.{askedOwner, isAsked, nobodyAsked};
 ghost use Rattle.inherit.specs.Keyed.{Keyed, Owned};
 ghost use Rattle.inherit.specs.Linked.{Linked};
 ghost use Rattle.lists.specs.Lists.{numbers};
@@ -33,6 +33,33 @@ fn hubs_in(t: &[u32], ts: usize) -> usize
     if m < 16 { m } else { 16 }
 }
 
+// Whether hub h is a Resource with a waiter. Both words are read, whatever the first one says: a branch on each hub's kind goes
+// the wrong way so often that it costs more than the word.
+fn is_asked(t: &[u32], ts: usize, h: usize) -> bool
+    requires { ⌜ Table ts (now t) ⌝ }
+    requires { ⌜ h < 16 ⌝ }
+    ensures { λ r. ⌜ ((L : Layout) (s : State) → Laid ts L → Sound s → now (t .entry) ≡ words L s → h < length (s .hubs)
+        → r ≡ isAsked (hub s h)) ⌝ }
+{
+    let b = records::hubs_at(ts) + h * HUB_SIZE;
+    (t[b] == rules::RESOURCE) & (t[records::waits_at(ts, HubNo(h))] != 0)
+}
+
+// Whether no hub in use is a Resource with a waiter: the common case, in which every task has its own priority.
+fn nobody_asked(t: &[u32], ts: usize) -> bool
+    requires { ⌜ Table ts (now t) ⌝ }
+    ensures { λ r. ⌜ ((L : Layout) (s : State) → Laid ts L → Sound s → now (t .entry) ≡ words L s → r ≡ nobodyAsked s) ⌝ }
+{
+    let m = hubs_in(t, ts);
+    let mut nobody = true;
+    let mut h = 0;
+    while h < m {
+        nobody = !is_asked(t, ts, h) & nobody;
+        h += 1;
+    }
+    nobody
+}
+
 // The owner, plus 1, of hub h where it is a Resource with a waiter; else 0.
 fn asked_owner(t: &[u32], ts: usize, h: usize) -> u32
     requires { ⌜ Table ts (now t) ⌝ }
@@ -40,14 +67,10 @@ fn asked_owner(t: &[u32], ts: usize, h: usize) -> u32
     ensures { λ r. ⌜ ((L : Layout) (s : State) → Laid ts L → Sound s → now (t .entry) ≡ words L s → h < length (s .hubs)
         → r ≡ askedOwner (hub s h)) ⌝ }
 {
-    let b = records::hubs_at(ts) + h * HUB_SIZE;
-    if t[b] != rules::RESOURCE {
+    if !is_asked(t, ts, h) {
         return 0;
     }
-    if t[records::waits_at(ts, HubNo(h))] == 0 {
-        return 0;
-    }
-    t[b + COUNT]
+    t[records::hubs_at(ts) + h * HUB_SIZE + COUNT]
 }
 
 // Who is asked where, found once, so that nobody looks through all hubs for each task that it comes to. Words 0 to 15: for
@@ -119,36 +142,58 @@ fn over_waiters(t: &[u32], ts: usize, links: &[u32; 32], h: HubNo, depth: usize,
     best
 }
 
-// The own priority of each task number; of a number not in use 0.
-fn own_keys(t: &[u32], ts: usize) -> [u32; 16]
+// The own priority of each task number; of a number not in use 0. The keys are written where the caller wants them, here and
+// below: sixteen words that are copied as soon as they are written make the machine wait.
+fn own_keys(t: &[u32], ts: usize, keys: &mut [u32; 16])
     requires { ⌜ Table ts (now t) ⌝ }
-    ensures { λ r. ⌜ Owned ts (now (t .entry)) r ⌝ }
+    requires { ⌜ length (now keys) ≡ 16 ⌝ }
+    ensures { λ _. ⌜ Owned ts (now (t .entry)) (now (keys .exit)) ⌝ }
 {
-    let mut ks = [0u32; 16];
     let mut i = 0;
     while i < 16 {
-        ks[i] = t[records::task_at(ts, TaskNo(i)) + PRIORITY];
+        keys[i] = t[records::task_at(ts, TaskNo(i)) + PRIORITY];
         i += 1;
     }
-    ks
 }
 
-// The key of each task number, by which it joins a list: its effective priority; of a number not in use 0. "To at most 16 tasks
-// deep"; who is asked nowhere has its own, as most have in most tables.
+// The key of each task number where somebody is asked. "To at most 16 tasks deep"; who is asked nowhere has its own.
+fn asked_keys(t: &[u32], ts: usize, keys: &mut [u32; 16])
+    requires { ⌜ Table ts (now t) ⌝ }
+    requires { ⌜ length (now keys) ≡ 16 ⌝ }
+    ensures { λ _. ⌜ Keyed ts (now (t .entry)) (now (keys .exit)) ⌝ }
+{
+    let ls = links(t, ts);
+    own_keys(t, ts, keys);
+    let mut i = 0;
+    while i < 16 {
+        if ls[i] < 16 {
+            let p = keys[i];
+            keys[i] = over_task(t, ts, &ls, TaskNo(i), 16, p);
+        }
+        i += 1;
+    }
+}
+
+// The key of each task number, by which it joins a list: its effective priority; of a number not in use 0.
+pub fn find_keys(t: &[u32], ts: usize, keys: &mut [u32; 16])
+    requires { ⌜ Table ts (now t) ⌝ }
+    requires { ⌜ length (now keys) ≡ 16 ⌝ }
+    ensures { λ _. ⌜ Keyed ts (now (t .entry)) (now (keys .exit)) ⌝ }
+{
+    if nobody_asked(t, ts) {
+        own_keys(t, ts, keys);
+        return;
+    }
+    asked_keys(t, ts, keys);
+}
+
+// The keys as a value, for those who look at them once.
 pub fn keys(t: &[u32], ts: usize) -> [u32; 16]
     requires { ⌜ Table ts (now t) ⌝ }
     ensures { λ r. ⌜ Keyed ts (now (t .entry)) r ⌝ }
 {
-    let ls = links(t, ts);
-    let mut ks = own_keys(t, ts);
-    let mut i = 0;
-    while i < 16 {
-        if ls[i] < 16 {
-            let p = ks[i];
-            ks[i] = over_task(t, ts, &ls, TaskNo(i), 16, p);
-        }
-        i += 1;
-    }
+    let mut ks = [0u32; 16];
+    find_keys(t, ts, &mut ks);
     ks
 }
 

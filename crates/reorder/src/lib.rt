@@ -122,6 +122,7 @@ pub fn reorder(t: &mut [u32], ts: usize, before: &[u32; 16], n: usize)
         → ((j : ℕ) → getD (now (before .entry)) j 0 ≡ effective s j)
         → now (t .entry) ≡ words L s′ → now (t .exit) ≡ words L (reordered s s′)) ⌝ }
 {
-    let after = inherit::keys(&*t, ts);
+    let mut after = [0u32; 16];
+    inherit::find_keys(&*t, ts, &mut after);
     reorder_by(t, ts, before, &after, n);
 }

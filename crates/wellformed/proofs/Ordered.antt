@@ -1,21 +1,22 @@
 -- What is exact, and the order of its lists: all clauses of `wellFormedIn` but one (`exactIn`), and that one (`inOrder`).
 -- What is exact is sound, so the keys that are asked for are effective priorities, and the order by them is that of the rules.
 -- Not here: that the tests of the code are `exactIn` (Whole.antt). Assumes nothing.
-use Prim.Native.Nat.{_<_, ℕ}
+use Prim.Native.Nat.{_<_, _≤_, ℕ}
 use Rattle.lists.proofs.Laws.{boolCase}
 use Rattle.rules.proofs.Cases.{and-l, and-r}
-use Rattle.rules.proofs.Layouts.{Laid}
+use Rattle.rules.proofs.Layouts.{Laid, in-some}
 use Rattle.rules.proofs.Tests.{t-hubs, t-lists, t-owners, t-records, t-waits}
 use Rattle.rules.proofs.Valid.{Listed, Owners, Range, Records, Sound, Waits}
 use Rattle.rules.proofs.Written.{read-fits, words-read, written-says}
 use Rattle.rules.specs.Effective.{effective}
 use Rattle.rules.specs.Table.{Layout, State, hub, kindOf, read, size, words}
 use Rattle.rules.specs.WellFormed.{hubsRight, inOrder, inOrderBy, listsExact, tasksRight, valid, waitersRight, wellFormedIn, written}
-use Rattle.wellformed.specs.Walks.{Formed, exactIn}
+use Rattle.wellformed.specs.Walks.{ExactTable, Formed, exactIn}
 use lib.ListN.{getD, length}
 use mathlib.Core.Bool.{Bool, _&&_, and-false, and-true, false, false≢true, true}
 use mathlib.Core.List.{List}
 use mathlib.Core.Path.{_∙_, _≡_, sym}
+use native.Mathlib.Omega.{arith}
 
 -- ---- what the clauses of `exactIn` say
 
@@ -59,6 +60,13 @@ module _ (L : Layout) (t : List ℕ) (e : exactIn L t ≡ true) where
 
   pub exact-words : {ts : ℕ} → Laid ts L → ((k : ℕ) → getD t k 0 < 4294967296) → t ≡ words L (read L t)
   exact-words y low = words-read y t low (exact-says L t e .wrote)
+
+-- of a table that is exact, its length
+pub exact-all : (ts : ℕ) (t : List ℕ) → 8 ≤ ts → ts ≤ 9 → ((L : Layout) → Laid ts L → exactIn L t ≡ true) → ExactTable ts t
+exact-all ts t low high e = record {
+  fits = in-some ts low high (λ L y. record { low = low; high = high; long = let n = exact-long L t (e L y) in omega arith });
+  each = e;
+}
 
 -- ---- the order apart
 

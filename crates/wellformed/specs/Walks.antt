@@ -3,6 +3,8 @@
 use Prim.Native.Nat.{_+_, _≤_, pred, suc, zero, ℕ}
 use Rattle.bodies.specs.Bodies.{bodyTest, ownerOf}
 use Rattle.lists.specs.Lists.{allZero, bit, occ}
+use Rattle.records.specs.Records.{Table}
+use Rattle.rules.proofs.Layouts.{Laid}
 use Rattle.rules.specs.Effective.{effective}
 use Rattle.rules.specs.Table.{Hub, Layout, Stage, State, Task, hub, read, stageOf, task, taskFrom, waitPart}
 use Rattle.rules.specs.WellFormed.{fieldsRight, hubsRight, listsExact, ownersRight, stageRight, tasksRight, waitersRight, wellFormedIn, written}
@@ -106,6 +108,11 @@ exactIn L t =
     && (hubsRight (read L t)
     && (listsExact (read L t)
     && (tasksRight (read L t) && (waitersRight (read L t) && ownersRight (read L t)))))
+
+-- a table of which they hold, whatever the layout of this size
+pub record ExactTable (ts : ℕ) (t : List ℕ) : Type 0 where
+  pub fits : Table ts t
+  pub each : (L : Layout) → Laid ts L → exactIn L t ≡ true
 
 -- what the test of a table gives back: the answer, and where it is yes each task's effective priority, its key
 pub record Formed (L : Layout) (t : List ℕ) (r : Bool) (ks : List ℕ) : Type 0 where

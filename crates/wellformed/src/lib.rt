@@ -24,7 +24,7 @@ ghost use Rattle.lists.specs.Lists.{numbers, occ};
 ghost use Rattle.rules.proofs.Layouts.{Laid};
 ghost use Rattle.rules.specs.Table.{Layout, Ready, State, Task, Waiting, read};
 ghost use Rattle.rules.specs.WellFormed.{forAll, stageRight, wellFormedIn};
-ghost use Rattle.wellformed.specs.Walks.{Formed, Marked, Marks, Row, exactIn, hubRight, may, meets, metAt, queueTest, recordOf, recordRight, restRight, taskRight, waitsOf, walks};
+ghost use Rattle.wellformed.specs.Walks.{ExactTable, Formed, Marked, Marks, Row, exactIn, hubRight, may, meets, metAt, queueTest, recordOf, recordRight, restRight, taskRight, waitsOf, walks};
 ghost use lib.Dec.{eqb, leb};
 ghost use lib.ListN.{getD, length};
 ghost use mathlib.Core.Bool.{_&&_, true};
@@ -350,19 +350,28 @@ fn exact(t: &[u32], ts: usize) -> bool
     tasks_right(t, ts, &marks)
 }
 
-// "Well formed"; if so, `keys` then holds each task's effective priority, by which the lists are ordered and a call joins them.
+// The order of lists that are exact: by effective priority, which `keys` then holds of each task, and by which a call joins them.
 // Keys and order come last: on lists that are not exact, asking 16 tasks deep could take 16 to the 15th steps.
+fn order_right(t: &[u32], ts: usize, keys: &mut [u32; 16]) -> bool
+    requires { ⌜ ExactTable ts (now t) ⌝ }
+    requires { ⌜ length (now keys) ≡ 16 ⌝ }
+    ensures { λ r. ⌜ ((L : Layout) → Laid ts L → Formed L (now (t .entry)) r (now (keys .exit))) ⌝ }
+{
+    inherit::find_keys(t, ts, keys);
+    inherit::in_order(t, ts, &*keys)
+}
+
+// "Well formed"; if so, `keys` then holds each task's effective priority.
 pub fn well_formed_keys(t: &[u32], ts: usize, keys: &mut [u32; 16]) -> bool
     requires { ⌜ 8 ≤ ts ⌝ }
     requires { ⌜ ts ≤ 9 ⌝ }
+    requires { ⌜ length (now keys) ≡ 16 ⌝ }
     ensures { λ r. ⌜ ((L : Layout) → Laid ts L → Formed L (now (t .entry)) r (now (keys .exit))) ⌝ }
 {
     if !exact(t, ts) {
         return false;
     }
-    let ks = inherit::keys(t, ts);
-    *keys = ks;
-    inherit::in_order(t, ts, &ks)
+    order_right(t, ts, keys)
 }
 
 // "Well formed", for those who join no list.
@@ -371,6 +380,9 @@ pub fn well_formed(t: &[u32], ts: usize) -> bool
     requires { ⌜ ts ≤ 9 ⌝ }
     ensures { λ r. ⌜ ((L : Layout) → Laid ts L → r ≡ wellFormedIn L (now (t .entry))) ⌝ }
 {
+    if !exact(t, ts) {
+        return false;
+    }
     let mut keys = [0u32; 16];
-    well_formed_keys(t, ts, &mut keys)
+    order_right(t, ts, &mut keys)
 }

@@ -1,17 +1,17 @@
--- `inherit::keys` meets its contract. The loop's invariant is `Filling`: the keys below i are the effective priorities, the others
+-- `inherit::asked_keys` meets its contract. The loop's invariant is `Filling`: the keys below i are the effective priorities, the others
 -- own ones still. Assumes nothing.
 use Prim.Native.Nat.{_-_}
 use Rattle.inherit.proofs.Sixteen.{Filling, filling-asked, filling-begin, filling-end, filling-none}
-use Rattle.inherit.proofs.keys.Statement.{statement}
-use Rattle.inherit.proofs.keys.Tie as tie
+use Rattle.inherit.proofs.asked_keys.Statement.{statement}
+use Rattle.inherit.proofs.asked_keys.Tie as tie
 use borrow.Author.Needs.{needs}
 use mathlib.Core.Logic.{⊎-elim}
 
 abbrev Inv-loop : tie.InvT-loop
-Inv-loop t ts ls ks₀ i₀ ks i = Filling ts t ks i
+Inv-loop t ts keys₀ ls i₀ keys i = Filling ts t keys i
 
 abbrev μ-loop : tie.MeasureT-loop
-μ-loop t ts ls ks₀ i₀ ks i = 16 - i
+μ-loop t ts keys₀ ls i₀ keys i = 16 - i
 
 links-requires : tie.Need-links-requires Inv-loop μ-loop
 links-requires c κs = search needs
@@ -31,17 +31,17 @@ array-read-if1 c = search needs
 mul-p : tie.Need-mul-p Inv-loop μ-loop
 mul-p c = search needs
 
-array-read-p : tie.Need-array-read-p Inv-loop μ-loop
-array-read-p c = search needs
+element-copy-out-p : tie.Need-element-copy-out-p Inv-loop μ-loop
+element-copy-out-p c = search needs
 
 over-task-requires : tie.Need-over-task-requires Inv-loop μ-loop
-over-task-requires c κs = (c .before .before .before .before .before .before .before .pre, c .before .before .before .before .before .links .ensures)
+over-task-requires c κs = (c .before .before .before .before .before .before .before .before .before .pre .0, c .before .before .before .before .before .before .before .links .ensures)
 
-mul-ks : tie.Need-mul-ks Inv-loop μ-loop
-mul-ks c = search needs
+mul-keys : tie.Need-mul-keys Inv-loop μ-loop
+mul-keys c = search needs
 
-array-write-ks : tie.Need-array-write-ks Inv-loop μ-loop
-array-write-ks c = search needs
+element-write-keys : tie.Need-element-write-keys Inv-loop μ-loop
+element-write-keys c = search needs
 
 add-i : tie.Need-add-i Inv-loop μ-loop
 add-i c = search needs
@@ -54,15 +54,15 @@ loop-again c =
     let l = c .before .before .loop in
     let low = c .before .loop-test .taken in
     ⊎-elim
-    (λ w. rw (w .3) (filling-asked _ _ (l .ks) (l .i) (l .inv) low (w .2 .result) (w .2 .ensures)))
-    (λ w. rw (w .1) (filling-none _ _ (l .ks) (l .i) (l .inv) low _ (c .before .before .before .before .links .ensures) (w .0 .left)))
+    (λ w. rw (w .4) (filling-asked _ _ (l .keys) (l .i) (l .inv) low (w .3 .result) (w .3 .ensures)))
+    (λ w. rw (w .1) (filling-none _ _ (l .keys) (l .i) (l .inv) low _ (c .before .before .before .before .before .links .ensures) (w .0 .left)))
     (c .if1 .came)
 
 returns : tie.Need-returns Inv-loop μ-loop
-returns c = filling-end _ _ (c .before .loop .ks) (c .before .loop .i) (c .before .loop .inv) (c .loop-test .left)
+returns c = filling-end _ _ (c .before .loop .keys) (c .before .loop .i) (c .before .loop .inv) (c .loop-test .left)
 
-pub keys-spec : {M : Type 1} → statement M
-keys-spec =
+pub asked-keys-spec : {M : Type 1} → statement M
+asked-keys-spec =
     tie.close
     (tie.spec
     Inv-loop
@@ -73,10 +73,10 @@ keys-spec =
     mul-if1
     array-read-if1
     mul-p
-    array-read-p
+    element-copy-out-p
     over-task-requires
-    mul-ks
-    array-write-ks
+    mul-keys
+    element-write-keys
     add-i
     loop-less
     loop-again
