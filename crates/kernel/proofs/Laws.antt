@@ -17,7 +17,8 @@ use Rattle.rules.proofs.Inherited.{kept-reordered}
 use Rattle.rules.proofs.Kept.{unsorted-serve, unsorted-sound, valid-unsorted}
 use Rattle.rules.proofs.Layouts.{Laid, store-place}
 use Rattle.rules.proofs.Lengths.{length-serve, tasksAfter}
-use Rattle.rules.proofs.Numbers.{bears-answer, silent-first, silent-past}
+use Rattle.rules.proofs.Lockless.{lockless-still}
+use Rattle.rules.proofs.Numbers.{bears-answer, resource-number, silent-first, silent-past}
 use Rattle.rules.proofs.Valid.{Sound, Valid}
 use Rattle.rules.specs.Calls.{AddHub, AddTask, Blank, HubRequest, Resume, Service, Sleep, Start, Stop, Suspend, Tick, Unknown, Yield, keyAdded, serve, served, serviceOf}
 use Rattle.rules.specs.Effective.{effective}
@@ -26,7 +27,7 @@ use Rattle.rules.specs.Lists.{next}
 use Rattle.rules.specs.Refusals.{behind, goodMessage, need, refusal, refusalAt, refusalFor, refusalIn}
 use Rattle.rules.specs.Reorder.{reordered}
 use Rattle.rules.specs.Reply.{ahead, aheadFor, outcome, outcomeOf, replyBy, replyIn, tableBy, tableIn}
-use Rattle.rules.specs.Table.{Layout, State, read, size, task, words}
+use Rattle.rules.specs.Table.{Layout, State, hub, isResource, read, size, task, words}
 use Rattle.rules.specs.WellFormed.{wellFormedIn}
 use Rattle.rules.specs.declared.Answer.the-variants.{Accepted, Refused}
 use Rattle.rules.specs.declared.Call.{Call}
@@ -223,6 +224,16 @@ module _ (s : State) (g : Valid s) (c : Call) (a : refusal s c ≡ 0) where
   pub calm-served : (eqb (c .service) 2 || (leb 4 (c .service) && leb (c .service) 7)) ≡ true → served s c ≡ done
   unfolding refusal served
   calm-served e = calm-still (effective s) (serviceOf (c .service)) (calm-number (c .service) e) s g c a
+
+  -- nor is anybody after a hub request at any hub but a Resource, by the number of its kind
+  pub lockless-served : c .service ≡ 1 → (hub s (c .target) .kind ≡ 5 → ⊥) → served s c ≡ done
+  unfolding isResource refusal served serviceOf
+  lockless-served one n =
+      let v = service-is c 1 one in
+      let kind = hub s (c .target) .kind in
+      ap (λ (u : Service). reordered s (serve (effective s) u s c)) v
+      ∙ lockless-still s g c (by-service s c HubRequest v a) (λ r. n (eqb-true kind 5 (sym (resource-number kind) ∙ ap isResource r)))
+      ∙ ap (λ (u : Service). serve (effective s) u s c) (sym v)
 
   -- the number ahead is the same before the reordering and after
   pub ahead-stays : ahead (served s c) c ≡ ahead done c

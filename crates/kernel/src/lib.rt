@@ -15,10 +15,12 @@ ghost use Rattle.records.specs.Records.{Table};
 ghost use Rattle.rules.proofs.Layouts.{Laid};
 ghost use Rattle.rules.proofs.Valid.{Valid};
 ghost use Rattle.rules.specs.Calls.{AddTask, addStarted, serve, served, serviceOf};
+ghost use Rattle.rules.specs.Effective.{effective};
 ghost use Rattle.rules.specs.Refusals.{refusal, refusalIn};
 ghost use Rattle.rules.specs.Reply.{outcome, summaryOf};
 ghost use Rattle.rules.specs.Table.{Layout, State, read, words};
 ghost use lib.ListN.{getD, length};
+ghost use mathlib.Core.Bool.{true};
 ghost use mathlib.Core.Path.{_≡_};
 
 // "Refusal numbers, tested in this order": 1 and 2 here, then the service's own. 0 is no refusal. Of a table that is well formed
@@ -153,9 +155,27 @@ fn serve_one(t: &mut [u32], ts: usize, keys: &[u32; 16], c: Call) -> Served
     Served { ahead: 0 }
 }
 
+// Whether a call leaves who waits for whose lock as it was, so that no effective priority changes: Start, Suspend, Resume, Yield
+// and Sleep do, and a hub request at any hub but a Resource.
+fn is_calm(t: &[u32], ts: usize, c: Call) -> bool
+    requires { ⌜ 8 ≤ ts ⌝ }
+    requires { ⌜ ts ≤ 9 ⌝ }
+    requires { ⌜ Accepts ts (now t) c ⌝ }
+    requires { ⌜ 1 ≤ c .service ⌝ }
+    ensures { λ r. ⌜ ((L : Layout) → Laid ts L → refusalIn L (now (t .entry)) c ≡ 0 → r ≡ true
+        → served (read L (now (t .entry))) c
+        ≡ serve (effective (read L (now (t .entry)))) (serviceOf (c .service)) (read L (now (t .entry))) c) ⌝ }
+{
+    let service = c.service;
+    if service == rules::HUB_REQUEST {
+        return t[records::hubs_at(ts) + (c.target as usize) * records::HUB_SIZE] != rules::RESOURCE;
+    }
+    (service == rules::START) | ((rules::SUSPEND <= service) & (service <= rules::SLEEP))
+}
+
 // One accepted call. Blank looks at nothing. Any other is served by the effective priorities before it, and at its end all tasks
-// whose effective priority changed are put in order (M-108); the number ahead is the same before that and after. Start, Suspend,
-// Resume, Yield and Sleep leave who waits for whom as it was, so nobody is asked after them.
+// whose effective priority changed are put in order (M-108); the number ahead is the same before that and after. After a calm
+// call nobody is asked.
 fn serve_call(t: &mut [u32], ts: usize, keys: &[u32; 16], c: Call) -> Served
     requires { ⌜ 8 ≤ ts ⌝ }
     requires { ⌜ ts ≤ 9 ⌝ }
@@ -169,9 +189,9 @@ fn serve_call(t: &mut [u32], ts: usize, keys: &[u32; 16], c: Call) -> Served
         return Served { ahead: 0 };
     }
     let n = t[records::TASKS] as usize;
+    let calm = is_calm(&*t, ts, c);
     let served = serve_one(t, ts, keys, c);
-    let service = c.service;
-    if (service == rules::START) | ((rules::SUSPEND <= service) & (service <= rules::SLEEP)) {
+    if calm {
         return served;
     }
     reorder::reorder(t, ts, keys, n);

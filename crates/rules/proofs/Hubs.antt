@@ -81,7 +81,7 @@ module _ (key : ℕ → ℕ) where
   unfolding core joinHub queued
   hubs-join h i s = hubs-set h (queued (insert key i (hub s h .waiters)) (hub s h)) s refl
 
-  hubs-wait : (s : State) (c : Call) → SameHubs s (wait key s c)
+  pub hubs-wait : (s : State) (c : Call) → SameHubs s (wait key s c)
   unfolding wait
   hubs-wait s c = hubs-trans s s₁ _ (unfold setTask in hubs-left (c .caller) s s₁ refl) (hubs-join (c .target) (c .caller) s₁)
     where

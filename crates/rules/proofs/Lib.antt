@@ -17,6 +17,7 @@ pub mod Layouts
 pub mod Least
 pub mod Lengths
 pub mod Listed
+pub mod Lockless
 pub mod Meaning
 pub mod Numbers
 pub mod Order

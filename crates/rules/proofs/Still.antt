@@ -69,7 +69,7 @@ module _ (i a w : ℕ) (s : State) where
   unfolding answer
   answer-keeps f e = set-keeps s i (answered a w (task s i)) f e
 
-  answer-waits : SameWaits s (answer i a w s)
+  pub answer-waits : SameWaits s (answer i a w s)
   unfolding answered
   answer-waits =
       same-waits s (answer i a w s) (answer-keeps (λ (t : Task). t .state) refl) (answer-keeps (λ (t : Task). t .hub) refl)

@@ -59,6 +59,17 @@ unfolding meetAll
 meet-priority key [] s j = refl
 meet-priority key (m ∷ ms) s j = meet-priority key ms _ j ∙ wake-priority key (m .waiter) 1 (m .word) s j
 
+-- a waiter's record and a hub's kind and count, where they are the same
+pub same-wait : (s₁ s₂ : State) (j i : ℕ) (w : WaitsFor s₁ j i) → task s₂ j ≡ task s₁ j → core (hub s₂ (w .at)) ≡ core (hub s₁ (w .at)) → WaitsFor s₂ j i
+unfolding core queued
+same-wait s₁ s₂ j i w t h = record {
+  at = w .at;
+  waiting = ap (λ (y : Task). y .state) t ∙ w .waiting;
+  there = ap (λ (y : Task). y .hub) t ∙ w .there;
+  resource = ap (λ (y : Hub). kindOf (y .kind)) h ∙ w .resource;
+  owned = ap (λ (y : Hub). y .count) h ∙ w .owned;
+}
+
 module _ (s : State) (v : Valid s) (c : Call) (ok : refusalFor HubRequest s c ≡ 0)
     (n : ℕ) (ws : List ℕ) (x : ℕ) (ms : List Meeting) (is : verdict s c ≡ met n ws x ms)
     (lock : kindOf (hub s (c .target) .kind) ≡ Resource → c .side ≡ 2) where
@@ -86,17 +97,6 @@ module _ (s : State) (v : Valid s) (c : Call) (ok : refusalFor HubRequest s c �
   apart : (j i : ℕ) (w : WaitsFor s j i) → Apart ms j
   apart j i w =
       each-map _ _ (λ m q e. nobody j i w (let h : task s j .hub ≡ suc (c .target) = ap (λ (k : ℕ). task s k .hub) e ∙ q .hub in omega (arith, h, w .there))) ms with-these
-
-  -- a waiter's record and a hub's kind and count, where they are the same
-  same-wait : (s₁ s₂ : State) (j i : ℕ) (w : WaitsFor s₁ j i) → task s₂ j ≡ task s₁ j → core (hub s₂ (w .at)) ≡ core (hub s₁ (w .at)) → WaitsFor s₂ j i
-  unfolding core queued
-  same-wait s₁ s₂ j i w t h = record {
-    at = w .at;
-    waiting = ap (λ (y : Task). y .state) t ∙ w .waiting;
-    there = ap (λ (y : Task). y .hub) t ∙ w .there;
-    resource = ap (λ (y : Hub). kindOf (y .kind)) h ∙ w .resource;
-    owned = ap (λ (y : Hub). y .count) h ∙ w .owned;
-  }
 
   forth : (j i : ℕ) → WaitsFor s j i → WaitsFor done j i
   forth j i w =
@@ -128,6 +128,9 @@ module _ (s : State) (v : Valid s) (c : Call) (ok : refusalFor HubRequest s c �
       meet-priority (effective s) ms _ j
       ∙ set-keeps (hold (c .target) n ws s) (c .caller) (answered 1 x (task s (c .caller))) (λ (t : Task). t .priority) refl j
 
+  pub met-waits : SameWaits s done
+  met-waits = record { forth = forth; back = back; own = own }
+
   -- a met caller, and everybody else, keeps its place
   pub met-still : reordered s (serve (effective s) HubRequest s c) ≡ serve (effective s) HubRequest s c
   unfolding serve
@@ -135,5 +138,5 @@ module _ (s : State) (v : Valid s) (c : Call) (ok : refusalFor HubRequest s c �
       let g = unsorted-serve (effective s) HubRequest s c (valid-unsorted s v) ok in
       let same : settle (effective s) (verdict s c) s c ≡ done = rw is in
       alike-still s (settle (effective s) (verdict s c) s c)
-      (subst (SameWaits s) (sym same) (record { forth = forth; back = back; own = own }))
+      (subst (SameWaits s) (sym same) met-waits)
       (unsorted-sound s (valid-unsorted s v)) (unsorted-sound _ g) (unsorted-low s (valid-unsorted s v)) (unsorted-low _ g)
