@@ -276,18 +276,25 @@ static load draw_changing(const char *name, const layout *form)
 
 /* ---- The work ---------------------------------------------------------- */
 
-static uint32_t kernel_calls(const load *it, uint8_t *bytes, uint32_t *words)
+/* A kernel's calls: this commit's, or an earlier one's that is linked beside it. */
+static inline __attribute__((always_inline)) uint32_t calls_by(__typeof__(hub_kernel_call) *kernel,
+                                                               const load *it, uint8_t *bytes)
 {
     uint32_t sum = 0;
 
-    (void)words;
     for (uint32_t i = 0; i < it->count; i++) {
         const uint32_t *call = it->calls[i];
-        hub_kernel_reply reply = hub_kernel_call(bytes, bytes_of(it), call[0], call[1], call[2],
-                                                 call[3], call[4], call[5], call[6], call[7]);
+        hub_kernel_reply reply = kernel(bytes, bytes_of(it), call[0], call[1], call[2], call[3],
+                                        call[4], call[5], call[6], call[7]);
         sum += reply.next + reply.ahead;
     }
     return sum;
+}
+
+static uint32_t kernel_calls(const load *it, uint8_t *bytes, uint32_t *words)
+{
+    (void)words;
+    return calls_by(hub_kernel_call, it, bytes);
 }
 
 static uint32_t second_byte_calls(const load *it, uint8_t *bytes, uint32_t *words)
@@ -476,6 +483,19 @@ static double median(uint64_t *times, uint32_t rounds)
     return (double)times[rounds / 2] / CALLS;
 }
 
+/* One round of one side, on the table anew. */
+static uint64_t time_round(const load *it, work side, uint32_t *sum)
+{
+    uint8_t bytes[BYTES_MOST];
+    uint32_t words[WORDS_MOST];
+
+    memcpy(bytes, it->bytes, bytes_of(it));
+    memcpy(words, it->words, bytes_of(it));
+    uint64_t since = nanoseconds();
+    *sum = side(it, bytes, words);
+    return nanoseconds() - since;
+}
+
 /* Prints a row; gives what a call of the kernel took. */
 static double measure(const load *it, const work sides[SIDES], uint32_t rounds)
 {
@@ -484,16 +504,8 @@ static double measure(const load *it, const work sides[SIDES], uint32_t rounds)
     uint32_t sums[SIDES];
 
     for (uint32_t round = 0; round < rounds; round++)
-        for (int side = 0; side < SIDES; side++) {
-            uint8_t bytes[BYTES_MOST];
-            uint32_t words[WORDS_MOST];
-
-            memcpy(bytes, it->bytes, bytes_of(it));
-            memcpy(words, it->words, bytes_of(it));
-            uint64_t since = nanoseconds();
-            sums[side] = sides[side](it, bytes, words);
-            times[side][round] = nanoseconds() - since;
-        }
+        for (int side = 0; side < SIDES; side++)
+            times[side][round] = time_round(it, sides[side], &sums[side]);
     if (sums[KERNEL] != sums[SECOND_BYTES] || sums[KERNEL] != sums[SECOND_WORDS]) {
         printf("%s: FAILED, the two programs differ\n", it->name);
         exit(1);
@@ -602,6 +614,30 @@ static int measure_worst(const layout *form, double mixed)
     return most <= WORST_MOST * mixed;
 }
 
+#ifdef EARLIER
+/* The archive of an earlier commit, its names behind earlier_ (tests/bench/against). */
+__typeof__(hub_kernel_call) earlier_hub_kernel_call;
+
+static uint32_t earlier_calls(const load *it, uint8_t *bytes, uint32_t *words)
+{
+    (void)words;
+    return calls_by(earlier_hub_kernel_call, it, bytes);
+}
+
+/* The kernel's time over the earlier one's, in turns. What they answer may differ: a change
+ * request may have come between. */
+static double over_earlier(const load *it, uint32_t rounds)
+{
+    static uint64_t now[ROUNDS_MAX], then[ROUNDS_MAX];
+    uint32_t sum;
+
+    for (uint32_t round = 0; round < rounds; round++) {
+        now[round] = time_round(it, kernel_calls, &sum);
+        then[round] = time_round(it, earlier_calls, &sum);
+    }
+    return median(now, rounds) / median(then, rounds);
+}
+#else
 /* The kernel's side alone, for a counter of instructions around the program. */
 static uint32_t repeat(const load *it, work side, uint32_t rounds)
 {
@@ -615,6 +651,7 @@ static uint32_t repeat(const load *it, work side, uint32_t rounds)
     }
     return sum;
 }
+#endif
 
 /* ---- The rows ---------------------------------------------------------- */
 
@@ -711,7 +748,16 @@ int main(int count, char **words)
 
     if (alone != 0) {
         const row *it = &rows[alone - 1];
+#ifdef EARLIER
+        if (it->sides != calls) {
+            fprintf(stderr, "bench: row %ld makes no calls: %s\n", alone, it->of.name);
+            return 2;
+        }
+        printf("%.3f %s, edition %d\n", over_earlier(&it->of, (uint32_t)rounds), it->of.name,
+               it->of.form->edition);
+#else
         printf("%" PRIu32 "\n", repeat(&it->of, it->sides[KERNEL], (uint32_t)rounds));
+#endif
         return 0;
     }
     printf("%-37s %35s  %26s\n", "", "ns a call", "kernel's time over");
