@@ -496,8 +496,8 @@ static uint64_t time_round(const load *it, work side, uint32_t *sum)
     return nanoseconds() - since;
 }
 
-/* Prints a row; gives what a call of the kernel took. */
-static double measure(const load *it, const work sides[SIDES], uint32_t rounds)
+/* Prints a row. */
+static void measure(const load *it, const work sides[SIDES], uint32_t rounds)
 {
     static uint64_t times[SIDES][ROUNDS_MAX];
     double took[SIDES];
@@ -516,7 +516,6 @@ static double measure(const load *it, const work sides[SIDES], uint32_t rounds)
            took[SECOND_BYTES], took[SECOND_WORDS], took[FLOOR], took[KERNEL] / took[SECOND_BYTES],
            took[KERNEL] / took[SECOND_WORDS], took[KERNEL] / took[FLOOR]);
     fflush(stdout);
-    return took[KERNEL];
 }
 
 /* ---- The worst call ---------------------------------------------------- */
@@ -585,33 +584,43 @@ static const char *draw_family(gen_random *random, uint32_t edition, size_t fami
     return well_formed == WITH_CALLS + 1 ? "set-ups" : "tables";
 }
 
-/* Whether the worst call is within the bound. `mixed` is what a mixed call takes. */
-static int measure_worst(const layout *form, double mixed)
+/* Finds the worst call, then times it and a mixed one in turns, since the machine may have become
+ * slower or faster meanwhile. Whether it is within the bound. */
+static int measure_worst(const layout *form, const load *mixed)
 {
-    size_t families = gen_damages(form->edition) + OTHERS;
-    uint32_t words[WORDS_MOST], call[CALL_NUMBERS];
-    const char *worst = "";
+    size_t families = gen_damages(form->edition) + OTHERS, length = 4 * (size_t)form->words;
+    uint32_t words[WORDS_MOST], call[CALL_NUMBERS], worst_words[WORDS_MOST], worst[CALL_NUMBERS], sum;
+    static uint64_t most_times[WORST_AGAIN], mixed_times[WORST_AGAIN];
+    const char *family = "";
     gen_random random;
     double most = 0;
 
     gen_seed(&random, form->edition);
     for (size_t i = 0; i < WORST_TABLES * families; i++) {
         const char *name = draw_family(&random, form->edition, i % families, words, call);
-        double took = least_time(words, 4 * (size_t)form->words, call);
+        double took = least_time(words, length, call);
         /* other work on the machine may outlast the tries: who seems to be the worst is asked again */
         for (int again = 0; took > most && again < WORST_AGAIN; again++) {
-            double later = least_time(words, 4 * (size_t)form->words, call);
+            double later = least_time(words, length, call);
             took = later < took ? later : took;
         }
         if (took > most) {
             most = took;
-            worst = name;
+            family = name;
+            memcpy(worst_words, words, length);
+            memcpy(worst, call, sizeof call);
         }
     }
+    for (int again = 0; again < WORST_AGAIN; again++) {
+        most_times[again] = (uint64_t)least_time(worst_words, length, worst);
+        mixed_times[again] = time_round(mixed, kernel_calls, &sum);
+    }
+    most = median(most_times, WORST_AGAIN) * CALLS; /* one call's, not a round's */
+    double over = most / median(mixed_times, WORST_AGAIN);
     printf("the worst call, edition %" PRIu32 ": %.0f ns, %.2f times a mixed one (at most %d), "
            "of %zu families: %s\n",
-           form->edition, most, most / mixed, (int)WORST_MOST, families, worst);
-    return most <= WORST_MOST * mixed;
+           form->edition, most, over, (int)WORST_MOST, families, family);
+    return over <= WORST_MOST;
 }
 
 #ifdef EARLIER
@@ -707,23 +716,18 @@ static void draw_lock_rows(row *rows, const layout *form)
 }
 
 /* Gives what a call of the kernel took in the first row, the mixed calls. */
-static double print_edition(const row *rows, uint32_t rounds)
+static void print_edition(const row *rows, uint32_t rounds)
 {
-    double mixed;
-
     printf("edition %" PRIu32 "; longest waiting list, mean over the calls: %.1f at 8/8, %.1f at 16/16\n",
            rows->of.form->edition, (double)rows[0].of.entries / CALLS,
            (double)rows[1].of.entries / CALLS);
-    mixed = measure(&rows[0].of, rows[0].sides, rounds);
-    for (int i = 1; i < ROWS_OF_EDITION; i++)
+    for (int i = 0; i < ROWS_OF_EDITION; i++)
         measure(&rows[i].of, rows[i].sides, rounds);
-    return mixed;
 }
 
 int main(int count, char **words)
 {
     static row rows[ROWS]; /* edition 1, edition 2, the moves, the comparisons, the locks */
-    double mixed[EDITIONS];
     int fine = 1;
     long rounds = count == 2 || count == 3 ? atol(words[1]) : 0;
     long alone = count == 3 ? atol(words[2]) : 0;
@@ -764,7 +768,7 @@ int main(int count, char **words)
     printf("%-37s %8s %8s %8s %8s  %8s %8s %8s\n", "", "kernel", "C bytes", "C words", "floor",
            "C bytes", "C words", "floor");
     for (int i = 0; i < EDITIONS; i++)
-        mixed[i] = print_edition(rows + i * ROWS_OF_EDITION, (uint32_t)rounds);
+        print_edition(rows + i * ROWS_OF_EDITION, (uint32_t)rounds);
     printf("moves\n");
     for (int i = MOVES_AT; i < COMPARES_AT; i++)
         measure(&rows[i].of, rows[i].sides, (uint32_t)rounds);
@@ -777,7 +781,7 @@ int main(int count, char **words)
         measure(&rows[i].of, rows[i].sides, (uint32_t)rounds);
     }
     for (int i = 0; i < EDITIONS; i++)
-        fine = measure_worst(&layouts[i], mixed[i]) && fine;
+        fine = measure_worst(&layouts[i], &rows[i * ROWS_OF_EDITION].of) && fine;
     if (!fine)
         printf("bench: FAILED, a call takes more than %d times a mixed one\n", (int)WORST_MOST);
     return fine ? 0 : 1;
