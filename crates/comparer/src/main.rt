@@ -107,7 +107,7 @@ fn main() {
     let other = io::read_full(SECOND, &mut second);
     let mut old = [0u32; records::TABLE_SIZE_TWO];
     let mut new = [0u32; records::TABLE_SIZE_TWO];
-    let n = pairs::table_words(&first[..came], &mut old);
-    let m = pairs::table_words(&second[..other], &mut new);
+    let n = tablebytes::table_words(&first[..came], &mut old);
+    let m = tablebytes::table_words(&second[..other], &mut new);
     compare(&old[..n], &new[..m], came, other);
 }

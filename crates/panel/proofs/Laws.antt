@@ -1,14 +1,13 @@
 -- Laws of the definitions of specs/Edge.antt, one for each way out of the exported functions: the bytes of a table of either edition, and
 -- of what is done over its words; another length. And what a refused call leaves (`refused-keeps`).
 -- Not here: words from bytes and back (crate bytes4). Assumes nothing.
-use Prim.Native.Nat.{_*_, suc, zero, ℕ}
-use Rattle.bytes4.proofs.Laws.{length-bytes}
+use Prim.Native.Nat.{suc, zero, ℕ}
 use Rattle.bytes4.specs.Bytes.{Packed, Unpacked, bytesOf, wordsFrom}
 use Rattle.differences.specs.Differences.{Compares}
 use Rattle.differences.specs.declared.Compared.{Compared}
 use Rattle.listing.specs.Listing.{ListedFrom}
 use Rattle.listing.specs.declared.Listed.{Listed}
-use Rattle.panel.specs.Edge.{Called, ComparedBytes, InFront, ListedBytes, bytesIn, compareNumbersOf, edgeAfter, edgeListing, edgeMove, edgeReply, edgeSummary, edgeText, fits, listingNumbersOf, numbersOf, summaryNumbersOf, tableWords}
+use Rattle.panel.specs.Edge.{Called, ComparedBytes, ListedBytes, compareNumbersOf, edgeAfter, edgeListing, edgeMove, edgeReply, edgeSummary, edgeText, listingNumbersOf, numbersOf, summaryNumbersOf}
 use Rattle.panel.specs.declared.HubKernelListingReply.{HubKernelListingReply}
 use Rattle.panel.specs.declared.HubKernelReply.{HubKernelReply}
 use Rattle.panel.specs.declared.HubKernelSummaryReply.{HubKernelSummaryReply}
@@ -18,14 +17,14 @@ use Rattle.rules.specs.Table.{Layout, State, one, two}
 use Rattle.rules.specs.declared.Call.{Call}
 use Rattle.rules.specs.declared.Reply.{Reply}
 use Rattle.rules.specs.declared.Summary.{Summary}
+use Rattle.tablebytes.proofs.Laws.{fits-none}
+use Rattle.tablebytes.specs.TableBytes.{InFront, bytesIn, fits}
 use borrow.Author.Tests.{eq-eqb, ne-eqb}
 use lib.Dec.{eqb}
-use lib.ListN.{length, length-append, take}
-use lib.Seq.{take-at}
-use mathlib.Core.Bool.{and-false, false, false≢true, or-true, true}
-use mathlib.Core.List.{List, [], _++_, append-nil}
+use lib.ListN.{length, take}
+use mathlib.Core.Bool.{and-false, false, false≢true, true}
+use mathlib.Core.List.{List}
 use mathlib.Core.Path.{_∙_, _≡_, ap, refl, sym}
-use native.Mathlib.Omega.{arith}
 
 -- ---- "no word of the table changes" where the reply bears a refusal
 
@@ -37,29 +36,6 @@ refused-keeps-by L (suc n) t s c r = refl
 refused-keeps : (t : List ℕ) (c : Call) → (refusalNumber (replyTo t c .answer) ≡ 0 → ⊥) → tableAfter t c ≡ t
 unfolding replyIn tableIn
 refused-keeps t c r = refused-keeps-by _ _ t _ c r
-
--- ---- the bytes of a table of either edition
-
-pub fits-one : (b : List ℕ) → length b ≡ bytesIn one → fits b ≡ true
-unfolding fits
-fits-one b h = rw (eq-eqb (length b) (bytesIn one) h) refl
-
-pub fits-two : (b : List ℕ) → length b ≡ bytesIn two → fits b ≡ true
-unfolding fits
-fits-two b h = rw (eq-eqb (length b) (bytesIn two) h, or-true (eqb (length b) (bytesIn one))) refl
-
-fits-none : (b : List ℕ) → (length b ≡ bytesIn one → ⊥) → (length b ≡ bytesIn two → ⊥) → fits b ≡ false
-unfolding fits
-fits-none b h k = rw (ne-eqb (length b) (bytesIn one) h, ne-eqb (length b) (bytesIn two) k) refl
-
--- the words of a table of either edition, and none
-table-is : (b : List ℕ) → fits b ≡ true → tableWords b ≡ wordsFrom b
-unfolding tableWords
-table-is b h = rw h refl
-
-table-none : (b : List ℕ) → fits b ≡ false → tableWords b ≡ []
-unfolding tableWords
-table-none b h = rw h refl
 
 -- ---- the ways out of a call
 
@@ -148,24 +124,6 @@ module _ (L M : Layout) (refusal : List ℕ → ℕ) (done : List ℕ → List �
           number = rw (eq-eqb (length from) (bytesIn L) h, eq-eqb (length to) (bytesIn M) k, ← u .words) (m .number);
           table = rw (eq-eqb (length from) (bytesIn L) h, eq-eqb (length to) (bytesIn M) k, ← u .words, e) (w .bytes ∙ ap bytesOf (rw e at (m .table)));
         }
-
--- ---- the words of a table in front of an array: in a part of it, in all of it, and none
-
-module _ (b : List ℕ) where
-  pub in-front : (n : ℕ) → fits b ≡ true → length b ≡ 4 * n → {t : List ℕ} → Unpacked b t → (rest : List ℕ) → InFront b (t ++ rest) n
-  in-front n h k {t} u rest =
-      let whole : length b ≡ 4 * length t = ap length (sym (u .back)) ∙ length-bytes t in
-      let m : length t ≡ n = omega (arith, whole, k) in
-      record {
-        front = take-at t rest n m ∙ u .words ∙ sym (table-is b h);
-        room = rw (length-append t rest) (omega (arith, m));
-      }
-
-  pub all-in-front : (n : ℕ) → fits b ≡ true → length b ≡ 4 * n → {t : List ℕ} → Unpacked b t → InFront b t n
-  all-in-front n h k {t} u = rw (append-nil t) at (in-front n h k u [])
-
-  pub none-in-front : (length b ≡ bytesIn one → ⊥) → (length b ≡ bytesIn two → ⊥) → (t : List ℕ) → InFront b t 0
-  none-in-front h k t = record { front = sym (table-none b (fits-none b h k)); room = omega arith }
 
 -- ---- the way out of a comparison
 

@@ -1,7 +1,8 @@
 -- "Panel edges": the calls over bytes, for every byte length and every content, by the calls over words.
 -- `edgeReply`, `edgeAfter`, `edgeSummary`, `edgeListing`, `edgeText`, `edgeUp`, `edgeDown` and `ComparedBytes` are what the exported functions promise.
--- Not here: words from bytes and back (crate bytes4), the rules (crate rules).
-use Prim.Native.Nat.{_*_, _≤_, ℕ}
+-- Not here: words from bytes and back (crate bytes4), a table's bytes (`bytesIn`, `fits`, `tableWords`: crate tablebytes), the rules
+-- (crate rules).
+use Prim.Native.Nat.{ℕ}
 use Rattle.bytes4.specs.Bytes.{bytesOf, wordsFrom}
 use Rattle.differences.specs.Differences.{bufferAfter, compareReply}
 use Rattle.differences.specs.declared.Compared.{Compared}
@@ -17,10 +18,11 @@ use Rattle.rules.specs.Table.{Layout, one, size, two}
 use Rattle.rules.specs.declared.Call.{Call}
 use Rattle.rules.specs.declared.Reply.{Reply}
 use Rattle.rules.specs.declared.Summary.{Summary}
+use Rattle.tablebytes.specs.TableBytes.{bytesIn, fits, tableWords}
 use lib.Dec.{eqb}
-use lib.ListN.{length, take}
-use mathlib.Core.Bool.{Bool, _&&_, _||_, cond, true}
-use mathlib.Core.List.{List, []}
+use lib.ListN.{length}
+use mathlib.Core.Bool.{_&&_, cond, true}
+use mathlib.Core.List.{List}
 use mathlib.Core.Path.{_≡_}
 
 -- "and the call's numbers", in the order of the arguments; the eighth is the high word (M-105)
@@ -34,14 +36,6 @@ numbersOf r = record { refusal = refusalNumber (r .answer); answer = answerNumbe
 
 abbrev pub summaryNumbersOf : Summary → HubKernelSummaryReply
 summaryNumbersOf s = record { refusal = s .refusal; mask = s .mask; count = s .count }
-
--- "2,400 bytes" in edition 1, "2,976 bytes" in edition 2
-abbrev pub bytesIn : Layout → ℕ
-bytesIn L = 4 * size L
-
--- the bytes are as many as a table of either edition has
-unfoldable pub fits : List ℕ → Bool
-fits b = eqb (length b) (bytesIn one) || eqb (length b) (bytesIn two)
 
 -- ---- "hands the table as 2,400 bytes, words little-endian", with M-105 or as 2,976; "another byte length is refusal 1"
 
@@ -90,19 +84,9 @@ edgeDown from room = edgeMove two one (length from) room (downRefusal (wordsFrom
 
 -- ---- M-106: two tables compared, over bytes; the places are words
 
--- the words of a table of either edition. Other bytes are no table's, and count as none: no edition has a table without words, so
--- they are refusal 1
-unfoldable pub tableWords : List ℕ → List ℕ
-tableWords b = cond (fits b) (wordsFrom b) []
-
 abbrev pub compareNumbersOf : Compared → HubKernelCompareReply
 compareNumbersOf r = record { refusal = r .refusal; count = r .count }
 
 pub record ComparedBytes (first second places : List ℕ) (r : HubKernelCompareReply) (places′ : List ℕ) : Type 0 where
   pub reply : r ≡ compareNumbersOf (compareReply (tableWords first) (tableWords second) (length places))
   pub words : places′ ≡ bufferAfter (tableWords first) (tableWords second) places
-
--- what `table_words` leaves in an array: as many words as the table has, in front
-pub record InFront (b words : List ℕ) (n : ℕ) : Type 0 where
-  pub front : take n words ≡ tableWords b
-  pub room : n ≤ length words

@@ -1,20 +1,16 @@
 // The C edge: "A host program in C hands the table as 2,400 bytes, words little-endian, and the call's numbers"; a table of edition 2
 // has 2,976 (M-105). Thin over the word kernel. include/hub_kernel.h has the same six functions for C.
 ghost use Rattle.bytes4.specs.Bytes.{bytesOf, wordsFrom};
-ghost use Rattle.panel.specs.Edge.{Called, ComparedBytes, InFront, ListedBytes, callOf, edgeDown, edgeSummary, edgeUp, listingNumbersOf, numbersOf, summaryNumbersOf};
+ghost use Rattle.panel.specs.Edge.{Called, ComparedBytes, ListedBytes, callOf, edgeDown, edgeSummary, edgeUp, listingNumbersOf, numbersOf, summaryNumbersOf};
 ghost use Rattle.rules.specs.Editions.{Moved, movedDown, movedUp};
-ghost use Rattle.rules.specs.Table.{size, two};
 ghost use lib.ListN.{length};
 ghost use mathlib.Core.Path.{_≡_};
 use listing::Listed;
 use rules::Call;
 use rules::Reply;
 use rules::Summary;
-
-// "A host program in C hands the table as 2,400 bytes", and one of edition 2 as 2,976.
-const BYTES: usize = 4 * records::TABLE_SIZE;
-
-const BYTES_TWO: usize = 4 * records::TABLE_SIZE_TWO;
+use tablebytes::BYTES;
+use tablebytes::BYTES_TWO;
 
 #[repr(C)]
 pub struct HubKernelReply {
@@ -218,22 +214,6 @@ pub extern "C" fn hub_kernel_move_down(from: &[u8], to: &mut [u8]) -> u32
     refusal
 }
 
-// The words of a table, into the front of `words`, and how many they are; none where the bytes are no table's.
-fn table_words(table: &[u8], words: &mut [u32]) -> usize
-    requires { ⌜ length (now words) ≡ size two ⌝ }
-    ensures { λ n. ⌜ InFront (now (table .entry)) (now (words .exit)) n ⌝ }
-{
-    if table.len() == BYTES {
-        bytes4::unpack(table, &mut words[..records::TABLE_SIZE]);
-        return records::TABLE_SIZE;
-    }
-    if table.len() == BYTES_TWO {
-        bytes4::unpack(table, words);
-        return records::TABLE_SIZE_TWO;
-    }
-    0
-}
-
 // M-106: the differing places of two tables, into a lent buffer of words.
 #[no_mangle]
 pub extern "C" fn hub_kernel_compare(
@@ -245,8 +225,8 @@ pub extern "C" fn hub_kernel_compare(
 {
     let mut old = [0u32; records::TABLE_SIZE_TWO];
     let mut new = [0u32; records::TABLE_SIZE_TWO];
-    let n = table_words(first, &mut old);
-    let m = table_words(second, &mut new);
+    let n = tablebytes::table_words(first, &mut old);
+    let m = tablebytes::table_words(second, &mut new);
     let r = differences::compare(&old[..n], &new[..m], places);
     HubKernelCompareReply {
         refusal: r.refusal,

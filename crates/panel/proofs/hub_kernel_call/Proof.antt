@@ -1,7 +1,8 @@
 -- In each edition two ways out, a refused call and an accepted one; and another length. Assumes nothing.
-use Rattle.panel.proofs.Laws.{called-accepted, called-length, called-refused, fits-one, fits-two}
+use Rattle.panel.proofs.Laws.{called-accepted, called-length, called-refused}
 use Rattle.panel.proofs.hub_kernel_call.Statement.{statement}
 use Rattle.panel.proofs.hub_kernel_call.Tie as tie
+use Rattle.tablebytes.proofs.Laws.{fits-one, fits-two}
 use borrow.Author.Needs.{needs}
 
 slice-aggregate-unpack : tie.Need-slice-aggregate-unpack

@@ -1,7 +1,8 @@
 -- The words of a table of either edition are what is listed; another length. Assumes nothing.
-use Rattle.panel.proofs.Laws.{fits-one, fits-two, listed, listed-length}
+use Rattle.panel.proofs.Laws.{listed, listed-length}
 use Rattle.panel.proofs.hub_kernel_listing.Statement.{statement}
 use Rattle.panel.proofs.hub_kernel_listing.Tie as tie
+use Rattle.tablebytes.proofs.Laws.{fits-one, fits-two}
 use borrow.Author.Needs.{needs}
 
 slice-aggregate-unpack : tie.Need-slice-aggregate-unpack

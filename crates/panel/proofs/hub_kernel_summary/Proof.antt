@@ -1,7 +1,8 @@
 -- The words of a table of either edition are what the kernel sums up; another length. Assumes nothing.
-use Rattle.panel.proofs.Laws.{fits-one, fits-two, summed, summed-length}
+use Rattle.panel.proofs.Laws.{summed, summed-length}
 use Rattle.panel.proofs.hub_kernel_summary.Statement.{statement}
 use Rattle.panel.proofs.hub_kernel_summary.Tie as tie
+use Rattle.tablebytes.proofs.Laws.{fits-one, fits-two}
 use borrow.Author.Needs.{needs}
 
 slice-aggregate-unpack : tie.Need-slice-aggregate-unpack

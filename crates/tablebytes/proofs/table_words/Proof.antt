@@ -1,9 +1,9 @@
--- `pairs::table_words` meets its contract: the words of a table of edition 1, in front of the array; of edition 2, all of it; none of
+-- `tablebytes::table_words` meets its contract: the words of a table of edition 1, in front of the array; of edition 2, all of it; none of
 -- other bytes. Assumes nothing.
 use Prim.Native.Nat.{_*_, ℕ}
-use Rattle.pairs.proofs.Laws.{all-in-front, fits-one, fits-two, in-front, none-in-front}
-use Rattle.pairs.proofs.table_words.Statement.{statement}
-use Rattle.pairs.proofs.table_words.Tie as tie
+use Rattle.tablebytes.proofs.Laws.{all-in-front, fits-one, fits-two, in-front, none-in-front}
+use Rattle.tablebytes.proofs.table_words.Statement.{statement}
+use Rattle.tablebytes.proofs.table_words.Tie as tie
 use Rattle.rules.specs.Table.{one, size, two}
 use borrow.Author.Needs.{needs}
 use lib.ListN.{length, take}
