@@ -33,8 +33,8 @@ fn hubs_in(t: &[u32], ts: usize) -> usize
     if m < 16 { m } else { 16 }
 }
 
-// Whether hub h is a Resource with a waiter. Both words are read, whatever the first one says: a branch on each hub's kind goes
-// the wrong way so often that it costs more than the word.
+// Whether hub h is a Resource with a waiter. Both words are read, whatever the first one says, so that a loop over the hubs has no
+// branch for each of them.
 fn is_asked(t: &[u32], ts: usize, h: usize) -> bool
     requires { ⌜ Table ts (now t) ⌝ }
     requires { ⌜ h < 16 ⌝ }
@@ -143,7 +143,7 @@ fn over_waiters(t: &[u32], ts: usize, links: &[u32; 32], h: HubNo, depth: usize,
 }
 
 // The own priority of each task number; of a number not in use 0. The keys are written where the caller wants them, here and
-// below: sixteen words that are copied as soon as they are written make the machine wait.
+// below, and so are not copied.
 fn own_keys(t: &[u32], ts: usize, keys: &mut [u32; 16])
     requires { ⌜ Table ts (now t) ⌝ }
     requires { ⌜ length (now keys) ≡ 16 ⌝ }
