@@ -1,6 +1,7 @@
 // M-106: two tables of one edition compared, the differing places written into a lent buffer of words. Two passes over the
 // tables: how many places differ, and, where their entries fit, the entries themselves. The tables are only read.
 // Not here: when a table is well formed (crate wellformed).
+#![tactic(auto)]
 ghost use Rattle.std.specs.Prelude.{◌*◌, ◌≤◌, length, ◌≡◌};
 ghost use Rattle.differences.specs.Differences.{Compares, entries, entry_words, table_refusal};
 ghost use Rattle.std.proofs.lemmas.List.Edits.{sets};
@@ -9,7 +10,7 @@ ghost use Rattle.std.proofs.lemmas.List.Edits.{sets};
 const ENTRY_SIZE: usize = 3;
 
 // The refusal, and how many entries were written.
-#[derive(Drop)]
+#[derive(Clone, Copy)]
 pub struct Compared {
     pub refusal: u32,
     pub count: u32,

@@ -1,6 +1,7 @@
 // The drill runner: lines from standard input to its end, each answered on one table, which starts as all zeros, or as the bytes
 // that stand on a descriptor of their own. What is printed is the crate runner's to say; here are the reading and the writing, in
 // large blocks. A write that fails ends the program; behind the last line the table's bytes are left on another descriptor.
+#![tactic(auto)]
 ghost use Rattle.std.specs.Prelude.{◌*◌, ◌+◌, ◌≤◌, length, ◌≡◌};
 ghost use Rattle.bytes4.specs.Bytes.{Packed};
 ghost use Rattle.drill.specs.Tables.{Begun};
@@ -23,7 +24,7 @@ const LEAVE: i32 = 3;
 const BEGIN: i32 = 4;
 
 // The state behind a chunk and the place behind the text that waits to be written; or a write has failed.
-#[derive(Drop)]
+#[derive(Clone, Copy)]
 enum Turn {
     On(Scan, usize),
     Stop,

@@ -3,6 +3,7 @@
 // the lowest that is free, and whether the one named is out.
 // A message is one number; what a verdict says of messages is below any bound that those handed in are below.
 // Not here: where the words stand in the table, and what a verdict does to it.
+#![tactic(auto)]
 ghost use Rattle.std.specs.Prelude.{◌<◌, suc, ℕ, eqb, get_or, length, List, [], ◌≡◌};
 ghost use Rattle.hubtable.specs.Says.{Below, RecordOf, StoreBelow, met_with, says, store_after};
 ghost use Rattle.records.specs.Records.{first};
@@ -14,7 +15,7 @@ ghost use Rattle.std.proofs.Math.Option.{some};
 use records::HubRecord;
 
 // What becomes of the messages held. Of a Memory hub's marks: this block is out, this block is back.
-#[derive(Drop)]
+#[derive(Clone, Copy)]
 pub enum Store {
     Keep,
     Append(u64),
@@ -25,7 +26,7 @@ pub enum Store {
 }
 
 // What a met request does: the hub's count and words held, the caller's word, the waiter met with it, and its word.
-#[derive(Drop)]
+#[derive(Clone, Copy)]
 pub struct Meeting {
     pub count: u32,
     pub store: Store,
@@ -34,7 +35,7 @@ pub struct Meeting {
     pub its: u64,
 }
 
-#[derive(Drop)]
+#[derive(Clone, Copy)]
 pub enum Verdict {
     Met(Meeting),
     NotNow,

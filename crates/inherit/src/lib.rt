@@ -3,6 +3,7 @@
 // allowance that falls from 16, once for each task; the sixteen keys; the test of order by keys. Safe and ending on any
 // table; where the lists are exact, the rules'.
 // Not here: what an effective priority means (crate rules), the reordering at the end of a call, the services.
+#![tactic(auto)]
 ghost use Rattle.std.specs.Prelude.{◌<◌, min, get_or, length, ◌≡◌};
 ghost use Rattle.inherit.specs.Asked.{asked_owner, is_asked, nobody_asked};
 ghost use Rattle.inherit.specs.Keyed.{Keyed, Owned};

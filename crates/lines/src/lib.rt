@@ -1,6 +1,7 @@
 // The drill runner's line reader and line writer, over bytes. A line is read byte by byte into a state by value, so that it
 // may cross chunks of any size and an overlong line takes no memory. specs/Lines.antt says what a line is and what is printed.
 // Bytes are not counted: eight numbers take at most 87, so the limit of 90 turns no line away (proofs/Texts.antt).
+#![tactic(auto)]
 ghost use Rattle.std.specs.Prelude.{◌*◌, ◌+◌, ◌<◌, ◌≤◌, drop, length, [], ◌++◌, ◌∷◌, ◌≡◌};
 ghost use Rattle.lines.specs.Lines.{Put, bad_text, decimal, print_room, printed};
 ghost use Rattle.lines.specs.Scan.{byte_step, digit_step, is_fresh, line_of_scan, next_of, progress_of, push, space_step, start_of};
@@ -25,7 +26,7 @@ const ZERO: u8 = 48;
 const NINE: u8 = 57;
 
 // The eight numbers of a good line. The last is the high word of a message (M-105), read by hub requests only.
-#[derive(Drop)]
+#[derive(Clone, Copy)]
 pub struct Numbers {
     pub service: u32,
     pub caller: u32,
@@ -38,7 +39,7 @@ pub struct Numbers {
 }
 
 // A line that has ended: its numbers, or the number N that `line N bad` prints.
-#[derive(Drop)]
+#[derive(Clone, Copy)]
 pub enum Line {
     Good(Numbers),
     Bad(u64),
@@ -46,7 +47,7 @@ pub enum Line {
 
 // The line being read: its number, whether it is bad, whether a digit of the present field is read, the fields before that,
 // the value of the present one so far, and the numbers of those before.
-#[derive(Drop)]
+#[derive(Clone, Copy)]
 pub struct Scan {
     pub line: u64,
     pub bad: bool,
@@ -58,7 +59,7 @@ pub struct Scan {
 
 // What reading a chunk from a place on finds: a line's end, with the state for the next line and the place behind the
 // newline; or none, with the state at the chunk's end.
-#[derive(Drop)]
+#[derive(Clone, Copy)]
 pub enum Progress {
     Ended(Line, Scan, usize),
     More(Scan),

@@ -1,6 +1,7 @@
 // The listing of the table whose bytes stand on standard input, on standard output. A program has no exit status to set: the
 // refusal and a length go to a descriptor that the launcher reads, behind the listing, and nothing goes there where a write of
 // the listing has failed.
+#![tactic(auto)]
 ghost use Rattle.std.specs.Prelude.{◌*◌, length, ◌≡◌};
 ghost use Rattle.bytes4.specs.Bytes.{words_from};
 ghost use Rattle.lister.specs.Lister.{BytesListed, table_length};

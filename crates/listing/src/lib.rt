@@ -1,6 +1,7 @@
 // M-100: the set-up of a panel as text, written into a lent buffer. Two passes over the lines: how long they are, and, where
 // they fit, the lines themselves. The table is only read.
 // Not here: what a line's text is (crate lines).
+#![tactic(auto)]
 ghost use Rattle.std.specs.Prelude.{◌+◌, ◌<◌, ◌≤◌, length, ◌≡◌};
 ghost use Rattle.lines.specs.Lines.{Put};
 ghost use Rattle.listing.specs.Listing.{ListedFrom, ListedIn, line_at, lines_at, text_of_lines};
@@ -10,7 +11,7 @@ ghost use Rattle.rules.specs.Table.{Layout};
 use records::HubNo;
 
 // The refusal, and the length of what was written.
-#[derive(Drop)]
+#[derive(Clone, Copy)]
 pub struct Listed {
     pub refusal: u32,
     pub length: u32,

@@ -1,6 +1,7 @@
 // The Resources that a stopped task owns pass on (M-101), on a table that holds a state: each to its hub's first waiter, who is met,
 // or it becomes free.
 // Not here: the Stop itself (crate tasks).
+#![tactic(auto)]
 ghost use Rattle.std.specs.Prelude.{◌<◌, ◌≤◌, length, ◌≡◌};
 ghost use Rattle.moves.specs.Moves.{key_of};
 ghost use Rattle.records.specs.Records.{Table};

@@ -1,6 +1,7 @@
 // Document 01's "Others to run", each through kernel::call on a table of edition 2, as the runner's is, with every reply printed as
 // a line. The expected lines, the file `stdout`, are the second program's: tests/others/run makes the same calls through
 // second_call and compares.
+#![tactic(auto)]
 ghost use Rattle.std.specs.Prelude.{◌<◌, ◌≤◌, length};
 
 use libc::STDOUT_FILENO;

@@ -1,9 +1,10 @@
 // Two tables as bytes: their rows, for a host in C. Thin: what is shown is crate sidebyside's, a table's words crate tablebytes'. The
 // header for C is include/hub_kernel_rows.h.
+#![tactic(auto)]
 ghost use Rattle.pairs.specs.Pairs.{RowsOfBytes};
 
 #[repr(C)]
-#[derive(Drop)]
+#[derive(Clone, Copy)]
 pub struct HubKernelRowsReply {
     pub refusal: u32,
     pub length: u32,

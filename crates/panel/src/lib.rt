@@ -1,5 +1,6 @@
 // The C edge: "A host program in C hands the table as 2,400 bytes, words little-endian, and the call's numbers"; a table of edition 2
 // has 2,976 (M-105). Thin over the word kernel. include/hub_kernel.h has the same six functions for C.
+#![tactic(auto)]
 ghost use Rattle.bytes4.specs.Bytes.{bytes_of, words_from};
 ghost use Rattle.panel.specs.Edge.{Called, ComparedBytes, ListedBytes, call_of, edge_down, edge_summary, edge_up, listing_numbers_of, numbers_of, summary_numbers_of};
 ghost use Rattle.rules.specs.Editions.{Moved, moved_down, moved_up};
@@ -10,7 +11,7 @@ use rules::{Call, Reply, Summary};
 use tablebytes::{BYTES, BYTES_TWO};
 
 #[repr(C)]
-#[derive(Drop)]
+#[derive(Clone, Copy)]
 pub struct HubKernelReply {
     pub refusal: u32,
     pub answer: u32,
@@ -19,7 +20,7 @@ pub struct HubKernelReply {
 }
 
 #[repr(C)]
-#[derive(Drop)]
+#[derive(Clone, Copy)]
 pub struct HubKernelSummaryReply {
     pub refusal: u32,
     pub mask: u32,
@@ -27,14 +28,14 @@ pub struct HubKernelSummaryReply {
 }
 
 #[repr(C)]
-#[derive(Drop)]
+#[derive(Clone, Copy)]
 pub struct HubKernelListingReply {
     pub refusal: u32,
     pub length: u32,
 }
 
 #[repr(C)]
-#[derive(Drop)]
+#[derive(Clone, Copy)]
 pub struct HubKernelCompareReply {
     pub refusal: u32,
     pub count: u32,

@@ -2,6 +2,7 @@
 // lent slice of any length. What an edition fixes follows from one value, the number of words in a task record: `ts`, 8 in
 // edition 1, 9 in edition 2. What lies past the end of a slice reads as 0 and is not written.
 // Not here: what the words of a record mean (crate rules), and which records are in use.
+#![tactic(auto)]
 ghost use Rattle.std.specs.Prelude.{◌*◌, ◌+◌, ◌-◌, ◌<◌, ◌≤◌, get_or, length, set, ◌≡◌};
 ghost use Rattle.records.specs.Records.{RecordAt, RowAt, TaskRead, hub_at, hub_words, hubs_at, ready_at, store_size, stores_at, table_size, task_size_of, task_words, waits_at, width};
 ghost use Rattle.std.proofs.lemmas.List.Edits.{sets};
@@ -59,14 +60,14 @@ pub const LIMIT: usize = 2;
 pub const START: usize = 3;
 
 // "A task number and a hub number are two kinds of number and are never taken for each other."
-#[derive(Drop)]
+#[derive(Clone, Copy)]
 pub struct TaskNo(pub usize);
 
-#[derive(Drop)]
+#[derive(Clone, Copy)]
 pub struct HubNo(pub usize);
 
 // The "Task record", in the paper's order: a word for each field but the message, which is one number whatever the edition.
-#[derive(Drop)]
+#[derive(Clone, Copy)]
 pub struct TaskRecord {
     pub state: u32,
     pub suspended: u32,
@@ -79,7 +80,7 @@ pub struct TaskRecord {
 }
 
 // The "Hub record", likewise.
-#[derive(Drop)]
+#[derive(Clone, Copy)]
 pub struct HubRecord {
     pub kind: u32,
     pub count: u32,

@@ -1,6 +1,7 @@
 // "Refusal numbers, tested in this order": 3 to 7, and the running task, read from the words of a table.
 // Any words, any length, any numbers: where the words are those of a state, the answer is the rules'.
 // Not here: 1 and 2, the tests of the table itself.
+#![tactic(auto)]
 ghost use Rattle.std.specs.Prelude.{◌≤◌, suc, eqb, leb, ltb, ◌&&◌, not, ◌≡◌};
 ghost use Rattle.records.specs.Records.{task_at};
 ghost use Rattle.refusals.specs.Lookup.{found_hub, found_task, hubs_in, kind_in, tasks_in};
@@ -15,13 +16,13 @@ use records::{HubNo, TaskNo};
 use rules::Call;
 
 // What a lookup answers: the number as its own kind of number, or that it is not in use.
-#[derive(Drop)]
+#[derive(Clone, Copy)]
 pub enum FoundHub {
     InUse(HubNo),
     Unused,
 }
 
-#[derive(Drop)]
+#[derive(Clone, Copy)]
 enum FoundTask {
     InUse(TaskNo),
     Unused,

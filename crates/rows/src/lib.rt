@@ -1,6 +1,7 @@
 // Two tables of one edition side by side: which rows there are, one for each thing that people compare, and which of them are marked.
 // Which words a row covers is specs/Rows.antt.
 // Not here: what a row says (crate rowtexts).
+#![tactic(auto)]
 ghost use Rattle.std.specs.Prelude.{◌*◌, ◌+◌, ◌≤◌, ◌≡◌};
 ghost use Rattle.lists.specs.Lists.{bit};
 ghost use Rattle.rows.specs.Rows.{KeysOf, hub_row, marked_in, row_at, rows, task_row};
@@ -9,7 +10,7 @@ ghost use Rattle.rows.specs.Rows.{apart as Rows·apart, differ as Rows·differ, 
 use records::HubNo;
 
 // What a row is about. A number is a task's or a hub's.
-#[derive(Drop)]
+#[derive(Clone, Copy)]
 pub enum Row {
     Contents,
     ReadyList,

@@ -1,5 +1,6 @@
 // What a call hands over and what it gives back, and the paper's numbers by name. The rules themselves are in specs/, in the
 // order of document 01. Not here: the places and sizes of the table (crate records).
+#![tactic(auto)]
 ghost use Rattle.rules.specs.Reply.{answer_number, refusal_number};
 ghost use Rattle.rules.specs.Table.{kind_of, stored};
 ghost use Rattle.std.specs.Prelude.{◌≡◌};
@@ -107,7 +108,7 @@ pub const HIGH_WORD: u32 = 9;
 pub const OTHER_EDITION: u32 = 13;
 
 // "A call is seven numbers, each any 32-bit value", with M-105 eight: the message's high word.
-#[derive(Drop)]
+#[derive(Clone, Copy)]
 pub struct Call {
     pub service: u32,
     pub caller: u32,
@@ -120,7 +121,7 @@ pub struct Call {
 }
 
 // "carries one of three outcomes: nothing yet (answer 0), OK 1, FAIL 2"
-#[derive(Drop)]
+#[derive(Clone, Copy)]
 pub enum Outcome {
     NothingYet,
     Ok,
@@ -128,14 +129,14 @@ pub enum Outcome {
 }
 
 // An accepted call carries its outcome; a refused one bears its number of the refusal table.
-#[derive(Drop)]
+#[derive(Clone, Copy)]
 pub enum Answer {
     Accepted(Outcome),
     Refused(u32),
 }
 
 // "Next is the running task plus 1, or 0." Ahead: how many requests stand before the caller's, where it has to wait at a hub; else 0.
-#[derive(Drop)]
+#[derive(Clone, Copy)]
 pub struct Reply {
     pub answer: Answer,
     pub next: u32,
@@ -143,13 +144,13 @@ pub struct Reply {
 }
 
 // What an accepted call hands up besides the table.
-#[derive(Drop)]
+#[derive(Clone, Copy)]
 pub struct Served {
     pub ahead: u32,
 }
 
 // The hub summary: "one word with bit i set when task i waits there, and the number of set bits as count".
-#[derive(Drop)]
+#[derive(Clone, Copy)]
 pub struct Summary {
     pub refusal: u32,
     pub mask: u32,

@@ -1,6 +1,7 @@
 // The drill runner over slices: a line answered on a table, and the lines of a chunk of input answered into a buffer. It rests
 // on the kernel's and the line reader's promises alone. specs/Runner.antt says what is printed; reading and writing are the
 // program's (crate drill).
+#![tactic(auto)]
 ghost use Rattle.std.specs.Prelude.{◌+◌, ◌≤◌, length, [], ◌∷◌, ◌≡◌};
 ghost use Rattle.lines.specs.Lines.{print_room};
 ghost use Rattle.lines.specs.Scan.{last_of};
@@ -11,7 +12,7 @@ use rules::Call;
 
 // How far the lines of a chunk are answered: all that end in it, with the state behind the chunk and the place behind the
 // text; or those before a place of the chunk, the last number, where the buffer has no room for another line.
-#[derive(Drop)]
+#[derive(Clone, Copy)]
 pub enum Answered {
     Drained(Scan, usize),
     Full(Scan, usize, usize),

@@ -1,6 +1,7 @@
 // Two tables of one edition side by side, as text: each row (crate rows) with its text in either table and its mark (crate rowtexts), a
 // line for each. The lines are specs/RowLines.antt.
 // The rows are written into a buffer of our own first, so that a refusal leaves the caller's alone.
+#![tactic(auto)]
 ghost use Rattle.std.specs.Prelude.{◌<◌, ◌≤◌, length, ◌≡◌};
 ghost use Rattle.rows.specs.Rows.{KeysOf, marked_in, row_number, rows};
 ghost use Rattle.sidebyside.specs.RowLines.{line_text, row_text, rows_text};
@@ -10,7 +11,7 @@ ghost use Rattle.texts.specs.Texts.{Put};
 use rows::Row;
 
 // The refusal, how many bytes were written, and how many rows are marked.
-#[derive(Drop)]
+#[derive(Clone, Copy)]
 pub struct Shown {
     pub refusal: u32,
     pub length: u32,

@@ -1,6 +1,7 @@
 // A hub of a table that holds a state: its record and its store, read (`hub_at`, `held_at`, of a Memory hub's marks `is_out` and
 // `lowest_free`), and what a meeting does to its count and store (`hold_hub`).
 // Not here: what the hub says of a request (crate verdicts), its list of waiters (crate moves).
+#![tactic(auto)]
 ghost use Rattle.std.specs.Prelude.{◌<◌, ◌≤◌, pred, drop, get_or, length, set, [], ◌++◌, ◌∷◌, ◌≡◌};
 ghost use Rattle.hubtable.specs.Says.{RecordOf, StoreBelow, store_after};
 ghost use Rattle.messages.specs.Messages.{messages};

@@ -3,6 +3,7 @@
 // the buffer's end: so no function asks for room, and whether all of a text is there is seen from the last place.
 // Not here: what a cell says of a hub (crate hubtexts); which cells there are, in which order, and which are marked (crate
 // sidebyside).
+#![tactic(auto)]
 ghost use Rattle.std.specs.Prelude.{◌≤◌, pred, [], ◌++◌, ◌∷◌, ◌≡◌};
 ghost use Rattle.lines.specs.Lines.{decimal};
 ghost use Rattle.lists.specs.Lists.{numbers};

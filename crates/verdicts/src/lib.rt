@@ -1,6 +1,7 @@
 // What the hub that a request names says of it, on a table that holds a valid state: all that the hub table asks for is read off
 // the table (`judge`, of a Memory hub's blocks `judge_block`).
 // Not here: the hub table itself (crate hubtable), the update of a Board and what a verdict does (crate requests).
+#![tactic(auto)]
 ghost use Rattle.std.specs.Prelude.{◌<◌, ◌≤◌, ℕ, length, ◌≡◌};
 ghost use Rattle.hubtable.specs.Says.{Below, RecordOf, says};
 ghost use Rattle.messages.specs.Messages.{messages};

@@ -1,0 +1,18 @@
+-- `editions::set_tasks` meets its contract: the records so far are one run of stores. Assumes nothing.
+use Prim.Native.Nat.{◌-◌, ◌≤◌, ℕ}
+use Rattle.editions.proofs.Bodies.{length_record}
+use Rattle.editions.proofs.Joined.{joined_turn}
+use Rattle.editions.specs.Editions.{joined}
+use Rattle.records.specs.Records.{task_at, task_words}
+use borrow.Author.Rules.{rules}
+use lib.ListN.{length}
+use lib.Seq.{length-sets, sets}
+use mathlib.Core.Path.{◌∙◌, ◌≡◌, ap, refl}
+use native.Mathlib.Omega.{arith}
+use Rattle.editions.proofs.set_tasks.Given as goal
+
+abbrev pub invariant-loop-i : goal.invariant-loop-i
+invariant-loop-i l = (l.i ≤ 16) × (l.to ≡ sets l.initial.to 8 (joined l.i (λ j. task_words l.ts (task_at l.fs l.from j))))
+
+abbrev pub decreases-loop-i : goal.decreases-loop-i
+decreases-loop-i l = 16 - l.i

@@ -1,0 +1,11 @@
+-- `inherit::is_asked` meets its contract: the kind and the list's first word. Assumes nothing.
+use Prim.Native.Nat.{◌*◌, ◌+◌}
+use Rattle.inherit.proofs.Linking.{asked-words}
+use borrow.Author.Rules.{rules}
+use mathlib.Core.Path.{sym}
+use Rattle.inherit.proofs.is_asked.Goals as goal
+
+pub returns : goal.returns
+returns c L s y x w u =
+    let a = c.args in
+    rw (c.hubs_at.ensures, c.waits_at.ensures) (sym (asked-words L s y x a.h u a.t.now w))

@@ -1,0 +1,10 @@
+-- `kernel::call` meets its contract: `call_in`, in the edition that fits the length. Assumes nothing.
+use Rattle.rules.specs.Table.{edition_of}
+use Rattle.wellformed.proofs.Editions.{edition_laid_of}
+use borrow.Author.Rules.{rules}
+use Rattle.kernel.proofs.call.Goals as goal
+
+pub returns : goal.returns
+returns c =
+    let r = c.call_in.ensures (edition_of _) (edition_laid_of _ _ c.task_size-ts.ensures.value) in
+    record { reply = r.reply; table = r.table }

@@ -1,0 +1,24 @@
+-- `lines::put_five` meets its contract: five stores, one behind the other.
+use Rattle.lines.proofs.Putting.{put_five}
+use borrow.Author.Rules.{rules}
+use lib.ListN.{length-set}
+use native.Mathlib.Omega.{arith}
+use Rattle.lines.proofs.put_five.Goals as goal
+
+pub bounds-out-at-2 : goal.bounds-out-at-2
+bounds-out-at-2 c = simp length-set (omega arith)
+
+pub bounds-out-at-3 : goal.bounds-out-at-3
+bounds-out-at-3 c = simp length-set (omega arith)
+
+pub bounds-out-at-4 : goal.bounds-out-at-4
+bounds-out-at-4 c = simp length-set (omega arith)
+
+pub bounds-out-at-5 : goal.bounds-out-at-5
+bounds-out-at-5 c = simp length-set (omega arith)
+
+pub shape_of-out : goal.shape_of-out
+shape_of-out c = simp length-set
+
+pub returns : goal.returns
+returns c = let a = c.args in put_five a.out.now a.at a.a a.b a.c a.d a.e c.requires

@@ -1,0 +1,13 @@
+-- `listing::write_lines` meets its contract: the text so far and what is left is the whole. Assumes nothing.
+use Prim.Native.Nat.{◌+◌, ◌-◌, ◌≤◌}
+use Rattle.listing.proofs.Passes.{Filling, filling_begin, filling_end, filling_room, filling_turn}
+use Rattle.listing.specs.Listing.{line_at}
+use borrow.Author.Rules.{rules}
+use native.Mathlib.Omega.{arith}
+use Rattle.listing.proofs.write_lines.Given as goal
+
+abbrev pub invariant-loop-done : goal.invariant-loop-done
+invariant-loop-done l = (l.done ≤ 1 + l.n + l.m) × Filling (line_at l.ts l.t l.n) (1 + l.n + l.m) l.initial.text l.text l.at l.done
+
+abbrev pub decreases-loop-done : goal.decreases-loop-done
+decreases-loop-done l = 1 + l.n + l.m - l.done

@@ -1,0 +1,8 @@
+-- `lists::set_word` meets its contract: a store past the end is none. Assumes nothing.
+use borrow.Author.Rules.{rules}
+use lib.Seq.{set_out}
+use mathlib.Core.Path.{sym}
+use Rattle.lists.proofs.set_word.Goals as goal
+
+pub returns-else-i-s : goal.returns-else-i-s
+returns-else-i-s c = sym (set_out c.args.s.now c.args.i c.args.v c.if-i-s.false)

@@ -1,0 +1,6 @@
+-- The two functions of `rules` give the numbers of the answer. Assumes nothing.
+use borrow.Author.Rules.{rules}
+use Rattle.panel.proofs.numbers_of.Goals as goal
+
+pub returns : goal.returns
+returns c = cc

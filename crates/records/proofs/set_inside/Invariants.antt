@@ -1,0 +1,17 @@
+-- `records::set_inside` meets its contract. The loop's invariant: storing what is left from where it stands gives what was to be
+-- given. Assumes nothing.
+use Prim.Native.Nat.{◌+◌, ◌-◌, ◌≤◌}
+use borrow.Author.Rules.{rules}
+use lib.ListN.{drop, drop_of_length-le, length, length-set}
+use lib.Seq.{drop-cons, sets}
+use mathlib.Core.Path.{◌≡◌, refl}
+use native.Mathlib.Nat.{add-suc, add-zero}
+use native.Mathlib.Numerals.{add-one}
+use native.Mathlib.Omega.{arith}
+use Rattle.records.proofs.set_inside.Given as goal
+
+abbrev pub invariant-loop-k : goal.invariant-loop-k
+invariant-loop-k l = (l.k ≤ length l.words) × (length l.t ≡ length l.initial.t) × (sets l.t (l.p + l.k) (drop l.k l.words) ≡ sets l.initial.t l.p l.words)
+
+abbrev pub decreases-loop-k : goal.decreases-loop-k
+decreases-loop-k l = length l.words - l.k

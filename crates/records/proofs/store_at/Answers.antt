@@ -1,0 +1,6 @@
+-- `records::store_at` meets its contract. Assumes nothing.
+use borrow.Author.Rules.{rules}
+use Rattle.records.proofs.store_at.Goals as goal
+
+pub returns : goal.returns
+returns c = rw (c.store_size.ensures, c.stores_at.ensures) at c.row_at.ensures

@@ -1,0 +1,20 @@
+-- `rows::differ` meets its contract: what the words from here on say is what all say. Assumes nothing.
+use Prim.Native.Nat.{◌*◌, ◌+◌, ◌-◌, ◌≤◌}
+use Rattle.rows.proofs.Marks.{differ_begin, differ_end, differ_found, differ_same, differ_left}
+use Rattle.rows.specs.Rows.{differ}
+use borrow.Author.Rules.{rules}
+use mathlib.Core.Path.{◌∙◌, ◌≡◌, sym}
+use native.Mathlib.Omega.{arith}
+use Rattle.rows.proofs.differ.Goals as goal
+
+pub loop-j-init : goal.loop-j-init
+loop-j-init c = (omega arith, differ_begin c.args.a.now c.args.b.now (c.args.at + c.args.i * c.args.size + c.args.f) c.args.n)
+
+pub returns-then-old-new : goal.returns-then-old-new
+returns-then-old-new c = sym (differ_found c.args.a.now c.args.b.now (c.args.at + c.args.i * c.args.size + c.args.f) c.args.n c.loop-j.j c.loop-j-test.true _ _ _ (omega arith) c.field-old.ensures c.field-new.ensures c.if-old-new.true) ∙ c.loop-j.invariant.1
+
+pub loop-j-preserved : goal.loop-j-preserved
+loop-j-preserved c = (omega arith, sym (differ_same c.args.a.now c.args.b.now (c.args.at + c.args.i * c.args.size + c.args.f) c.args.n c.loop-j.j c.loop-j-test.true _ _ _ (omega arith) c.field-old.ensures c.field-new.ensures c.if-old-new.false) ∙ c.loop-j.invariant.1)
+
+pub returns : goal.returns
+returns c = sym (differ_end c.args.a.now c.args.b.now (c.args.at + c.args.i * c.args.size + c.args.f) c.args.n c.loop-j.j c.loop-j-test.false) ∙ c.loop-j.invariant.1

@@ -1,0 +1,17 @@
+-- `rows::task_row` meets its contract: by the number. Assumes nothing.
+use Rattle.rows.specs.Rows.{task_row}
+use borrow.Author.Tests.{eq-eqb, ne_eqb}
+use mathlib.Core.Path.{refl}
+use Rattle.rows.proofs.task_row.Goals as goal
+
+pub returns-then-j-eq0 : goal.returns-then-j-eq0
+unfolding task_row
+returns-then-j-eq0 c = rw (eq-eqb _ _ c.if-j-eq0.true) refl
+
+pub returns-then-j-eq1 : goal.returns-then-j-eq1
+unfolding task_row
+returns-then-j-eq1 c = rw (ne_eqb _ _ c.if-j-eq0.false, eq-eqb _ _ c.if-j-eq1.true) refl
+
+pub returns : goal.returns
+unfolding task_row
+returns c = rw (ne_eqb _ _ c.if-j-eq0.false, ne_eqb _ _ c.if-j-eq1.false) refl

@@ -1,0 +1,13 @@
+-- `texts::put_waits` meets its contract: by the side. Assumes nothing.
+use Rattle.texts.specs.Cells.{waits_text}
+use borrow.Author.Rules.{rules}
+use borrow.Author.Tests.{eq-eqb, ne_eqb}
+use Rattle.texts.proofs.put_waits.Goals as goal
+
+pub returns-then-side-eq-PUT : goal.returns-then-side-eq-PUT
+unfolding waits_text
+returns-then-side-eq-PUT c = rw (eq-eqb _ _ c.if-side-eq-PUT.true, ← c.named.ensures) c.put_between.ensures
+
+pub returns : goal.returns
+unfolding waits_text
+returns c = rw (ne_eqb _ _ c.if-side-eq-PUT.false, ← c.named-2.ensures) c.put_between-2.ensures

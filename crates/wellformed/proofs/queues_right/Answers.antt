@@ -1,0 +1,33 @@
+-- `wellformed::queues_right` meets its contract. The loop's invariant is `Passing`, in every layout: the lists so far are
+-- right, and marked. Assumes nothing.
+use Prim.Native.Nat.{◌-◌}
+use Rattle.rules.proofs.Layouts.{Laid, in_some}
+use Rattle.rules.specs.Table.{Layout}
+use Rattle.wellformed.proofs.Hubs.{Passing, passing_begin, passing_end, passing_low, passing_no, passing_step}
+use borrow.Author.Rules.{rules}
+use borrow.Author.Tests.{not-false, not-true}
+use Rattle.wellformed.proofs.queues_right.Goals as goal
+
+pub loop-h-init : goal.loop-h-init
+loop-h-init c L y = passing_begin _ _ _
+
+pub queue_right-requires : goal.queue_right-requires
+queue_right-requires c =
+    let l = c.loop-h in
+    let u = c.loop-h-test.true in
+    let low = in_some c.args.ts c.requires.used.low c.requires.used.high (λ L y. passing_low L _ _ l.marks l.h (l.invariant L y) c.requires.used c.requires.marks u) in record { used = c.requires.used; h_bound = u; marks = low; }
+
+pub returns-then-not-queue_right : goal.returns-then-not-queue_right
+returns-then-not-queue_right c L y =
+    let l = c.loop-h in
+    passing_no L _ _ l.marks l.h (l.invariant L y) c.loop-h-test.true c.queue_right.result _ (c.queue_right.ensures L y) (not-true _ c.if-not-queue_right.true)
+
+pub loop-h-preserved : goal.loop-h-preserved
+loop-h-preserved c L y =
+    let l = c.loop-h in
+    passing_step L _ _ l.marks l.h (l.invariant L y) c.loop-h-test.true c.queue_right.result _ (c.queue_right.ensures L y) (not-false _ c.if-not-queue_right.false)
+
+pub returns : goal.returns
+returns c L y =
+    let l = c.loop-h in
+    passing_end L _ _ l.marks l.h (l.invariant L y) c.loop-h-test.false

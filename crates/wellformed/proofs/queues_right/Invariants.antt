@@ -1,0 +1,15 @@
+-- `wellformed::queues_right` meets its contract. The loop's invariant is `Passing`, in every layout: the lists so far are
+-- right, and marked. Assumes nothing.
+use Prim.Native.Nat.{◌-◌}
+use Rattle.rules.proofs.Layouts.{Laid, in_some}
+use Rattle.rules.specs.Table.{Layout}
+use Rattle.wellformed.proofs.Hubs.{Passing, passing_begin, passing_end, passing_low, passing_no, passing_step}
+use borrow.Author.Rules.{rules}
+use borrow.Author.Tests.{not-false, not-true}
+use Rattle.wellformed.proofs.queues_right.Given as goal
+
+abbrev pub invariant-loop-h : goal.invariant-loop-h
+invariant-loop-h l = (L : Layout) → Laid l.ts L → Passing L l.t l.initial.marks l.marks l.h
+
+abbrev pub decreases-loop-h : goal.decreases-loop-h
+decreases-loop-h l = l.m - l.h

@@ -1,0 +1,24 @@
+-- `wellformed::tasks_right` meets its contract. The loop's invariant: the tasks so far are right, in every layout.
+-- Assumes nothing.
+use Prim.Native.Nat.{◌-◌, ◌≤◌, ℕ}
+use Rattle.bodies.proofs.Parts.{lent-long}
+use Rattle.bodies.proofs.Turns.{for_all_end, for_all-fail, for_all-none, for_all-step}
+use Rattle.rules.proofs.Layouts.{Laid}
+use Rattle.rules.specs.Table.{Layout, read}
+use Rattle.rules.specs.WellFormed.{for_all}
+use Rattle.wellformed.proofs.Turns.{record_task}
+use Rattle.wellformed.specs.Walks.{task_right}
+use borrow.Author.Rules.{rules}
+use borrow.Author.Tests.{not-false, not-true}
+use lib.ListN.{get_or}
+use mathlib.Core.Bool.{Bool, true}
+use mathlib.Core.List.{List}
+use mathlib.Core.Path.{◌∙◌, ◌≡◌, sym}
+use native.Mathlib.Omega.{arith}
+use Rattle.wellformed.proofs.tasks_right.Given as goal
+
+abbrev pub invariant-loop-i : goal.invariant-loop-i
+invariant-loop-i l = (l.i ≤ l.n) × ((L : Layout) → Laid l.ts L → for_all l.i (passes L l.t l.marks) ≡ true)
+
+abbrev pub decreases-loop-i : goal.decreases-loop-i
+decreases-loop-i l = l.n - l.i
