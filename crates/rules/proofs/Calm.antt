@@ -11,7 +11,7 @@ use Rattle.rules.proofs.Kept.{unsorted_low, unsorted_serve, unsorted_sound, vali
 use Rattle.rules.proofs.Quiet.{Other, is_resume, is_sleep, is_start, is_suspend, is_yield}
 use Rattle.rules.proofs.Still.{alike_still}
 use Rattle.rules.proofs.Valid.{Valid}
-use Rattle.rules.specs.Calls.{Resume, Service, Sleep, Start, Suspend, Yield, flag, grant, serve, service_of, slept, start, yielded}
+use Rattle.rules.specs.Calls.{AddHub, AddTask, Blank, flag, grant, HubRequest, Resume, serve, Service, service_of, Sleep, slept, Start, start, Stop, Suspend, Tick, Unknown, Yield, yielded}
 use Rattle.rules.specs.Lists.{answer, answered, asleep, flagged, join_ready, leave, queued, readied}
 use Rattle.rules.specs.Refusals.{refusal_for}
 use Rattle.rules.specs.Reorder.{reordered}
@@ -104,13 +104,20 @@ unfolding asleep leave slept
 rest_sleep s n i h = rest_set s (leave i s) i _ (rest_same s (leave i s) (λ j. refl)) (apart1 _ _ h (λ e. omega (arith, e)) refl)
 
 calm_rest : (key : ℕ → ℕ) (v : Service) → Calm v → (s : State) (c : Call) → (task s c.caller).state ≡ 2 → Rest s (serve key v s c)
-unfolding is_inactive serve
+unfolding serve
 calm_rest key Start calm_start s c run =
     rest_grant _ s (start key c.target s) c (λ e. rest_start key s c.target (λ h. omega (arith, h, eqb-true (task s c.target).state 1 e)))
 calm_rest key Suspend calm_suspend s c run = rest_grant _ s (flag 1 c.target s) c (λ e. rest_flag s 1 c.target)
 calm_rest key Resume calm_resume s c run = rest_grant _ s (flag 0 c.target s) c (λ e. rest_flag s 0 c.target)
 calm_rest key Yield calm_yield s c run = rest_yield key s c.caller
 calm_rest key Sleep calm_sleep s c run = rest_sleep s c.ticks c.caller (λ h. omega (arith, h, run))
+calm_rest key Blank x'' s c run = elim x'' [ ]
+calm_rest key HubRequest x3 s c run = elim x3 [ ]
+calm_rest key Stop x4 s c run = elim x4 [ ]
+calm_rest key Tick x5 s c run = elim x5 [ ]
+calm_rest key AddTask x6 s c run = elim x6 [ ]
+calm_rest key AddHub x7 s c run = elim x7 [ ]
+calm_rest key Unknown x8 s c run = elim x8 [ ]
 
 calm_other : (v : Service) → Calm v → Other v
 calm_other Start calm_start = is_start
@@ -118,6 +125,13 @@ calm_other Suspend calm_suspend = is_suspend
 calm_other Resume calm_resume = is_resume
 calm_other Yield calm_yield = is_yield
 calm_other Sleep calm_sleep = is_sleep
+calm_other Blank x' = elim x' [ ]
+calm_other HubRequest x'' = elim x'' [ ]
+calm_other Stop x3 = elim x3 [ ]
+calm_other Tick x4 = elim x4 [ ]
+calm_other AddTask x5 = elim x5 [ ]
+calm_other AddHub x6 = elim x6 [ ]
+calm_other Unknown x7 = elim x7 [ ]
 
 calm_bears : (v : Service) → Calm v → bears_answer v ≡ true
 unfolding bears_answer
@@ -126,6 +140,13 @@ calm_bears Suspend calm_suspend = refl
 calm_bears Resume calm_resume = refl
 calm_bears Yield calm_yield = refl
 calm_bears Sleep calm_sleep = refl
+calm_bears Blank x' = elim x' [ ]
+calm_bears HubRequest x'' = elim x'' [ ]
+calm_bears Stop x3 = elim x3 [ ]
+calm_bears Tick x4 = elim x4 [ ]
+calm_bears AddTask x5 = elim x5 [ ]
+calm_bears AddHub x6 = elim x6 [ ]
+calm_bears Unknown x7 = elim x7 [ ]
 
 -- ---- the law
 

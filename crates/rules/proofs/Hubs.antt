@@ -7,7 +7,7 @@ use Rattle.rules.proofs.Changes.{hub-leave, hub-set_keeps, hub-set_other, hub-se
 use Rattle.rules.proofs.Passing.{pass_keeps}
 use Rattle.rules.proofs.Quiet.{Other, is_add_task, is_resume, is_sleep, is_start, is_suspend, is_tick, is_unknown, is_yield}
 use Rattle.rules.proofs.Verdicts.{hub_after}
-use Rattle.rules.specs.Calls.{AddTask, Resume, Service, Sleep, Start, Suspend, Tick, Unknown, Yield, add_started, add_task, carry_out, deactivate, flag, grant, hold, kept, meet_all, pass_all, serve, settle, slept, start, stop, tick_all, tick_by, tick_one, wait, yielded}
+use Rattle.rules.specs.Calls.{add_started, add_task, AddHub, AddTask, Blank, carry_out, deactivate, flag, grant, hold, HubRequest, kept, meet_all, pass_all, Resume, serve, Service, settle, Sleep, slept, Start, start, Stop, stop, Suspend, Tick, tick_all, tick_by, tick_one, Unknown, wait, Yield, yielded}
 use Rattle.rules.specs.HubTable.{Meeting, Verdict, fail, met, not_now}
 use Rattle.rules.specs.Lists.{answer, holding, join_hub, join_ready, leave, queued, unqueue, waits, wake}
 use Rattle.rules.specs.Table.{Hub, State, hub, no_hub, set_hub, set_ready, set_task, task}
@@ -117,6 +117,10 @@ hubs-serve key Sleep is_sleep s c = hubs_left c.caller s _ refl
 hubs-serve key Tick is_tick s c = hubs_tick key (length s.tasks) s
 hubs-serve key AddTask is_add_task s c = cond_case (SameHubs s) (eqb c.side 1) _ _ (λ _. hubs-refl s _ refl) (λ _. hubs-refl s _ refl)
 hubs-serve key Unknown is_unknown s c = hubs-refl s s refl
+hubs-serve key Blank x' s c = elim x' [ ]
+hubs-serve key HubRequest x'' s c = elim x'' [ ]
+hubs-serve key Stop x3 s c = elim x3 [ ]
+hubs-serve key AddHub x4 s c = elim x4 [ ]
 
 -- ---- the hub request
 

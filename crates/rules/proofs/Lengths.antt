@@ -85,6 +85,10 @@ tasks_grow Sleep is_sleep n = omega arith
 tasks_grow Tick is_tick n = omega arith
 tasks_grow AddTask is_add_task n = omega arith
 tasks_grow Unknown is_unknown n = omega arith
+tasks_grow Blank x' n = elim x' [ ]
+tasks_grow HubRequest x'' n = elim x'' [ ]
+tasks_grow Stop x3 n = elim x3 [ ]
+tasks_grow AddHub x4 n = elim x4 [ ]
 
 pub tasks-room : (key : ℕ → ℕ) (v : Service) (s : State) (c : Call) → refusal_for v s c ≡ 0 → length s.tasks ≤ 16
     → length (serve key v s c).tasks ≤ 16

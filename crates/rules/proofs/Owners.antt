@@ -119,6 +119,10 @@ lively_serve key AddTask is_add_task s c =
     (λ _. lively_start _ s (add_task c.target s) (length s.tasks) (lively_added s c.target))
     (λ _. lively_added s c.target)
 lively_serve key Unknown is_unknown s c = lively_refl s
+lively_serve key Blank x' s c = elim x' [ ]
+lively_serve key HubRequest x'' s c = elim x'' [ ]
+lively_serve key Stop x3 s c = elim x3 [ ]
+lively_serve key AddHub x4 s c = elim x4 [ ]
 
 -- ---- hubs as they were
 

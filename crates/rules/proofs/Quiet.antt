@@ -3,7 +3,7 @@
 use Prim.Native.Nat.{◌≤◌, suc, zero, ℕ}
 use Rattle.rules.proofs.Cases.{cond_case, same_or}
 use Rattle.rules.proofs.Changes.{added_other, added_same, past_end, set_case, set_other}
-use Rattle.rules.specs.Calls.{AddTask, Resume, Service, Sleep, Start, Suspend, Tick, Unknown, Yield, add_started, add_task, deactivate, flag, grant, serve, slept, start, tick_all, tick_by, tick_one, yielded}
+use Rattle.rules.specs.Calls.{add_started, add_task, AddHub, AddTask, Blank, deactivate, flag, grant, HubRequest, Resume, serve, Service, Sleep, slept, Start, start, Stop, Suspend, Tick, tick_all, tick_by, tick_one, Unknown, Yield, yielded}
 use Rattle.rules.specs.Lists.{answer, answered, asleep, counted, flagged, join_ready, leave, readied, wake}
 use Rattle.rules.specs.Reply.{bears_answer}
 use Rattle.rules.specs.Table.{State, Task, inactive, set_ready, set_task, task}
@@ -155,3 +155,7 @@ quiet_serve key v o s c run = by v o (λ b e. omega (arith, e, run b))
         (λ _. unfold add_started in quiet_start _ s (add_task c.target s) (length s.tasks) (quiet_add_task s c.target) (past_not3 s))
         (λ _. quiet_add_task s c.target)
     by Unknown is_unknown r = quiet_refl s
+    by Blank x'' r = elim x'' [ ]
+    by HubRequest x3 r = elim x3 [ ]
+    by Stop x4 r = elim x4 [ ]
+    by AddHub x5 r = elim x5 [ ]

@@ -5,15 +5,11 @@ use native.Mathlib.Nat.{mul-le-mul}
 use native.Mathlib.Omega.{arith}
 use Rattle.records.proofs.record_at.Goals as goal
 
--- TODO place Start
-product : (c : tie.Start) → c.args.i * c.args.size ≤ 4294967295 * 65535
-product c = mul-le-mul c.requires.i_bound c.requires.size_bound
-
 pub overflow_mul-result : goal.overflow_mul-result
-overflow_mul-result c = omega (arith, product c)
+overflow_mul-result c = omega (arith, mul-le-mul c.requires.i_bound c.requires.size_bound)
 
 pub overflow_add-result : goal.overflow_add-result
-overflow_add-result c = omega (arith, product c)
+overflow_add-result c = omega (arith, mul-le-mul c.requires.i_bound c.requires.size_bound)
 
 pub returns : goal.returns
-returns c = record { place = refl; low = omega (arith, product c) }
+returns c = record { place = refl; low = omega (arith, mul-le-mul c.requires.i_bound c.requires.size_bound) }

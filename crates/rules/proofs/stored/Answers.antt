@@ -15,5 +15,5 @@ returns-in-7 c = rw c.in-7.is
 
 pub returns-in_default : goal.returns-in_default
 returns-in_default c =
-    let n = c.in_default.rest in
+    let n = c.in_default.in_default-own.rest in
     sym (stored-none c.args.kind _ _ (λ e. n.0.1 (inl e)) (λ e. n.0.1 (inr e)) n.1)
