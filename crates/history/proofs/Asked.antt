@@ -319,17 +319,21 @@ module _ (key : ℕ → ℕ) (s : State) (c : Call) (run : (task s c.caller).sta
     pub turned-settle : (v : Verdict) (k : Kind) (l : List ℕ) (d : ℕ) (f : Option ℕ) → Few k s l d f v → (k ≡ Board → d ≡ 2 → ⊥) → Partners s c (waiters_met v)
         → turned Class.met (settle key v s c) (rs ++ asked s c ∷ []) ≡ met_in s c v
     unfolding met_in settle waiters_met
-    turned-settle v k l d f (meets-none n ws x) nu p =
-        turned_append Class.met (settle key (met n ws x []) s c) rs (asked s c ∷ [])
-        ∙ rw (alone-turned n ws x, own-met (settle key (met n ws x []) s c) x (met-caller key s c run n ws x [] p))
-    turned-settle v k l d f (meets-first n ws x w y e) nu p =
-        let m : Meeting = record { waiter = w; word = y } in
-        turned_append Class.met (settle key (met n ws x (m ∷ [])) s c) rs (asked s c ∷ [])
-        ∙ rw (pair-turned n ws x m p, own-met (settle key (met n ws x (m ∷ [])) s c) x (met-caller key s c run n ws x (m ∷ []) p))
-    turned-settle v k l d f (meets-all y b e) nu p = absurd (nu b e)
-    turned-settle v k l d f meets_later nu p =
-        cond_case (λ (z : State). turned Class.met z (rs ++ asked s c ∷ []) ≡ []) (eqb c.mode 2) _ _ (λ _. fail-turned) (λ _. wait-turned)
-    turned-settle v k l d f meets_never nu p = fail-turned
+    turned-settle v k l₀ d f few nu p = go l₀ v few nu p
+      where
+        go : (l : List ℕ) (v : Verdict) → Few k s l d f v → (k ≡ Board → d ≡ 2 → ⊥) → Partners s c (waiters_met v)
+            → turned Class.met (settle key v s c) (rs ++ asked s c ∷ []) ≡ met_in s c v
+        go l v (meets-none n ws x) nu p =
+            turned_append Class.met (settle key (met n ws x []) s c) rs (asked s c ∷ [])
+            ∙ rw (alone-turned n ws x, own-met (settle key (met n ws x []) s c) x (met-caller key s c run n ws x [] p))
+        go l v (meets-first n ws x w y e) nu p =
+            let m : Meeting = record { waiter = w; word = y } in
+            turned_append Class.met (settle key (met n ws x (m ∷ [])) s c) rs (asked s c ∷ [])
+            ∙ rw (pair-turned n ws x m p, own-met (settle key (met n ws x (m ∷ [])) s c) x (met-caller key s c run n ws x (m ∷ []) p))
+        go l v (meets-all y b e) nu p = absurd (nu b e)
+        go l v meets_later nu p =
+            cond_case (λ (z : State). turned Class.met z (rs ++ asked s c ∷ []) ≡ []) (eqb c.mode 2) _ _ (λ _. fail-turned) (λ _. wait-turned)
+        go l v meets_never nu p = fail-turned
 
     -- by any verdict: of the old requests those turn met whose task has a meeting
     turned-old : (P : Request → Type 0) (v : Verdict)

@@ -50,7 +50,7 @@ pub board-next : (h : ℕ) (o : Option ℕ) (cs : List Call) (c : Call)
     → board_from h o (cs ++ c ∷ []) ≡ cond (eqb c.target h) (board_by (side_of c.side) c (board_from h o cs)) (board_from h o cs)
 unfolding board_from
 board-next h o [] c = refl
-board-next h o (d ∷ cs) c = board-next h _ cs c
+board-next h o (d ∷ cs) c = board-next h (cond (eqb d.target h) (board_by (side_of d.side) d o) o) cs c
 
 -- cs: the accepted hub requests as they were called
 pub record Boards (s : State) (cs : List Call) : Type 0 where

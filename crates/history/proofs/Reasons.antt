@@ -146,21 +146,26 @@ module _ (key : ℕ → ℕ) (s : State) (c : Call) (sv : service_of c.service �
   met-row : (v : Verdict) {k : Kind} {l : List ℕ} → verdict s c ≡ v → Few k s l (across (side_of c.side)) (first_waiting s (across (side_of c.side)) (hub s c.target).waiters) v
       → (k ≡ Board → across (side_of c.side) ≡ 2 → ⊥) → Partners s c (waiters_met v) → Each (MetBy s (settle key v s c) c) (met_in s c v)
   unfolding Each met_in waiters_met
-  met-row v q (meets-none n ws x) nu p = (itself (by_row n ws x [] q p), tt)
-  met-row v q (meets-first n ws x w y e) nu p =
-      let ms : List Meeting = record { waiter = w; word = y } ∷ [] in (
-        partner (record {
-          service = sv;
-          place = refl;
-          sides = sides c.side t.side;
-          first = e;
-          caller = class_of-met key s c t.run (settle key (met n ws x ms) s c) x (met-caller key s c t.run n ws x ms p);
-        }),
-        (itself (by_row n ws x ms q p), tt),
-      )
-  met-row v q (meets-all y b e) nu p = absurd (nu b e)
-  met-row v q meets_later nu p = tt
-  met-row v q meets_never nu p = tt
+  met-row v {k = k} {l = l₀} q₀ few₀ nu₀ p₀ = go l₀ v q₀ few₀ nu₀ p₀
+    where
+      go : (l : List ℕ) (v : Verdict) → verdict s c ≡ v
+          → Few k s l (across (side_of c.side)) (first_waiting s (across (side_of c.side)) (hub s c.target).waiters) v
+          → (k ≡ Board → across (side_of c.side) ≡ 2 → ⊥) → Partners s c (waiters_met v) → Each (MetBy s (settle key v s c) c) (met_in s c v)
+      go l v q (meets-none n ws x) nu p = (itself (by_row n ws x [] q p), tt)
+      go l v q (meets-first n ws x w y e) nu p =
+          let ms : List Meeting = record { waiter = w; word = y } ∷ [] in (
+            partner (record {
+              service = sv;
+              place = refl;
+              sides = sides c.side t.side;
+              first = e;
+              caller = class_of-met key s c t.run (settle key (met n ws x ms) s c) x (met-caller key s c t.run n ws x ms p);
+            }),
+            (itself (by_row n ws x ms q p), tt),
+          )
+      go l v q (meets-all y b e) nu p = absurd (nu b e)
+      go l v q meets_later nu p = tt
+      go l v q meets_never nu p = tt
 
   -- the update of a Board: its readers, and the caller
   met-update : (rs : List Request) → Agree s rs → Listed s → kind_of (hub s c.target).kind ≡ Board → c.side ≡ 1
@@ -204,18 +209,21 @@ none-at h d = refl
 one-row : (s : State) (c : Call) (h d : ℕ) {k : Kind} {l : List ℕ} → Sided k c.side → (o : ℕ) (f : Option ℕ) (v : Verdict) → Few k s l o f v → (k ≡ Board → o ≡ 2 → ⊥)
     → how_many (at h d) (met_in s c v) ≤ 1
 unfolding met_in
-one-row s c h d t o f v (meets-none n ws x) nu = omega (arith, how_many_cons (at h d) (met_caller s c x) [], one_side true (at h d (met_caller s c x)) false (and-false (at h d (met_caller s c x))), none-at h d)
-one-row s c h d t o f v (meets-first n ws x w y e) nu =
-    omega (
-      arith,
-      how_many_cons (at h d) (met_waiter s c (record { waiter = w; word = y })) (met_caller s c x ∷ []),
-      how_many_cons (at h d) (met_caller s c x) [],
-      one_side (eqb c.target h) (eqb (across (side_of c.side)) d) (eqb c.side d) (not_both (across (side_of c.side)) c.side d (apart c.side t)),
-      none-at h d,
-    )
-one-row s c h d t o f v (meets-all y b e) nu = absurd (nu b e)
-one-row s c h d t o f v meets_later nu = omega (arith, none-at h d)
-one-row s c h d t o f v meets_never nu = omega (arith, none-at h d)
+one-row s c h d {k = k} {l = l₀} t o f v few₀ nu₀ = go l₀ v few₀ nu₀
+  where
+    go : (l : List ℕ) (v : Verdict) → Few k s l o f v → (k ≡ Board → o ≡ 2 → ⊥) → how_many (at h d) (met_in s c v) ≤ 1
+    go l v (meets-none n ws x) nu = omega (arith, how_many_cons (at h d) (met_caller s c x) [], one_side true (at h d (met_caller s c x)) false (and-false (at h d (met_caller s c x))), none-at h d)
+    go l v (meets-first n ws x w y e) nu =
+        omega (
+          arith,
+          how_many_cons (at h d) (met_waiter s c (record { waiter = w; word = y })) (met_caller s c x ∷ []),
+          how_many_cons (at h d) (met_caller s c x) [],
+          one_side (eqb c.target h) (eqb (across (side_of c.side)) d) (eqb c.side d) (not_both (across (side_of c.side)) c.side d (apart c.side t)),
+          none-at h d,
+        )
+    go l v (meets-all y b e) nu = absurd (nu b e)
+    go l v meets_later nu = omega (arith, none-at h d)
+    go l v meets_never nu = omega (arith, none-at h d)
 
 -- a Stop: by what the target owned
 by_stop : (key : ℕ → ℕ) (s : State) (rs : List Request) (c : Call) → Agree s rs → Valid s → (run : (task s c.caller).state ≡ 2) → (u : c.target < length s.tasks)
