@@ -1,6 +1,7 @@
 // "words little-endian": a slice of words of 32 bits from a slice of bytes and back, four bytes to a word, the least first.
 // Slices of any length. Not here: how many bytes a table has.
 #![tactic(auto)]
+
 ghost use Rattle.std.specs.Prelude.{◌*◌, length, ◌≡◌};
 ghost use Rattle.bytes4.specs.Bytes.{Packed, Unpacked, word_of};
 

@@ -1,6 +1,7 @@
 // Lists of entries in a lent slice of words: an entry is a number plus 1, first entry first, and what is unused is 0.
 // Any length, any words; no table in sight, and nothing is required but that a number plus 1 is a word.
 #![tactic(auto)]
+
 ghost use Rattle.std.specs.Prelude.{◌<◌, suc, get_or, set, ◌≡◌};
 ghost use Rattle.lists.specs.Lists.{Joined, all_zero, found_at, index_of, insert_at, place_in, remove_at, remove_first};
 

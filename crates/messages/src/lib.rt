@@ -2,6 +2,7 @@
 // parameter; what lies past the end of the slice reads as 0 and is not written.
 // Not here: where a message stands in a table, and what it means.
 #![tactic(auto)]
+
 ghost use Rattle.std.specs.Prelude.{◌*◌, ◌+◌, ◌<◌, ◌≡◌};
 ghost use Rattle.messages.specs.Messages.{Message, message_words};
 ghost use Rattle.std.proofs.lemmas.List.Edits.{sets};

@@ -3,6 +3,7 @@
 // edition 1, 9 in edition 2. What lies past the end of a slice reads as 0 and is not written.
 // Not here: what the words of a record mean (crate rules), and which records are in use.
 #![tactic(auto)]
+
 ghost use Rattle.std.specs.Prelude.{◌*◌, ◌+◌, ◌-◌, ◌<◌, ◌≤◌, get_or, length, set, ◌≡◌};
 ghost use Rattle.records.specs.Records.{RecordAt, RowAt, TaskRead, hub_at, hub_words, hubs_at, ready_at, store_size, stores_at, table_size, task_size_of, task_words, waits_at, width};
 ghost use Rattle.std.proofs.lemmas.List.Edits.{sets};

@@ -16,7 +16,7 @@ use Rattle.rules.specs.Lists.{answer, answered, asleep, flagged, join_ready, lea
 use Rattle.rules.specs.Refusals.{refusal_for}
 use Rattle.rules.specs.Reorder.{reordered}
 use Rattle.rules.specs.Reply.{bears_answer}
-use Rattle.rules.specs.Table.{Hub, State, Task, hub, is_inactive, kind_of, set_ready, set_task, task}
+use Rattle.rules.specs.Table.{Hub, State, Task, hub, kind_of, set_ready, set_task, task}
 use Rattle.rules.specs.declared.Call.{Call}
 use borrow.Author.Tests.{eqb-true, leb-true, ne_eqb}
 use lib.Dec.{eqb, leb}

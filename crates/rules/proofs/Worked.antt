@@ -6,7 +6,7 @@ use Rattle.lists.specs.Lists.{insert, only}
 use Rattle.rules.specs.Effective.{effective, over_owned, over_task, over_waiters}
 use Rattle.rules.specs.Lists.{join_hub, join_ready, queued}
 use Rattle.rules.specs.Reorder.{put_back, rejoin, rejoin_hub, reordered, taken_out, thinned}
-use Rattle.rules.specs.Table.{Hub, State, Task, hub, inactive, is_resource, kind_of, no_hub, owns, set_hub, set_ready, tab}
+use Rattle.rules.specs.Table.{Hub, State, Task, inactive, is_resource, kind_of, no_hub, owns, set_hub, set_ready, tab}
 use mathlib.Core.List.{List, [], ◌++◌, ◌∷◌}
 use mathlib.Core.Path.{◌≡◌, refl}
 

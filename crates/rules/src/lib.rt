@@ -1,6 +1,7 @@
 // What a call hands over and what it gives back, and the paper's numbers by name. The rules themselves are in specs/, in the
 // order of document 01. Not here: the places and sizes of the table (crate records).
 #![tactic(auto)]
+
 ghost use Rattle.rules.specs.Reply.{answer_number, refusal_number};
 ghost use Rattle.rules.specs.Table.{kind_of, stored};
 ghost use Rattle.std.specs.Prelude.{◌≡◌};

@@ -1,6 +1,7 @@
 // A table's bytes: how many each edition's table has, and the words that they hold, into the front of an array.
 // Not here: words from bytes and back, whatever their number (crate bytes4); what is done over the words.
 #![tactic(auto)]
+
 ghost use Rattle.rules.specs.Table.{size, two};
 ghost use Rattle.tablebytes.specs.TableBytes.{InFront};
 ghost use Rattle.std.specs.Prelude.{length, ◌≡◌};

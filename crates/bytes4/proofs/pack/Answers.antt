@@ -1,10 +1,7 @@
 -- The bytes before k are those of the words before i; what is left of the words makes the rest. A word is below 2 ^ 32. Assumes nothing.
-use Prim.Native.Nat.{◌*◌, ◌-◌, ◌<◌, ◌≤◌, ℕ}
 use Rattle.bytes4.proofs.Laws.{pack_more, packed}
-use Rattle.bytes4.specs.Bytes.{bytes_of}
-use lib.ListN.{drop, get_or, length, length-set, take}
-use mathlib.Core.List.{◌++◌}
-use mathlib.Core.Path.{◌≡◌, refl}
+use lib.ListN.{length-set}
+use mathlib.Core.Path.{refl}
 use native.Mathlib.Omega.{arith}
 use Rattle.bytes4.proofs.pack.Goals as goal
 

@@ -1,12 +1,8 @@
 -- The words before i are those of the bytes before k; what is left of the bytes makes the rest. A byte is below 256.
 -- Assumes nothing.
-use Prim.Native.Nat.{◌*◌, ◌-◌, ◌<◌, ◌≤◌, ℕ}
 use Rattle.bytes4.proofs.Laws.{unpack_more, unpacked}
-use Rattle.bytes4.specs.Bytes.{words_from}
-use borrow.Author.Rules.{rules}
-use lib.ListN.{drop, get_or, length, length-set, take}
-use mathlib.Core.List.{◌++◌}
-use mathlib.Core.Path.{◌≡◌, refl}
+use lib.ListN.{length-set}
+use mathlib.Core.Path.{refl}
 use native.Mathlib.Omega.{arith}
 use Rattle.bytes4.proofs.unpack.Goals as goal
 

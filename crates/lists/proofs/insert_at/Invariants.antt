@@ -1,13 +1,9 @@
 -- `lists::insert_at` meets its contract. The loop's invariant: inserting the carried word at i gives what was to be given.
 -- Assumes nothing.
 use Prim.Native.Nat.{◌-◌}
-use Rattle.lists.proofs.Laws.{insert_at-out, insert_at-step}
 use Rattle.lists.specs.Lists.{insert_at}
-use borrow.Author.Rules.{rules}
-use lib.ListN.{length, length-set}
-use mathlib.Core.Path.{◌∙◌, ◌≡◌, refl, sym}
-use native.Mathlib.Numerals.{add-one}
-use native.Mathlib.Omega.{arith}
+use lib.ListN.{length}
+use mathlib.Core.Path.{◌≡◌}
 use Rattle.lists.proofs.insert_at.Given as goal
 
 abbrev pub invariant-loop-i : goal.invariant-loop-i

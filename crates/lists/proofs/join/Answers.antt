@@ -1,5 +1,4 @@
 -- `lists::join` meets its contract: `word` gives the key, `place` the place of that key, and `insert_at` the list. Assumes nothing.
-use borrow.Author.Rules.{rules}
 use native.Mathlib.Numerals.{add-one}
 use Rattle.lists.proofs.join.Goals as goal
 

@@ -1,6 +1,5 @@
 -- `lists::leave` meets its contract: `find` gives the first place of the entry, or that there is none to remove. Assumes nothing.
 use Rattle.lists.proofs.Laws.{found_here, found_nowhere, remove_at-out}
-use borrow.Author.Rules.{rules}
 use mathlib.Core.Path.{◌∙◌, sym}
 use native.Mathlib.Numerals.{add-one}
 use Rattle.lists.proofs.leave.Goals as goal

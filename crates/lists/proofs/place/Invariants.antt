@@ -1,13 +1,8 @@
 -- `lists::place` meets its contract. The loop's invariant: the place is i, and then the place in what is left. Assumes nothing.
 use Prim.Native.Nat.{◌+◌, ◌-◌, ◌≤◌}
-use Rattle.lists.proofs.Laws.{place_in_hit, place_in_miss, place_in-none}
 use Rattle.lists.specs.Lists.{place_in}
-use borrow.Author.Rules.{rules}
-use lib.ListN.{drop, drop_of_length-le, length}
-use mathlib.Core.Path.{◌≡◌, ap, sym}
-use native.Mathlib.Nat.{zero-add}
-use native.Mathlib.Numerals.{add-one, sub-one}
-use native.Mathlib.Omega.{arith}
+use lib.ListN.{drop, length}
+use mathlib.Core.Path.{◌≡◌}
 use Rattle.lists.proofs.place.Given as goal
 
 abbrev pub invariant-loop-i : goal.invariant-loop-i

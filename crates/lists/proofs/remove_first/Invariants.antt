@@ -1,12 +1,9 @@
 -- `lists::remove_first` meets its contract. The loop's invariant: removing what is left gives what was to be given. Assumes
 -- nothing.
-use Prim.Native.Nat.{◌+◌, ◌-◌, ◌≤◌, suc}
+use Prim.Native.Nat.{◌-◌, ◌≤◌}
 use Rattle.lists.specs.Lists.{remove_first}
-use borrow.Author.Rules.{rules}
 use lib.ListN.{length}
-use mathlib.Core.Path.{◌≡◌, refl}
-use native.Mathlib.Nat.{sub-zero}
-use native.Mathlib.Omega.{arith}
+use mathlib.Core.Path.{◌≡◌}
 use Rattle.lists.proofs.remove_first.Given as goal
 
 abbrev pub invariant-loop-k : goal.invariant-loop-k

@@ -1,5 +1,4 @@
 -- `lists::set_word` meets its contract: a store past the end is none. Assumes nothing.
-use borrow.Author.Rules.{rules}
 use lib.Seq.{set_out}
 use mathlib.Core.Path.{sym}
 use Rattle.lists.proofs.set_word.Goals as goal

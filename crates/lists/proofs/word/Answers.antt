@@ -1,5 +1,4 @@
 -- `lists::word` meets its contract: past the end `get_or` gives its default, the 0 that the code gives. Assumes nothing.
-use borrow.Author.Rules.{rules}
 use lib.ListN.{get_or-eq_default}
 use mathlib.Core.Path.{sym}
 use Rattle.lists.proofs.word.Goals as goal

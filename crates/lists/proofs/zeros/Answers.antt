@@ -1,6 +1,6 @@
 -- `lists::zeros` meets its contract. The loop's invariant: the whole list is zeros if the words so far, put together, are 0
 -- and what is left is zeros. Assumes nothing.
-use Prim.Native.Nat.{◌-◌, ◌≤◌, suc, ℕ}
+use Prim.Native.Nat.{◌≤◌, suc, ℕ}
 use Rattle.lists.proofs.Laws.{bool_case}
 use Rattle.lists.specs.Lists.{all_zero}
 use borrow.Author.Rules.{rules}

@@ -1,6 +1,5 @@
 -- `messages::message` meets its contract. Assumes nothing.
 use Rattle.messages.specs.Messages.{message_at}
-use borrow.Author.Rules.{rules}
 use borrow.Author.Tests.{le-ltb, lt-ltb}
 use native.Mathlib.Omega.{arith}
 use Rattle.messages.proofs.message.Goals as goal

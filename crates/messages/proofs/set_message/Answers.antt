@@ -1,6 +1,5 @@
 -- `messages::set_message` meets its contract: one store, or two. Assumes nothing.
 use Rattle.messages.proofs.Laws.{words-one, words-two}
-use borrow.Author.Rules.{rules}
 use native.Mathlib.Numerals.{add-one}
 use Rattle.messages.proofs.set_message.Goals as goal
 

@@ -1,5 +1,4 @@
 -- `records::field` meets its contract: the record's place by `record_at`, the word by `lists::word`. Assumes nothing.
-use borrow.Author.Rules.{rules}
 use Rattle.records.proofs.field.Goals as goal
 
 pub returns : goal.returns

@@ -1,6 +1,5 @@
 -- `records::hub` meets its contract: each word by `field`; the first stands at the record's place itself. Assumes nothing.
 use Rattle.records.specs.Records.{hub_at}
-use borrow.Author.Rules.{rules}
 use native.Mathlib.Nat.{add-zero}
 use Rattle.records.proofs.hub.Goals as goal
 

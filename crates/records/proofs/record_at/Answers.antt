@@ -1,5 +1,4 @@
 -- `records::record_at` meets its contract: the one product of the crate, bounded once. Assumes nothing.
-use Prim.Native.Nat.{◌*◌, ◌≤◌}
 use mathlib.Core.Path.{refl}
 use native.Mathlib.Nat.{mul-le-mul}
 use native.Mathlib.Omega.{arith}

@@ -1,5 +1,4 @@
 -- `records::row_at` meets its contract: a row ends before the next begins, and there are 16. Assumes nothing.
-use borrow.Author.Rules.{rules}
 use native.Mathlib.Nat.{mul-le-mul_right, suc-mul}
 use native.Mathlib.Omega.{arith}
 use Rattle.records.proofs.row_at.Goals as goal

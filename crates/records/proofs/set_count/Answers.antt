@@ -1,5 +1,4 @@
 -- `records::set_count` meets its contract: the record's place by `record_at`, the store by `set_word`. Assumes nothing.
-use borrow.Author.Rules.{rules}
 use Rattle.records.proofs.set_count.Goals as goal
 
 pub returns : goal.returns

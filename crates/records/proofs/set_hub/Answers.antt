@@ -1,6 +1,5 @@
 -- `records::set_hub` meets its contract: the record's place by `record_at`, its words by `set_words`. Assumes nothing.
 use Rattle.records.specs.Records.{hub_words}
-use borrow.Author.Rules.{rules}
 use Rattle.records.proofs.set_hub.Goals as goal
 
 pub returns : goal.returns

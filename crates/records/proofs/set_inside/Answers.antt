@@ -1,10 +1,9 @@
 -- `records::set_inside` meets its contract. The loop's invariant: storing what is left from where it stands gives what was to be
 -- given. Assumes nothing.
-use Prim.Native.Nat.{◌+◌, ◌-◌, ◌≤◌}
 use borrow.Author.Rules.{rules}
-use lib.ListN.{drop, drop_of_length-le, length, length-set}
-use lib.Seq.{drop-cons, sets}
-use mathlib.Core.Path.{◌≡◌, refl}
+use lib.ListN.{drop_of_length-le, length-set}
+use lib.Seq.{drop-cons}
+use mathlib.Core.Path.{refl}
 use native.Mathlib.Nat.{add-suc, add-zero}
 use native.Mathlib.Numerals.{add-one}
 use native.Mathlib.Omega.{arith}

@@ -1,13 +1,9 @@
 -- `records::set_inside` meets its contract. The loop's invariant: storing what is left from where it stands gives what was to be
 -- given. Assumes nothing.
 use Prim.Native.Nat.{◌+◌, ◌-◌, ◌≤◌}
-use borrow.Author.Rules.{rules}
-use lib.ListN.{drop, drop_of_length-le, length, length-set}
-use lib.Seq.{drop-cons, sets}
-use mathlib.Core.Path.{◌≡◌, refl}
-use native.Mathlib.Nat.{add-suc, add-zero}
-use native.Mathlib.Numerals.{add-one}
-use native.Mathlib.Omega.{arith}
+use lib.ListN.{drop, length}
+use lib.Seq.{sets}
+use mathlib.Core.Path.{◌≡◌}
 use Rattle.records.proofs.set_inside.Given as goal
 
 abbrev pub invariant-loop-k : goal.invariant-loop-k

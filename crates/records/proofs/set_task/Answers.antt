@@ -4,7 +4,6 @@ use Rattle.messages.proofs.Laws.{length-message}
 use Rattle.messages.specs.Messages.{message_words}
 use Rattle.records.proofs.Laws.{sets_append}
 use Rattle.records.specs.Records.{task_words, width}
-use borrow.Author.Rules.{rules}
 use lib.ListN.{length}
 use lib.Seq.{sets}
 use mathlib.Core.List.{List, [], ◌++◌, ◌∷◌}

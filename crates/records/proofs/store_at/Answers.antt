@@ -1,5 +1,4 @@
 -- `records::store_at` meets its contract. Assumes nothing.
-use borrow.Author.Rules.{rules}
 use Rattle.records.proofs.store_at.Goals as goal
 
 pub returns : goal.returns

@@ -1,6 +1,5 @@
 -- `records::task` meets its contract: each word by `field`, the message by `message`; the first stands at the record's place itself. Assumes nothing.
 use Rattle.records.specs.Records.{task_at}
-use borrow.Author.Rules.{rules}
 use native.Mathlib.Nat.{add-zero}
 use native.Mathlib.Omega.{arith}
 use Rattle.records.proofs.task.Goals as goal

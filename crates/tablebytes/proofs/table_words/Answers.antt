@@ -3,7 +3,6 @@
 use Prim.Native.Nat.{◌*◌, ℕ}
 use Rattle.tablebytes.proofs.Laws.{all_in_front, fits_one, fits-two, in_front, none_in_front}
 use Rattle.rules.specs.Table.{one, size, two}
-use borrow.Author.Rules.{rules}
 use lib.ListN.{length, take}
 use lib.Seq.{length-take-le}
 use mathlib.Core.List.{List}
@@ -19,7 +18,7 @@ pub slice_bounds-unpack-end-then-table-eq-BYTES : goal.slice_bounds-unpack-end-t
 slice_bounds-unpack-end-then-table-eq-BYTES c = sym (room-one c.args.words.now c.requires)
 
 pub unpack-requires : goal.unpack-requires
-unpack-requires c =     c.if-table-eq-BYTES.true ∙ ap (λ (n : ℕ). 4 * n) (sym (room-one c.args.words.now c.requires))
+unpack-requires c = c.if-table-eq-BYTES.true ∙ ap (λ (n : ℕ). 4 * n) (sym (room-one c.args.words.now c.requires))
 
 pub returns-then-table-eq-BYTES : goal.returns-then-table-eq-BYTES
 returns-then-table-eq-BYTES c =
