@@ -70,7 +70,7 @@ static const char *const kinds[] = {
 
 static const char *const classes[] = {
     [IS_WAITING] = "waiting",    [IS_MET] = "met",
-    [IS_FAILED] = "failed",      [IS_TIMED_OUT] = "timedOut",
+    [IS_FAILED] = "failed",      [IS_TIMED_OUT] = "timed_out",
     [IS_WITHDRAWN] = "withdrawn",
 };
 
@@ -367,11 +367,11 @@ static const char head[] =
     "-- Every number here is the second program's: tests/history/runs.c writes the file, tests/history/run compares it.\n"
     "-- `Seen` shows the requests at all hubs, and of hub 0 the words met, the count and the words held. The last two runs move.\n"
     "-- In order: the runs, each with its proof, so that a run that disagrees is named; all of them, and `agree`.\n"
-    "use Rattle·history.specs.History.{Step, down, failed, met, timedOut, up, waiting, withdrawn}\n"
-    "use Rattle·history.specs.Statements.{Each}\n"
-    "use Rattle·runs·specs.specs.Worked.{Seen, call, row, shows}\n"
-    "use mathlib.Core.List.{List, [], _∷_}\n"
-    "use mathlib.Core.Path.{_≡_, refl}\n"
+    "use Rattle.history.specs.History.{Step, down, failed, met, timed_out, up, waiting, withdrawn}\n"
+    "use Rattle.history.specs.Statements.{Each}\n"
+    "use Rattle.runs.specs.Worked.{Seen, call, row, shows}\n"
+    "use mathlib.Core.List.{List, [], ◌∷◌}\n"
+    "use mathlib.Core.Path.{◌≡◌, refl}\n"
     "\n"
     "-- the calls and moves behind the Blank, and what the ledger says of them\n"
     "pub record Drawn : Type 0 where\n"
@@ -379,7 +379,7 @@ static const char head[] =
     "  pub ledger : Seen\n"
     "\n"
     "abbrev pub Agrees : Drawn → Type 0\n"
-    "Agrees d = shows (d .steps) ≡ d .ledger\n"
+    "Agrees d = shows d.steps ≡ d.ledger\n"
     "\n"
     "-- call: service caller target side mode ticks word high; up, down: words of the destination; row: task hub side word class\n"
     "-- received, a word low + 2^32 * high\n";
@@ -435,7 +435,7 @@ static void print_run(const drawn_run *run, int number)
     uint32_t kind = kind_of(run, 0), count = run->table[hub_place(run->table, 0) + H_COUNT];
     uint64_t held[HELD_MOST];
 
-    printf("\n-- hub 0 is %s\nunfoldable pub drawn-%d : Drawn\ndrawn-%d = record {\n", kinds[kind],
+    printf("\n-- hub 0 is %s\nunfoldable pub drawn_%d : Drawn\ndrawn_%d = record {\n", kinds[kind],
            number, number);
     print_steps(run);
     printf("  ledger = record {\n");
@@ -447,7 +447,7 @@ static void print_run(const drawn_run *run, int number)
     for (uint32_t i = 0; i < HELD_MOST; i++)
         held[i] = message_at(run->table, held_place(run->table, 0, i));
     print_words("held", held, holds_words(kind) ? count : 0, 1);
-    printf("  };\n}\n\nagrees-%d : Agrees drawn-%d\nunfolding drawn-%d shows\nagrees-%d = refl\n",
+    printf("  };\n}\n\nagrees_%d : Agrees drawn_%d\nunfolding drawn_%d shows\nagrees_%d = refl\n",
            number, number, number, number);
 }
 
@@ -455,10 +455,10 @@ static void print_all(void)
 {
     printf("\nunfoldable pub drawn : List Drawn\ndrawn = ");
     for (int number = 1; number <= RUNS; number++)
-        printf("drawn-%d ∷ ", number);
+        printf("drawn_%d ∷ ", number);
     printf("[]\n\npub agree : Each Agrees drawn\nunfolding Each drawn\nagree = ");
     for (int number = 1; number <= RUNS; number++)
-        printf("(agrees-%d, ", number);
+        printf("(agrees_%d, ", number);
     printf("tt");
     for (int number = 1; number <= RUNS; number++)
         printf(")");

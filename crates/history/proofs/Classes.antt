@@ -1,6 +1,6 @@
 -- The class that a record shows, by its state and answer; and what a class test says of a request.
 use Prim.Native.Nat.{suc, zero, ℕ}
-use Rattle.history.specs.History.{Class, Request, class_by, class_of, failed, is_class, is_waiting, met, place, timedOut, turns, unread, waiting, withdrawn}
+use Rattle.history.specs.History.{Class, Request, class_by, class_of, failed, is_class, is_waiting, met, place, timed_out, turns, unread, waiting, withdrawn}
 use Rattle.rules.proofs.Cases.{and_l, and_r}
 use Rattle.rules.specs.Table.{State, Task, stage_of, task}
 use borrow.Author.Tests.{eqb-true, ne_eqb}
@@ -30,7 +30,7 @@ module _ (t : Task) where
   unfolding class_by class_of stage_of
   class_failed e f = rw (e, f)
 
-  pub class_timed : t.state ≡ 2 → t.answer ≡ 3 → class_of t ≡ timedOut
+  pub class_timed : t.state ≡ 2 → t.answer ≡ 3 → class_of t ≡ timed_out
   unfolding class_by class_of stage_of
   class_timed e f = rw (e, f)
 
@@ -55,14 +55,14 @@ class-waits t = waits_by_lem t.state t.answer
 -- ---- tests of a class
 
 at_place : ℕ → Class
-at_place n = get_or (waiting ∷ met ∷ failed ∷ timedOut ∷ withdrawn ∷ unread ∷ []) n unread
+at_place n = get_or (waiting ∷ met ∷ failed ∷ timed_out ∷ withdrawn ∷ unread ∷ []) n unread
 
 at-place-place : (k : Class) → at_place (place k) ≡ k
 unfolding at_place
 at-place-place waiting = refl
 at-place-place met = refl
 at-place-place failed = refl
-at-place-place timedOut = refl
+at-place-place timed_out = refl
 at-place-place withdrawn = refl
 at-place-place unread = refl
 

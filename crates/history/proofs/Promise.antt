@@ -11,7 +11,7 @@ use Rattle.history.proofs.Meetings.{met_in_lem}
 use Rattle.history.proofs.Reasons.{class-own, met-kept, one-met, turned_failed, turned-met, turned-reads, turned_timed, turned_withdrawn}
 use Rattle.history.proofs.Run.{Sound, accepted-service, done, refusal_other, shown-kept, shown-task, sound_run}
 use Rattle.history.proofs.Those.{each_both, each_imp, occ-those}
-use Rattle.history.specs.History.{Class, History, Request, Step, asked, at, begun, board_word, failed, history, how_many, is_owned, met_count, met_with, next, next_by, opened, part_of, passed, removed_at, reread, row_class, shown, those, timedOut, turned, turned_by, turned_to, withdrawn, words_of}
+use Rattle.history.specs.History.{Class, History, Request, Step, asked, at, begun, board_word, failed, history, how_many, is_owned, met_count, met_with, next, next_by, opened, part_of, passed, removed_at, reread, row_class, shown, those, timed_out, turned, turned_by, turned_to, withdrawn, words_of}
 use Rattle.history.specs.Statements.{Asks, Bears, Begins, Blocks, Demand3, Each, EachMet, EachRead, Lowest, Met, MetBy, OneEach, Own, added_as, class_had, request_at}
 use Rattle.lists.proofs.Laws.{bool_case}
 use Rattle.lists.specs.Lists.{bit, occ}
@@ -153,7 +153,7 @@ module _ (x : History) (g : Sound x) where
     own = own;
     met_means_met = λ c. each_next Class.met (λ s'. MetBy s s' c) (λ z z' k. met-kept s z z' c k) c (λ o. turned-met (effective s) _ s x.requests c g.account.agree g.valid o refl);
     fails = λ c. each_next failed (λ s'. Own c) (λ z z' k r p. p) c (λ o. turned_failed (effective s) _ s x.requests c g.account.agree g.valid o refl);
-    times_out = λ c. each_next timedOut (λ s' r. service_of c.service ≡ Tick) (λ z z' k r p. p) c (λ o. turned_timed (effective s) _ s x.requests c g.account.agree g.valid o refl);
+    times_out = λ c. each_next timed_out (λ s' r. service_of c.service ≡ Tick) (λ z z' k r p. p) c (λ o. turned_timed (effective s) _ s x.requests c g.account.agree g.valid o refl);
     is_withdrawn = λ c. each_next withdrawn (λ s' r. (service_of c.service ≡ Stop) × (r.task ≡ c.target)) (λ z z' k r p. p) c
         (λ o. turned_withdrawn (effective s) _ s x.requests c g.account.agree g.valid o refl);
     bound = λ c ds sv e m b l. bound x g c sv e m ds b l;

@@ -9,7 +9,7 @@ use Rattle.history.proofs.Fates.{Fate, fate_serve, meets, rests, stops, times}
 use Rattle.history.proofs.Opened.{opened_case}
 use Rattle.history.proofs.Stopping.{stop-one, stop-owner, stop-turned}
 use Rattle.history.proofs.Those.{each_append, each_imp, each_none, how_many_cons}
-use Rattle.history.specs.History.{Class, Request, asked, at, board_word, called, class_of, failed, how_many, opened, part_of, reread, row_class, those, timedOut, turned, unread, waiting, withdrawn}
+use Rattle.history.specs.History.{Class, Request, asked, at, board_word, called, class_of, failed, how_many, opened, part_of, reread, row_class, those, timed_out, turned, unread, waiting, withdrawn}
 use Rattle.history.specs.Statements.{ByRow, Each, MetBy, Own, Stands, itself, partner, passed, updated}
 use Rattle.lists.specs.Lists.{bit, occ}
 use Rattle.rules.proofs.Accepted.{Asked, Sided, on_task_lem, request_tests}
@@ -46,7 +46,7 @@ unfoldable Reason : Class → Service → Call → Request → Type 0
 Reason waiting w c r = Unit {0}
 Reason Class.met w c r = (w ≡ HubRequest) ⊎ (w ≡ Stop)
 Reason failed w c r = ⊥
-Reason timedOut w c r = w ≡ Tick
+Reason timed_out w c r = w ≡ Tick
 Reason withdrawn w c r = (w ≡ Stop) × (r.task ≡ c.target)
 Reason unread w c r = ⊥
 
@@ -65,7 +65,7 @@ unfoldable OwnClass : Class → Type 0
 OwnClass waiting = Unit {0}
 OwnClass Class.met = Unit {0}
 OwnClass failed = Unit {0}
-OwnClass timedOut = ⊥
+OwnClass timed_out = ⊥
 OwnClass withdrawn = ⊥
 OwnClass unread = ⊥
 
@@ -109,8 +109,8 @@ module _ (key : ℕ → ℕ) (w : Service) (s : State) (rs : List Request) (c : 
         (λ r e. absurd (unfold Reason in e))
         (λ e o. unfold asked reread in record { service = sv ∙ e; task = refl; hub = refl; side = refl })
 
-    pub turned_timed : Each (λ r. service_of c.service ≡ Tick) (turned timedOut (serve key w s c) (opened (part_of w) s c rs))
-    turned_timed = turned_by timedOut _ (λ r e. sv ∙ (unfold Reason in e)) (λ e o. absurd (unfold OwnClass in o))
+    pub turned_timed : Each (λ r. service_of c.service ≡ Tick) (turned timed_out (serve key w s c) (opened (part_of w) s c rs))
+    turned_timed = turned_by timed_out _ (λ r e. sv ∙ (unfold Reason in e)) (λ e o. absurd (unfold OwnClass in o))
 
     pub turned_withdrawn : Each (λ r. (service_of c.service ≡ Stop) × (r.task ≡ c.target)) (turned withdrawn (serve key w s c) (opened (part_of w) s c rs))
     unfolding OwnClass Reason reread

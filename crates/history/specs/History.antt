@@ -26,13 +26,13 @@ how_many p xs = length (those p xs)
 
 -- waiting, met, failed, timed out, withdrawn by Stop; unread where a table shows none of these
 pub data Class : Type 0 where
-  waiting met failed timedOut withdrawn unread : Class
+  waiting met failed timed_out withdrawn unread : Class
 
 abbrev pub place : Class → ℕ
 place waiting = 0
 place met = 1
 place failed = 2
-place timedOut = 3
+place timed_out = 3
 place withdrawn = 4
 place unread = 5
 
@@ -43,7 +43,7 @@ is_class k k' = eqb (place k) (place k')
 unfoldable pub class_by : Stage → ℕ → Class
 class_by NoStage a = unread
 class_by Inactive a = withdrawn
-class_by Ready a = get_or (unread ∷ met ∷ failed ∷ timedOut ∷ []) a unread
+class_by Ready a = get_or (unread ∷ met ∷ failed ∷ timed_out ∷ []) a unread
 class_by Waiting a = waiting
 class_by Sleeping a = unread
 

@@ -4,7 +4,7 @@
 -- A run: a Blank, accepted, on the words of either edition (`Begins`), and then any steps, refused ones included: calls, any eight
 -- numbers each, and moves to the other edition (M-105); x is its history (History.antt), and x.table the table as it stands.
 use Rattle.std.specs.Prelude.{◌+◌, ◌<◌, ◌≤◌, pred, suc, ℕ, eqb, get_or, length, set, Bool, ◌&&◌, false, true, List, [], ◌++◌, ◌∷◌, ◌↔◌, ◌≢◌, ◌⊎◌, ◌≡◌}
-use Rattle.history.specs.History.{Class, History, Request, Step, at, board_word, calls, class_of, down, failed, history, how_many, is_met, is_owned, met, met_count, met_with, next, removed_at, row_class, shown, step, timedOut, turned_to, unread, up, waiting, waits_by, withdrawn, words_of, written}
+use Rattle.history.specs.History.{Class, History, Request, Step, at, board_word, calls, class_of, down, failed, history, how_many, is_met, is_owned, met, met_count, met_with, next, removed_at, row_class, shown, step, timed_out, turned_to, unread, up, waiting, waits_by, withdrawn, words_of, written}
 use Rattle.lists.specs.Lists.{bit, occ}
 use Rattle.rules.specs.Calls.{Blank, HubRequest, Stop, Tick, service_of}
 use Rattle.rules.specs.HubTable.{Meeting, Verdict, is_out, message, not_now, verdict}
@@ -206,7 +206,7 @@ pub record Demand3 (x : History) : Type 0 where
   pub met_means_met : (c : Call) → Each (MetBy (shown x.table) (shown (table_after x.table c)) c) (turned_to met x c)
   -- a request fails in its own call only, times out in a Tick only, is withdrawn by a Stop of its task only
   pub fails : (c : Call) → Each (Own c) (turned_to failed x c)
-  pub times_out : (c : Call) → Each (λ r. service_of c.service ≡ Tick) (turned_to timedOut x c)
+  pub times_out : (c : Call) → Each (λ r. service_of c.service ≡ Tick) (turned_to timed_out x c)
   pub is_withdrawn : (c : Call) → Each (λ r. (service_of c.service ≡ Stop) × (r.task ≡ c.target)) (turned_to withdrawn x c)
   -- "a request under WT with t ticks is out of waiting by the t-th accepted Tick after it": c opens it
   pub bound : (c : Call) (ds : List Step) → service_of c.service ≡ HubRequest → refusal_of x.table c ≡ 0 → mode_of c.mode ≡ WT

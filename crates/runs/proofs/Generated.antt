@@ -2,7 +2,7 @@
 -- Every number here is the second program's: tests/history/runs.c writes the file, tests/history/run compares it.
 -- `Seen` shows the requests at all hubs, and of hub 0 the words met, the count and the words held. The last two runs move.
 -- In order: the runs, each with its proof, so that a run that disagrees is named; all of them, and `agree`.
-use Rattle.history.specs.History.{Step, down, failed, met, timedOut, up, waiting, withdrawn}
+use Rattle.history.specs.History.{Step, down, failed, met, timed_out, up, waiting, withdrawn}
 use Rattle.history.specs.Statements.{Each}
 use Rattle.runs.specs.Worked.{Seen, call, row, shows}
 use mathlib.Core.List.{List, [], ◌∷◌}
@@ -53,11 +53,11 @@ drawn_1 = record {
         row 0 0 1 0 met 0
         ∷ row 0 0 1 0 met 0
         ∷ row 2 0 1 0 failed 0
-        ∷ row 2 0 1 0 timedOut 0
+        ∷ row 2 0 1 0 timed_out 0
         ∷ row 3 1 2 0 met 0
         ∷ row 3 0 1 0 waiting 0
         ∷ row 1 0 2 0 met 0
-        ∷ row 0 0 1 0 timedOut 0
+        ∷ row 0 0 1 0 timed_out 0
         ∷ row 1 1 1 0 met 0
         ∷ row 2 0 1 0 waiting 0
         ∷ [];
@@ -110,10 +110,10 @@ drawn_2 = record {
         ∷ row 1 0 1 0 met 0
         ∷ row 2 0 1 0 met 0
         ∷ row 3 0 1 0 failed 0
-        ∷ row 3 0 1 0 timedOut 0
+        ∷ row 3 0 1 0 timed_out 0
         ∷ row 0 0 2 0 met 0
         ∷ row 2 0 1 0 failed 0
-        ∷ row 2 0 1 0 timedOut 0
+        ∷ row 2 0 1 0 timed_out 0
         ∷ row 0 0 2 0 met 0
         ∷ [];
     puts = 0 ∷ 0 ∷ 0 ∷ 0 ∷ [];
@@ -162,11 +162,11 @@ drawn_3 = record {
         row 0 0 1 0 met 0
         ∷ row 1 0 1 0 met 0
         ∷ row 2 0 2 0 met 0
-        ∷ row 2 0 1 0 timedOut 0
+        ∷ row 2 0 1 0 timed_out 0
         ∷ row 3 0 1 0 failed 0
         ∷ row 3 0 2 0 met 0
         ∷ row 3 0 1 0 waiting 0
-        ∷ row 1 0 1 0 timedOut 0
+        ∷ row 1 0 1 0 timed_out 0
         ∷ row 0 0 1 0 waiting 0
         ∷ [];
     puts = 0 ∷ 0 ∷ [];
@@ -274,8 +274,8 @@ drawn_5 = record {
         ∷ row 0 0 1 0 met 0
         ∷ row 0 1 2 0 met 0
         ∷ row 1 1 1 0 met 0
-        ∷ row 0 0 1 1378617469 timedOut 0
-        ∷ row 2 1 2 0 timedOut 0
+        ∷ row 0 0 1 1378617469 timed_out 0
+        ∷ row 2 1 2 0 timed_out 0
         ∷ [];
     puts = 1549137001 ∷ 0 ∷ [];
     gets = 1549137001 ∷ 0 ∷ [];
@@ -325,11 +325,11 @@ drawn_6 = record {
         ∷ row 1 0 2 0 met 453937683
         ∷ row 2 0 1 3521279124 met 0
         ∷ row 2 0 1 453937683 met 0
-        ∷ row 2 0 2 0 timedOut 0
+        ∷ row 2 0 2 0 timed_out 0
         ∷ row 3 0 2 0 waiting 0
-        ∷ row 1 0 2 0 timedOut 0
-        ∷ row 0 0 2 0 timedOut 0
-        ∷ row 1 0 2 0 timedOut 0
+        ∷ row 1 0 2 0 timed_out 0
+        ∷ row 0 0 2 0 timed_out 0
+        ∷ row 1 0 2 0 timed_out 0
         ∷ [];
     puts = 3521279124 ∷ 453937683 ∷ [];
     gets = 3521279124 ∷ 453937683 ∷ [];
@@ -483,7 +483,7 @@ drawn_9 = record {
         ∷ row 3 0 2 0 met 0
         ∷ row 0 0 2 0 failed 0
         ∷ row 0 0 2 0 failed 0
-        ∷ row 0 0 2 0 timedOut 0
+        ∷ row 0 0 2 0 timed_out 0
         ∷ row 1 0 1 0 failed 0
         ∷ row 1 0 2 0 waiting 0
         ∷ row 2 0 1 0 met 0
@@ -584,7 +584,7 @@ drawn_11 = record {
       ∷ [];
   ledger = record {
     requests =
-        row 0 0 2 0 timedOut 0
+        row 0 0 2 0 timed_out 0
         ∷ row 0 0 2 0 met 464803428
         ∷ row 1 0 3 0 met 0
         ∷ row 1 0 2 0 met 464803428
@@ -708,8 +708,8 @@ drawn_13 = record {
         row 1 1 1 0 met 0
         ∷ row 0 2 2 0 met 18446744069414584320
         ∷ row 3 0 2 0 met 10907457610156343297
-        ∷ row 4 2 2 0 timedOut 0
-        ∷ row 5 1 1 0 timedOut 0
+        ∷ row 4 2 2 0 timed_out 0
+        ∷ row 5 1 1 0 timed_out 0
         ∷ row 5 2 1 18446744069414584320 met 0
         ∷ row 5 2 1 12501263615 met 0
         ∷ row 5 1 1 0 failed 0
@@ -776,7 +776,7 @@ drawn_14 = record {
   ledger = record {
     requests =
         row 0 0 2 0 met 4294967296
-        ∷ row 1 0 2 0 timedOut 0
+        ∷ row 1 0 2 0 timed_out 0
         ∷ row 3 3 2 0 met 3539000463
         ∷ row 1 0 1 4294967296 met 0
         ∷ row 1 0 2 0 met 18446744069414584320

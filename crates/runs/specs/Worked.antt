@@ -3,7 +3,7 @@
 -- moves its table while requests wait (M-105).
 -- A line for each step behind the Blank, a line for each request that the calls opened; refused calls open none.
 use Rattle.std.specs.Prelude.{ℕ, replicate, List, [], ◌∷◌, ◌≡◌, refl}
-use Rattle.history.specs.History.{Class, History, Request, Step, again, asked, begun, called, calls, class_by, class_of, down, failed, gone_on, history, made, met, met_count, next, next_by, opened, part_of, removed_at, removed_by, reread, shown, since_blank, step, those, timedOut, turned, turned_by, turned_to, up, waiting, withdrawn, words_of}
+use Rattle.history.specs.History.{Class, History, Request, Step, again, asked, begun, called, calls, class_by, class_of, down, failed, gone_on, history, made, met, met_count, next, next_by, opened, part_of, removed_at, removed_by, reread, shown, since_blank, step, those, timed_out, turned, turned_by, turned_to, up, waiting, withdrawn, words_of}
 use Rattle.lists.specs.Lists.{all_zero, entries, index_of, insert, numbers, occ, only, packed, without}
 use Rattle.rules.specs.Calls.{add_hub, add_started, add_task, blank, carry_out, deactivate, flag, grant, hold, kept, meet_all, new_hub, pass_all, pass_one, serve, served, service_of, settle, slept, start, stop, tick_all, tick_by, tick_one, wait, yielded}
 use Rattle.rules.specs.Editions.{down_refusal, high_zero, move_refusal, up_refusal, zeros_at}
@@ -162,7 +162,7 @@ pub worked : (
           ∷ row 0 0 1 77 met 0
           ∷ row 1 0 1 9 met 0
           ∷ row 1 0 1 10 failed 0
-          ∷ row 1 0 1 10 timedOut 0
+          ∷ row 1 0 1 10 timed_out 0
           ∷ [];
       puts = 77 ∷ 9 ∷ [];
       gets = 77 ∷ [];
@@ -233,7 +233,7 @@ pub worked : (
     }
     ) × (
     shows moved ≡ record {
-      requests = row 0 0 2 0 met 4294967303 ∷ row 1 0 1 4294967303 met 0 ∷ row 0 1 2 0 timedOut 0 ∷ [];
+      requests = row 0 0 2 0 met 4294967303 ∷ row 1 0 1 4294967303 met 0 ∷ row 0 1 2 0 timed_out 0 ∷ [];
       puts = 4294967303 ∷ [];
       gets = 4294967303 ∷ [];
       removed = 0;
