@@ -4,6 +4,7 @@
 // table; where the lists are exact, the rules'.
 // Not here: what an effective priority means (crate rules), the reordering at the end of a call, the services.
 #![tactic(auto)]
+
 ghost use Rattle.std.specs.Prelude.{◌<◌, min, get_or, length, ◌≡◌};
 ghost use Rattle.inherit.specs.Asked.{asked_owner, is_asked, nobody_asked};
 ghost use Rattle.inherit.specs.Keyed.{Keyed, Owned};

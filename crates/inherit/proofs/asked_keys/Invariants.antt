@@ -1,9 +1,7 @@
 -- `inherit::asked_keys` meets its contract. The loop's invariant is `Filling`: the keys below i are the effective priorities, the others
 -- own ones still. Assumes nothing.
 use Prim.Native.Nat.{◌-◌}
-use Rattle.inherit.proofs.Sixteen.{Filling, filling_asked, filling_begin, filling_end, filling_none}
-use borrow.Author.Rules.{rules}
-use mathlib.Core.Logic.{⊎_elim}
+use Rattle.inherit.proofs.Sixteen.{Filling}
 use Rattle.inherit.proofs.asked_keys.Given as goal
 
 abbrev pub invariant-loop-i : goal.invariant-loop-i

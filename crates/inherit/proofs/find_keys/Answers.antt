@@ -1,6 +1,5 @@
 -- `inherit::find_keys` meets its contract: own priorities where nobody is asked, else who is asked finds its own. Assumes nothing.
 use Rattle.inherit.proofs.Sixteen.{keyed_own}
-use borrow.Author.Rules.{rules}
 use mathlib.Core.Path.{◌∙◌, sym}
 use Rattle.inherit.proofs.find_keys.Goals as goal
 

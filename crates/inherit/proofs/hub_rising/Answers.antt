@@ -1,7 +1,6 @@
 -- `inherit::hub_rising` meets its contract: a list without a second word, or one that is walked. Assumes nothing.
 use Prim.Native.Nat.{◌+◌, ◌-◌}
 use Rattle.inherit.proofs.Rising.{hub-lent, hub_short}
-use borrow.Author.Rules.{rules}
 use mathlib.Core.Path.{◌∙◌}
 use native.Mathlib.Omega.{arith}
 use Rattle.inherit.proofs.hub_rising.Goals as goal

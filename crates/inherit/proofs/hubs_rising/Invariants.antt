@@ -1,8 +1,6 @@
 -- `inherit::hubs_rising` meets its contract. The loop has `Passing` for its invariant: the lists so far are rising. Assumes nothing.
 use Prim.Native.Nat.{◌-◌}
-use Rattle.inherit.proofs.Rising.{Passing, passing_begin, passing_end, passing_no, passing_step}
-use borrow.Author.Rules.{rules}
-use borrow.Author.Tests.{not-false, not-true}
+use Rattle.inherit.proofs.Rising.{Passing}
 use Rattle.inherit.proofs.hubs_rising.Given as goal
 
 abbrev pub invariant-loop-h : goal.invariant-loop-h

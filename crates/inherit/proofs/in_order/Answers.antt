@@ -1,8 +1,6 @@
 -- `inherit::in_order` meets its contract: the ready list, then the lists of the hubs. Assumes nothing.
 use Prim.Native.Nat.{◌+◌, ◌-◌}
 use Rattle.inherit.proofs.Rising.{order_no, order_yes, ready-lent}
-use borrow.Author.Rules.{rules}
-use borrow.Author.Tests.{not-false, not-true}
 use mathlib.Core.Path.{◌∙◌}
 use native.Mathlib.Omega.{arith}
 use Rattle.inherit.proofs.in_order.Goals as goal
@@ -13,7 +11,7 @@ returns-then-not-list_rising c L s y x w =
     let p = c.ready_at-a in
     let r = c.list_rising in
     let is = r.ensures ∙ ready-lent L s y x a.t.now w a.keys.now p.result (p.result + 16 - p.result) p.ensures (omega arith) in
-    order_no _ s r.result is (not-true _ c.if-not-list_rising.true)
+    order_no _ s r.result is c.if-not-list_rising.true
 
 pub returns : goal.returns
 returns c L s y x w =
@@ -21,4 +19,4 @@ returns c L s y x w =
     let p = c.ready_at-a in
     let r = c.list_rising in
     let is = r.ensures ∙ ready-lent L s y x a.t.now w a.keys.now p.result (p.result + 16 - p.result) p.ensures (omega arith) in
-    order_yes _ s r.result is (not-false _ c.if-not-list_rising.false) c.hubs_rising.result (c.hubs_rising.ensures L s y x w)
+    order_yes _ s r.result is c.if-not-list_rising.false c.hubs_rising.result (c.hubs_rising.ensures L s y x w)

@@ -1,7 +1,5 @@
 -- `inherit::is_asked` meets its contract: the kind and the list's first word. Assumes nothing.
-use Prim.Native.Nat.{◌*◌, ◌+◌}
 use Rattle.inherit.proofs.Linking.{asked-words}
-use borrow.Author.Rules.{rules}
 use mathlib.Core.Path.{sym}
 use Rattle.inherit.proofs.is_asked.Goals as goal
 

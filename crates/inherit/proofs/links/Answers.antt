@@ -1,7 +1,6 @@
 -- `inherit::links` meets its contract. The loop's invariant is `Linking`: the links of the hubs from h on. Assumes nothing.
 use Prim.Native.Nat.{◌-◌}
-use Rattle.inherit.proofs.Linking.{Linking, among, linking_asked, linking_begin, linking_end, linking_none}
-use borrow.Author.Rules.{rules}
+use Rattle.inherit.proofs.Linking.{among, linking_asked, linking_begin, linking_end, linking_none}
 use native.Mathlib.Omega.{arith}
 use Rattle.inherit.proofs.links.Goals as goal
 

@@ -1,8 +1,5 @@
 -- `inherit::links` meets its contract. The loop's invariant is `Linking`: the links of the hubs from h on. Assumes nothing.
-use Prim.Native.Nat.{◌-◌}
-use Rattle.inherit.proofs.Linking.{Linking, among, linking_asked, linking_begin, linking_end, linking_none}
-use borrow.Author.Rules.{rules}
-use native.Mathlib.Omega.{arith}
+use Rattle.inherit.proofs.Linking.{Linking}
 use Rattle.inherit.proofs.links.Given as goal
 
 abbrev pub invariant-loop-h : goal.invariant-loop-h

@@ -1,9 +1,6 @@
 -- `inherit::list_rising` meets its contract. The loop has `Walking` for its invariant: the whole is rising if what is left is, from
 -- the last key on. Assumes nothing.
-use Prim.Native.Nat.{◌-◌}
-use Rattle.inherit.proofs.Rising.{Walking, walking_begin, walking_end, walking_full, walking_miss, walking_step}
-use borrow.Author.Rules.{rules}
-use lib.ListN.{length}
+use Rattle.inherit.proofs.Rising.{walking_begin, walking_end, walking_full, walking_miss, walking_step}
 use native.Mathlib.Omega.{arith}
 use Rattle.inherit.proofs.list_rising.Goals as goal
 
@@ -11,7 +8,7 @@ pub loop-k-init : goal.loop-k-init
 loop-k-init c = walking_begin _ _
 
 pub overflow_cast-e : goal.overflow_cast-e
-overflow_cast-e c = omega (arith, c.shared_slice_known-in-loop-k-1.given c.loop-k.k)
+overflow_cast-e c = omega (arith, c.type_inv.list c.loop-k.k)
 
 pub returns-then-e-eq0 : goal.returns-then-e-eq0
 returns-then-e-eq0 c =

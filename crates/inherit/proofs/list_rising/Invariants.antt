@@ -1,10 +1,8 @@
 -- `inherit::list_rising` meets its contract. The loop has `Walking` for its invariant: the whole is rising if what is left is, from
 -- the last key on. Assumes nothing.
 use Prim.Native.Nat.{◌-◌}
-use Rattle.inherit.proofs.Rising.{Walking, walking_begin, walking_end, walking_full, walking_miss, walking_step}
-use borrow.Author.Rules.{rules}
+use Rattle.inherit.proofs.Rising.{Walking}
 use lib.ListN.{length}
-use native.Mathlib.Omega.{arith}
 use Rattle.inherit.proofs.list_rising.Given as goal
 
 abbrev pub invariant-loop-k : goal.invariant-loop-k

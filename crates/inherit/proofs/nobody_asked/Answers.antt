@@ -1,7 +1,5 @@
 -- `inherit::nobody_asked` meets its contract. The loop's invariant is `Unasked`: the hubs so far. Assumes nothing.
-use Prim.Native.Nat.{◌-◌}
-use Rattle.inherit.proofs.Linking.{Unasked, unasked_begin, unasked_end, unasked_step}
-use borrow.Author.Rules.{rules}
+use Rattle.inherit.proofs.Linking.{unasked_begin, unasked_end, unasked_step}
 use Rattle.inherit.proofs.nobody_asked.Goals as goal
 
 pub loop-h-init : goal.loop-h-init

@@ -1,9 +1,6 @@
 -- `inherit::own_keys` meets its contract. The loop's invariant is `Reading`: the keys below i are own priorities. Assumes nothing.
 use Prim.Native.Nat.{◌-◌}
-use Rattle.inherit.proofs.Sixteen.{Reading, reading_begin, reading_end, reading_step}
-use Rattle.inherit.proofs.Turns.{own-word}
-use borrow.Author.Rules.{rules}
-use mathlib.Core.Path.{refl}
+use Rattle.inherit.proofs.Sixteen.{Reading}
 use Rattle.inherit.proofs.own_keys.Given as goal
 
 abbrev pub invariant-loop-i : goal.invariant-loop-i
