@@ -1,5 +1,5 @@
 -- A test of every number below n, from 0 up: a turn of each loop that makes one. Assumes nothing.
-use Prim.Native.Nat.{◌+◌, ◌-◌, ◌<◌, ◌≤◌, suc, zero, ℕ}
+use Prim.Native.Nat.{◌+◌, ◌<◌, ◌≤◌, suc, zero, ℕ}
 use Rattle.lists.proofs.Laws.{bool_case}
 use Rattle.rules.specs.WellFormed.{for_all}
 use borrow.Author.Tests.{eqb-false, eqb-true}

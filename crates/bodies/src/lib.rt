@@ -3,6 +3,7 @@
 // contracts speak of every layout that has it.
 // Not here: the lists, the task records, the whole (crate wellformed).
 #![tactic(auto)]
+
 ghost use Rattle.std.specs.Prelude.{◌<◌, ◌≤◌, eqb, get_or, length, ◌&&◌, true, ◌≡◌};
 ghost use Rattle.bodies.specs.Bodies.{Used, body_test, kind_test, marks_test, owner_of, owner_test, store_test};
 ghost use Rattle.lists.specs.Lists.{all_zero};

@@ -1,16 +1,12 @@
 -- `bodies::bodies_right` meets its contract. The loop's invariant: the hubs so far are right but for their lists, in every
 -- layout. Assumes nothing.
 use Prim.Native.Nat.{◌-◌, ◌≤◌}
-use Rattle.bodies.proofs.Turns.{for_all_end, for_all-fail, for_all-none, for_all-step}
 use Rattle.bodies.specs.Bodies.{body_test}
 use Rattle.rules.proofs.Layouts.{Laid}
 use Rattle.rules.specs.Table.{Layout}
 use Rattle.rules.specs.WellFormed.{for_all}
-use borrow.Author.Rules.{rules}
-use borrow.Author.Tests.{not-false, not-true}
 use mathlib.Core.Bool.{true}
-use mathlib.Core.Path.{◌∙◌, ◌≡◌, sym}
-use native.Mathlib.Omega.{arith}
+use mathlib.Core.Path.{◌≡◌}
 use Rattle.bodies.proofs.bodies_right.Given as goal
 
 abbrev pub invariant-loop-h : goal.invariant-loop-h

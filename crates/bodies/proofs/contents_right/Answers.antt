@@ -2,7 +2,6 @@
 -- code's. Assumes nothing.
 use Rattle.rules.specs.Table.{hubs_at, ready_at, stores_at, waits_at}
 use Rattle.rules.specs.WellFormed.{contents_right}
-use borrow.Author.Rules.{rules}
 use mathlib.Core.Path.{◌≡◌}
 use native.Mathlib.Omega.{arith}
 use Rattle.bodies.proofs.contents_right.Goals as goal

@@ -1,10 +1,9 @@
 -- `bodies::kind_right` meets its contract: an arm for each kind of the kinds table. Assumes nothing.
 use Prim.Native.Nat.{◌*◌, ◌+◌}
 use Rattle.bodies.proofs.Hubs.{kind_arm, memory_arm}
-use Rattle.rules.proofs.Numbers.{no_kind, past_kinds}
+use Rattle.rules.proofs.Numbers.{no_kind}
 use Rattle.rules.specs.Table.{kind_of}
 use Rattle.rules.specs.WellFormed.{kind_right}
-use borrow.Author.Rules.{rules}
 use lib.ListN.{get_or}
 use mathlib.Core.Path.{◌∙◌, refl, sym}
 use native.Mathlib.Omega.{arith}
@@ -56,6 +55,5 @@ pub returns-in_default : goal.returns-in_default
 unfolding kind_right
 returns-in_default c L y =
     let p = c.hubs_at in
-    let n = c.in_default.rest in
     sym (kind_arm L c.args.t.now c.args.h c.requires.h_bound (p.result + c.args.h * 4) (omega (arith, p.ensures)) _ refl
-    ∙ rw (no_kind (get_or c.args.t.now (p.result + c.args.h * 4) 0) (λ h. past_kinds _ h n.0.0.0.0.0.0.1 n.0.0.0.0.0.1 n.0.0.0.0.1 n.0.0.0.1 n.0.0.1 n.0.1 n.1)))
+    ∙ rw (no_kind (get_or c.args.t.now (p.result + c.args.h * 4) 0) (λ h. omega arith)))

@@ -1,15 +1,9 @@
 -- `bodies::marks_right` meets its contract. The loop's invariant is `Counting`, in every layout: the marks below b, and how many
 -- of them are 0. Assumes nothing.
-use Prim.Native.Nat.{◌*◌, ◌-◌, ◌≤◌, ℕ}
-use Rattle.bodies.proofs.Blocks.{Counting, counting_begin, counting_end, counting_no, counting_turn, mark_read}
-use Rattle.bodies.specs.Bodies.{marks_of}
+use Prim.Native.Nat.{◌-◌, ◌≤◌}
+use Rattle.bodies.proofs.Blocks.{Counting}
 use Rattle.rules.proofs.Layouts.{Laid}
 use Rattle.rules.specs.Table.{Layout}
-use borrow.Author.Rules.{rules}
-use lib.ListN.{get_or}
-use mathlib.Core.Path.{◌∙◌, ◌≡◌}
-use native.Mathlib.Nat.{mul-le-mul}
-use native.Mathlib.Omega.{arith}
 use Rattle.bodies.proofs.marks_right.Given as goal
 
 abbrev pub invariant-loop-b : goal.invariant-loop-b

@@ -1,7 +1,6 @@
 -- `bodies::owner_right` meets its contract: the owner's state is read once its number is known to be in use. Assumes nothing.
 use Prim.Native.Nat.{◌*◌, ◌+◌}
 use Rattle.bodies.proofs.Hubs.{owner_far, owner-none, owner-reads}
-use borrow.Author.Rules.{rules}
 use mathlib.Core.Path.{◌∙◌, sym}
 use native.Mathlib.Omega.{arith}
 use Rattle.bodies.proofs.owner_right.Goals as goal

@@ -1,7 +1,6 @@
 -- `bodies::store_blank` meets its contract: the store as the code lends it is the hub's. Assumes nothing.
 use Rattle.bodies.proofs.Hubs.{store_part_lem}
 use Rattle.rules.proofs.Layouts.{store_place}
-use borrow.Author.Rules.{rules}
 use mathlib.Core.Path.{◌∙◌}
 use native.Mathlib.Omega.{arith}
 use Rattle.bodies.proofs.store_blank.Goals as goal

@@ -1,8 +1,7 @@
 -- `bodies::unused_zero` meets its contract: each of its four parts is zeros. Assumes nothing.
-use Prim.Native.Nat.{◌*◌, ◌+◌, ◌≤◌}
+use Prim.Native.Nat.{◌*◌, ◌+◌}
 use Rattle.rules.specs.Table.{hubs_at, ready_at, size, store_size, stores_at, waits_at}
 use Rattle.rules.specs.WellFormed.{unused_zero}
-use borrow.Author.Rules.{rules}
 use lib.ListN.{get_or}
 use mathlib.Core.Path.{◌≡◌}
 use native.Mathlib.Nat.{mul-le-mul_right}
@@ -10,31 +9,23 @@ use native.Mathlib.Omega.{arith}
 use Rattle.bodies.proofs.unused_zero.Goals as goal
 
 -- the task records in use, and the stores, lie inside the 16
--- TODO place After-stores_at-stores
-tasks : (c : tie.After-stores-at) → get_or c.args.t.now 1 0 * c.args.ts ≤ 16 * c.args.ts
-tasks c = mul-le-mul_right c.args.ts c.requires.tasks
-
--- TODO place After-store_size
-stores : (c : tie.After-store-size) → get_or c.args.t.now 2 0 * c.store_size.result ≤ 16 * c.store_size.result
-stores c = mul-le-mul_right c.store_size.result c.requires.hubs
-
 pub overflow_mul-n : goal.overflow_mul-n
-overflow_mul-n c = omega (arith, tasks c)
+overflow_mul-n c = omega (arith, mul-le-mul_right c.args.ts c.requires.tasks)
 
 pub overflow_add-n : goal.overflow_add-n
-overflow_add-n c = omega (arith, tasks c)
+overflow_add-n c = omega (arith, mul-le-mul_right c.args.ts c.requires.tasks)
 
 pub zero_from-requires : goal.zero_from-requires
-zero_from-requires c = (omega (arith, tasks c), omega arith)
+zero_from-requires c = (omega (arith, mul-le-mul_right c.args.ts c.requires.tasks), omega arith)
 
 pub overflow_mul-m-2 : goal.overflow_mul-m-2
-overflow_mul-m-2 c = omega (arith, stores c)
+overflow_mul-m-2 c = omega (arith, mul-le-mul_right c.store_size.result c.requires.hubs)
 
 pub overflow_add-stores : goal.overflow_add-stores
-overflow_add-stores c = omega (arith, stores c)
+overflow_add-stores c = omega (arith, mul-le-mul_right c.store_size.result c.requires.hubs)
 
 pub zero_from-requires-4 : goal.zero_from-requires-4
-zero_from-requires-4 c = (omega (arith, stores c), omega arith)
+zero_from-requires-4 c = (omega (arith, mul-le-mul_right c.store_size.result c.requires.hubs), omega arith)
 
 pub returns : goal.returns
 unfolding unused_zero
