@@ -11,6 +11,6 @@ returns c L y =
     let t = c.args.t.now in
     let e = c.requires.exact_table.each L y in
     let s = exact_sound L t e in
-    let w = exact_words L t e y (λ k. omega (arith, c.shared_slice_known-1.given k)) in
+    let w = exact_words L t e y (λ k. omega (arith, c.type_inv.t k)) in
     let ks = c.find_keys.ensures in
     formed_by L t _ _ e ks.long (ks.each L (read L t) y s w) (c.in_order.ensures L (read L t) y s w)

@@ -4,7 +4,6 @@ use Rattle.bodies.proofs.Parts.{lent-long}
 use Rattle.lists.proofs.Padding.{all_zero-at}
 use Rattle.wellformed.proofs.Hubs.{queue_as, queue_barred, queue_far, queue_none, queue_walked}
 use borrow.Author.Rules.{rules}
-use borrow.Author.Tests.{not-false, not-true}
 use mathlib.Core.Bool.{false, true}
 use mathlib.Core.Path.{◌∙◌, sym}
 use native.Mathlib.Omega.{arith}
@@ -37,7 +36,7 @@ returns-then-not-may_wait c L y =
     let p = c.task_at in
     let r = c.hubs_at in
     queue_as L c.args.t.now c.args.h c.requires.h_bound a.result (omega arith)
-    (queue_barred L c.args.t.now c.args.h c.requires.h_bound _ c.args.marks.now c.if-e-eq0.false y p.result p.ensures.place (r.result + c.args.h * 4) (omega arith) c.if-e-t.false (sym c.may_wait.ensures ∙ not-true _ c.if-not-may_wait.true))
+    (queue_barred L c.args.t.now c.args.h c.requires.h_bound _ c.args.marks.now c.if-e-eq0.false y p.result p.ensures.place (r.result + c.args.h * 4) (omega arith) c.if-e-t.false (sym c.may_wait.ensures ∙ c.if-not-may_wait.true))
 
 pub walk-requires : goal.walk-requires
 walk-requires c =     let a = c.waits_at-at in record { used = c.requires.used; list_len = lent-long c.args.t.now a.result 16 (omega arith); marks = c.requires.marks; }
@@ -48,4 +47,4 @@ returns c L y =
     let p = c.task_at in
     let r = c.hubs_at in
     queue_as L c.args.t.now c.args.h c.requires.h_bound a.result (omega arith)
-    (queue_walked L c.args.t.now c.args.h c.requires.h_bound _ c.args.marks.now c.if-e-eq0.false y p.result p.ensures.place (r.result + c.args.h * 4) (omega arith) c.if-e-t.false (sym c.may_wait.ensures ∙ not-false _ c.if-not-may_wait.false) c.owner_of.result c.owner_of.ensures (c.walk.ensures L y))
+    (queue_walked L c.args.t.now c.args.h c.requires.h_bound _ c.args.marks.now c.if-e-eq0.false y p.result p.ensures.place (r.result + c.args.h * 4) (omega arith) c.if-e-t.false (sym c.may_wait.ensures ∙ c.if-not-may_wait.false) c.owner_of.result c.owner_of.ensures (c.walk.ensures L y))

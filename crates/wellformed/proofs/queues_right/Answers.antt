@@ -5,7 +5,6 @@ use Rattle.rules.proofs.Layouts.{Laid, in_some}
 use Rattle.rules.specs.Table.{Layout}
 use Rattle.wellformed.proofs.Hubs.{Passing, passing_begin, passing_end, passing_low, passing_no, passing_step}
 use borrow.Author.Rules.{rules}
-use borrow.Author.Tests.{not-false, not-true}
 use Rattle.wellformed.proofs.queues_right.Goals as goal
 
 pub loop-h-init : goal.loop-h-init
@@ -20,12 +19,12 @@ queue_right-requires c =
 pub returns-then-not-queue_right : goal.returns-then-not-queue_right
 returns-then-not-queue_right c L y =
     let l = c.loop-h in
-    passing_no L _ _ l.marks l.h (l.invariant L y) c.loop-h-test.true c.queue_right.result _ (c.queue_right.ensures L y) (not-true _ c.if-not-queue_right.true)
+    passing_no L _ _ l.marks l.h (l.invariant L y) c.loop-h-test.true c.queue_right.result _ (c.queue_right.ensures L y) c.if-not-queue_right.true
 
 pub loop-h-preserved : goal.loop-h-preserved
 loop-h-preserved c L y =
     let l = c.loop-h in
-    passing_step L _ _ l.marks l.h (l.invariant L y) c.loop-h-test.true c.queue_right.result _ (c.queue_right.ensures L y) (not-false _ c.if-not-queue_right.false)
+    passing_step L _ _ l.marks l.h (l.invariant L y) c.loop-h-test.true c.queue_right.result _ (c.queue_right.ensures L y) c.if-not-queue_right.false
 
 pub returns : goal.returns
 returns c L y =

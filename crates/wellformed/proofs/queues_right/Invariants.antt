@@ -5,7 +5,6 @@ use Rattle.rules.proofs.Layouts.{Laid, in_some}
 use Rattle.rules.specs.Table.{Layout}
 use Rattle.wellformed.proofs.Hubs.{Passing, passing_begin, passing_end, passing_low, passing_no, passing_step}
 use borrow.Author.Rules.{rules}
-use borrow.Author.Tests.{not-false, not-true}
 use Rattle.wellformed.proofs.queues_right.Given as goal
 
 abbrev pub invariant-loop-h : goal.invariant-loop-h

@@ -9,13 +9,15 @@ use Rattle.rules.specs.WellFormed.{for_all}
 use Rattle.wellformed.proofs.Turns.{record_task}
 use Rattle.wellformed.specs.Walks.{task_right}
 use borrow.Author.Rules.{rules}
-use borrow.Author.Tests.{not-false, not-true}
 use lib.ListN.{get_or}
 use mathlib.Core.Bool.{Bool, true}
 use mathlib.Core.List.{List}
 use mathlib.Core.Path.{◌∙◌, ◌≡◌, sym}
 use native.Mathlib.Omega.{arith}
 use Rattle.wellformed.proofs.tasks_right.Given as goal
+
+abbrev pub passes : Layout → List ℕ → List ℕ → ℕ → Bool
+passes L t marks i = task_right (read L t) i (get_or marks i 0)
 
 abbrev pub invariant-loop-i : goal.invariant-loop-i
 invariant-loop-i l = (l.i ≤ l.n) × ((L : Layout) → Laid l.ts L → for_all l.i (passes L l.t l.marks) ≡ true)

@@ -25,7 +25,7 @@ returns-then-not-wordless c L y =
 pub returns : goal.returns
 returns c L y =
     let l = c.args.x.now in
-    let none = sym (c.wordless.ensures L y) ∙ not-false _ c.if-not-wordless.false in
+    let none = sym (c.wordless.ensures L y) ∙ c.if-not-wordless.false in
     rw
     (answer_last L y l)
     (sym (rw (read-hubs L c.args.t.now) at (waiting_bare (read L c.args.t.now) (record_of L l) c.if-x-gt-MOST_TICKS.false none)))

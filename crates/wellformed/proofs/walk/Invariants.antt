@@ -5,7 +5,6 @@ use Rattle.rules.proofs.Layouts.{Laid, in_some}
 use Rattle.rules.specs.Table.{Layout}
 use Rattle.wellformed.proofs.Turns.{Walking, walking_begin, walking_end, walking_full, walking_hit, walking_low, walking_miss, walking_used}
 use borrow.Author.Rules.{rules}
-use borrow.Author.Tests.{not-false, not-true}
 use lib.ListN.{get_or}
 use mathlib.Core.Path.{◌∙◌, sym}
 use native.Mathlib.Omega.{arith}
