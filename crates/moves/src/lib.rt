@@ -2,6 +2,7 @@
 // Each says of every state that the table holds which state it holds afterwards. Safe on any table of the length required.
 // Not here: which move a service makes, and when.
 #![tactic(auto)]
+
 ghost use Rattle.std.specs.Prelude.{◌*◌, ◌+◌, ◌<◌, ◌≤◌, length, ◌≡◌};
 ghost use Rattle.messages.specs.Messages.{messages};
 ghost use Rattle.moves.specs.Moves.{JoinsHub, JoinsReady, TaskHeld, key_of, task_of};

@@ -4,7 +4,6 @@ use Rattle.moves.proofs.Laws.{entry_first, entry_read, entry_stands, no_entry, n
 use Rattle.records.specs.Records.{first}
 use Rattle.rules.proofs.Standing.{listed-waiting}
 use Rattle.rules.specs.Table.{Task, hub}
-use borrow.Author.Rules.{rules}
 use lib.ListN.{get_or}
 use mathlib.Core.Path.{◌∙◌, ◌≡◌, ap, sym}
 use Rattle.moves.proofs.first_waiter.Goals as goal

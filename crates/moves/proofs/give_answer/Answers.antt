@@ -1,7 +1,6 @@
 -- `moves::give_answer` meets its contract. Assumes nothing.
 use Rattle.rules.specs.Lists.{answer, answered}
 use Rattle.rules.specs.Table.{Task, set_task, words}
-use borrow.Author.Rules.{rules}
 use mathlib.Core.Path.{◌∙◌, ap}
 use Rattle.moves.proofs.give_answer.Goals as goal
 

@@ -2,7 +2,6 @@
 use Prim.Native.Nat.{◌+◌, ◌-◌, ℕ}
 use Rattle.lists.proofs.Laws.{place_most}
 use Rattle.moves.proofs.Laws as Laws
-use borrow.Author.Rules.{rules}
 use lib.ListN.{drop, get_or}
 use mathlib.Core.Path.{◌∙◌, ◌≡◌}
 use native.Mathlib.Omega.{arith}

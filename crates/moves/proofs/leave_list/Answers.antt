@@ -2,7 +2,6 @@
 use Prim.Native.Nat.{◌-◌, suc}
 use Rattle.moves.proofs.Laws.{by_hub, by_none, by_nowhere, by_ready, hub-used}
 use Rattle.rules.proofs.Room.{stands-ready-once, stands-waits-once}
-use borrow.Author.Rules.{rules}
 use mathlib.Core.Path.{◌∙◌, ◌≡◌}
 use native.Mathlib.Omega.{arith}
 use Rattle.moves.proofs.leave_list.Goals as goal

@@ -1,7 +1,6 @@
 -- `moves::leave_ready` meets its contract. Assumes nothing.
 use Prim.Native.Nat.{◌+◌, ◌-◌, ℕ}
 use Rattle.moves.proofs.Laws as Laws
-use borrow.Author.Rules.{rules}
 use mathlib.Core.Path.{◌≡◌}
 use native.Mathlib.Omega.{arith}
 use Rattle.moves.proofs.leave_ready.Goals as goal

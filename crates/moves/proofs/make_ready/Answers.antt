@@ -1,7 +1,6 @@
 -- `moves::make_ready` meets its contract. Assumes nothing.
 use Rattle.rules.specs.Lists.{readied}
 use Rattle.rules.specs.Table.{Task, set_task, words}
-use borrow.Author.Rules.{rules}
 use mathlib.Core.Path.{◌∙◌, ap}
 use Rattle.moves.proofs.make_ready.Goals as goal
 

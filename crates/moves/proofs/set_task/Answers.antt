@@ -1,6 +1,5 @@
 -- `moves::set_task` meets its contract. Assumes nothing.
 use Rattle.moves.proofs.Laws.{record_written}
-use borrow.Author.Rules.{rules}
 use mathlib.Core.Path.{◌∙◌}
 use Rattle.moves.proofs.set_task.Goals as goal
 
@@ -8,4 +7,4 @@ pub returns : goal.returns
 returns c =
     λ L s y fits used e.
     let p = c.requires in
-    c.set_task.ensures ∙ rw e (record_written L s y fits _ used p.0.high p.0.low _ p.1.1)
+    c.set_task.ensures ∙ rw e (record_written L s y fits _ used p.table.high p.table.low _ p.word_bound)

@@ -1,7 +1,6 @@
 -- `moves::task_at` meets its contract. Assumes nothing.
 use Rattle.moves.proofs.Laws.{record_read}
 use Rattle.moves.specs.Moves.{task_of}
-use borrow.Author.Rules.{rules}
 use mathlib.Core.Path.{◌∙◌, ap}
 use Rattle.moves.proofs.task_at.Goals as goal
 

@@ -2,7 +2,6 @@
 use Rattle.rules.proofs.Room.{sound_stands}
 use Rattle.rules.specs.Lists.{leave, wake}
 use Rattle.rules.specs.Table.{set_task}
-use borrow.Author.Rules.{rules}
 use Rattle.moves.proofs.wake_task.Goals as goal
 
 pub returns : goal.returns
