@@ -4,6 +4,7 @@
 // A message is one number; what a verdict says of messages is below any bound that those handed in are below.
 // Not here: where the words stand in the table, and what a verdict does to it.
 #![tactic(auto)]
+
 ghost use Rattle.std.specs.Prelude.{◌<◌, suc, ℕ, eqb, get_or, length, List, [], ◌≡◌};
 ghost use Rattle.hubtable.specs.Says.{Below, RecordOf, StoreBelow, met_with, says, store_after};
 ghost use Rattle.records.specs.Records.{first};

@@ -7,4 +7,4 @@ use Rattle.hubtable.proofs.alone.Goals as goal
 
 pub returns : goal.returns
 unfolding Below StoreBelow first met_with says
-returns c = record { by_index = (λ held. refl); by_index_2 = λ b st w. (st, w, omega arith); }
+returns c = record { by_index = (λ held. refl); by_index_2 = λ b st w. (st, w, omega arith) }

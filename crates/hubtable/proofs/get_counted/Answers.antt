@@ -4,7 +4,6 @@ use Rattle.hubtable.proofs.Rows.{counted_empty}
 use Rattle.records.proofs.Laws.{first-none, first_some}
 use Rattle.hubtable.specs.Says.{Below, StoreBelow, met_with, says, store_after}
 use Rattle.rules.specs.HubTable.{get_semaphore}
-use borrow.Author.Rules.{rules}
 use borrow.Author.Tests.{lt-ltb}
 use mathlib.Core.Path.{◌∙◌}
 use native.Mathlib.Numerals.{sub-one}
@@ -13,24 +12,24 @@ use Rattle.hubtable.proofs.get_counted.Goals as goal
 
 pub returns-then-h-eq0 : goal.returns-then-h-eq0
 unfolding Below says
-returns-then-h-eq0 c = record { result_value = (λ x e. counted_empty _ x (omega arith)); by_index = λ b z. tt; }
+returns-then-h-eq0 c = record { result_value = (λ x e. counted_empty _ x (omega arith)); by_index = λ b z. tt }
 
 pub returns-then-waiter-ne0 : goal.returns-then-waiter-ne0
 unfolding StoreBelow get_semaphore met_with store_after
 returns-then-waiter-ne0 c =
-    (
-  (λ x e.
-      let above : 0 < x.count = omega arith in
-      c.pair.ensures.by_index x.held ∙ rw (first_some _ c.if-waiter-ne0.true, lt-ltb 0 x.count above, e.count)),
-  λ b z. c.pair.ensures.by_index_2 b tt z z,
-)
+    record {
+      result_value = (λ x e.
+          let above : 0 < x.count = omega arith in
+          c.pair.ensures.by_index x.held ∙ rw (first_some _ c.if-waiter-ne0.true, lt-ltb 0 x.count above, e.count));
+      by_index = λ b z. c.pair.ensures.by_index_2 b tt z z;
+    }
 
 pub returns : goal.returns
 unfolding StoreBelow get_semaphore store_after
 returns c =
-    (
-  (λ x e.
-      let above : 0 < x.count = omega arith in
-      c.alone.ensures.by_index x.held ∙ rw (first-none _ c.if-waiter-ne0.false, lt-ltb 0 x.count above, e.count, sub-one)),
-  λ b z. c.alone.ensures.by_index_2 b tt z,
-)
+    record {
+      result_value = (λ x e.
+          let above : 0 < x.count = omega arith in
+          c.alone.ensures.by_index x.held ∙ rw (first-none _ c.if-waiter-ne0.false, lt-ltb 0 x.count above, e.count, sub-one));
+      by_index = λ b z. c.alone.ensures.by_index_2 b tt z;
+    }

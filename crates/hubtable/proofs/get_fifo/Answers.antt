@@ -2,7 +2,6 @@
 use Rattle.hubtable.proofs.Rows.{fifo-alone, fifo_empty, fifo-pair}
 use Rattle.records.proofs.Laws.{first-none, first_some}
 use Rattle.hubtable.specs.Says.{Below, StoreBelow, says, store_after}
-use borrow.Author.Rules.{rules}
 use mathlib.Core.Path.{◌∙◌}
 use native.Mathlib.Numerals.{sub-one}
 use native.Mathlib.Omega.{arith}
@@ -10,28 +9,28 @@ use Rattle.hubtable.proofs.get_fifo.Goals as goal
 
 pub returns-then-h-eq0 : goal.returns-then-h-eq0
 unfolding Below says
-returns-then-h-eq0 c = record { result_value = (λ x s e full its oldest. fifo_empty s x.held _ x (omega arith)); by_index = λ b z its oldest. tt; }
+returns-then-h-eq0 c = record { result_value = (λ x s e full its oldest. fifo_empty s x.held _ x (omega arith)); by_index = λ b z its oldest. tt }
 
 pub returns-then-waiter-ne0 : goal.returns-then-waiter-ne0
 unfolding StoreBelow store_after
 returns-then-waiter-ne0 c =
-    (
-  (λ x s e full its oldest.
-      c.pair.ensures.by_index x.held
-      ∙ rw
-      (first_some _ c.if-waiter-ne0.true, e.count, its _ (first_some _ c.if-waiter-ne0.true), oldest)
-      (fifo-pair s x.held _ x (λ z. omega arith))),
-  λ b z its oldest. c.pair.ensures.by_index_2 b its oldest z,
-)
+    record {
+      result_value = (λ x s e full its oldest.
+          c.pair.ensures.by_index x.held
+          ∙ rw
+          (first_some _ c.if-waiter-ne0.true, e.count, its _ (first_some _ c.if-waiter-ne0.true), oldest)
+          (fifo-pair s x.held _ x (λ z. omega arith)));
+      by_index = λ b z its oldest. c.pair.ensures.by_index_2 b its oldest z;
+    }
 
 pub returns : goal.returns
 unfolding StoreBelow store_after
 returns c =
-    (
-  (λ x s e full its oldest.
-      c.alone.ensures.by_index x.held
-      ∙ rw
-      (first-none _ c.if-waiter-ne0.false, e.count, oldest, sub-one)
-      (fifo-alone s x.held x (λ z. omega arith))),
-  λ b z its oldest. c.alone.ensures.by_index_2 b tt oldest,
-)
+    record {
+      result_value = (λ x s e full its oldest.
+          c.alone.ensures.by_index x.held
+          ∙ rw
+          (first-none _ c.if-waiter-ne0.false, e.count, oldest, sub-one)
+          (fifo-alone s x.held x (λ z. omega arith)));
+      by_index = λ b z its oldest. c.alone.ensures.by_index_2 b tt oldest;
+    }

@@ -1,6 +1,5 @@
 -- `hubtable::owns` meets its contract. Assumes nothing.
 use Rattle.hubtable.proofs.Rows.{eqb-pred}
-use borrow.Author.Rules.{rules}
 use lib.Dec.{eqb-zero-suc}
 use mathlib.Core.Path.{sym}
 use Rattle.hubtable.proofs.owns.Goals as goal

@@ -5,4 +5,4 @@ use Rattle.hubtable.proofs.pair.Goals as goal
 
 pub returns : goal.returns
 unfolding Below StoreBelow says
-returns c = record { by_index = (λ held. refl); by_index_2 = λ b st w its. (st, w, its); }
+returns c = record { by_index = (λ held. refl); by_index_2 = λ b st w its. (st, w, its) }

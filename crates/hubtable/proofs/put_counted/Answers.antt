@@ -2,7 +2,6 @@
 use Rattle.records.proofs.Laws.{first-none, first_some}
 use Rattle.hubtable.specs.Says.{Below, StoreBelow, met_with, says, store_after}
 use Rattle.rules.specs.HubTable.{put_semaphore}
-use borrow.Author.Rules.{rules}
 use borrow.Author.Tests.{le-ltb, lt-ltb}
 use mathlib.Core.Path.{◌∙◌}
 use native.Mathlib.Numerals.{add-one}
@@ -10,29 +9,29 @@ use Rattle.hubtable.proofs.put_counted.Goals as goal
 
 pub returns-then-waiter-ne0 : goal.returns-then-waiter-ne0
 unfolding StoreBelow met_with put_semaphore store_after
-returns-then-waiter-ne0 c = record { result_value = (λ x e. c.pair.ensures.by_index x.held ∙ rw (first_some _ c.if-waiter-ne0.true, e.count)); by_index = λ b z. c.pair.ensures.by_index_2 b tt z z; }
+returns-then-waiter-ne0 c = record { result_value = (λ x e. c.pair.ensures.by_index x.held ∙ rw (first_some _ c.if-waiter-ne0.true, e.count)); by_index = λ b z. c.pair.ensures.by_index_2 b tt z z }
 
 pub returns-then-h : goal.returns-then-h
 unfolding StoreBelow put_semaphore store_after
 returns-then-h c =
-    (
-  (λ x e.
-      c.alone.ensures.by_index x.held
-      ∙ rw (
-        first-none _ c.if-waiter-ne0.false,
-        ← e.count,
-        ← e.limit,
-        lt-ltb _ _ c.if-h.true,
-        add-one,
-      )),
-  λ b z. c.alone.ensures.by_index_2 b tt z,
-)
+    record {
+      result_value = (λ x e.
+          c.alone.ensures.by_index x.held
+          ∙ rw (
+            first-none _ c.if-waiter-ne0.false,
+            ← e.count,
+            ← e.limit,
+            lt-ltb _ _ c.if-h.true,
+            add-one,
+          ));
+      by_index = λ b z. c.alone.ensures.by_index_2 b tt z;
+    }
 
 pub returns : goal.returns
 unfolding Below put_semaphore says
 returns c =
-    (
-  (λ x e.
-      rw (first-none _ c.if-waiter-ne0.false, ← e.count, ← e.limit, le-ltb _ _ c.if-h.false)),
-  λ b z. tt,
-)
+    record {
+      result_value = (λ x e.
+          rw (first-none _ c.if-waiter-ne0.false, ← e.count, ← e.limit, le-ltb _ _ c.if-h.false));
+      by_index = λ b z. tt;
+    }

@@ -3,7 +3,6 @@ use Rattle.hubtable.specs.Says.{Below, StoreBelow, met_with, says, store_after}
 use Rattle.records.proofs.Laws.{first-none, first_some}
 use Rattle.rules.proofs.Blocks.{all-free}
 use Rattle.rules.specs.HubTable.{give_back, put_memory}
-use borrow.Author.Rules.{rules}
 use mathlib.Core.Bool.{false≢true}
 use mathlib.Core.Path.{◌∙◌, sym}
 use native.Mathlib.Numerals.{add-one}
@@ -13,28 +12,28 @@ use Rattle.hubtable.proofs.put_memory.Goals as goal
 pub returns-then-waiter-ne0 : goal.returns-then-waiter-ne0
 unfolding StoreBelow give_back met_with put_memory store_after
 returns-then-waiter-ne0 c =
-    (
-  (λ x T e r f o. c.pair.ensures.by_index x.held ∙ rw (sym o, c.if-out.true, first_some _ c.if-waiter-ne0.true, e.count)),
-  λ b z w. c.pair.ensures.by_index_2 b tt z w,
-)
+    record {
+      result_value = (λ x T e r f o. c.pair.ensures.by_index x.held ∙ rw (sym o, c.if-out.true, first_some _ c.if-waiter-ne0.true, e.count));
+      by_index = λ b z w. c.pair.ensures.by_index_2 b tt z w;
+    }
 
 pub returns-then-h : goal.returns-then-h
 unfolding StoreBelow give_back put_memory store_after
 returns-then-h c =
-    (
-  (λ x T e r f o. c.alone.ensures.by_index x.held ∙ rw (sym o, c.if-out.true, first-none _ c.if-waiter-ne0.false, e.count, add-one)),
-  λ b z w. c.alone.ensures.by_index_2 b tt z,
-)
+    record {
+      result_value = (λ x T e r f o. c.alone.ensures.by_index x.held ∙ rw (sym o, c.if-out.true, first-none _ c.if-waiter-ne0.false, e.count, add-one));
+      by_index = λ b z w. c.alone.ensures.by_index_2 b tt z;
+    }
 
 -- where a block is out, not all are free
 pub returns-else-h : goal.returns-else-h
 unfolding Below says
 returns-else-h c =
-    (
-  (λ x T e r f o. absurd (false≢true (sym (all-free x T _ r f (omega (arith, e.count, e.limit, c.if-h.false))) ∙ (sym o ∙ c.if-out.true)))),
-  λ b z w. tt,
-)
+    record {
+      result_value = (λ x T e r f o. absurd (false≢true (sym (all-free x T _ r f (omega (arith, e.count, e.limit, c.if-h.false))) ∙ (sym o ∙ c.if-out.true))));
+      by_index = λ b z w. tt;
+    }
 
 pub returns-else-out : goal.returns-else-out
 unfolding Below put_memory says
-returns-else-out c = record { result_value = (λ x T e r f o. rw (sym o, c.if-out.false)); by_index = λ b z w. tt; }
+returns-else-out c = record { result_value = (λ x T e r f o. rw (sym o, c.if-out.false)); by_index = λ b z w. tt }
