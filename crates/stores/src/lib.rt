@@ -2,6 +2,7 @@
 // `lowest_free`), and what a meeting does to its count and store (`hold_hub`).
 // Not here: what the hub says of a request (crate verdicts), its list of waiters (crate moves).
 #![tactic(auto)]
+
 ghost use Rattle.std.specs.Prelude.{◌<◌, ◌≤◌, pred, drop, get_or, length, set, [], ◌++◌, ◌∷◌, ◌≡◌};
 ghost use Rattle.hubtable.specs.Says.{RecordOf, StoreBelow, store_after};
 ghost use Rattle.messages.specs.Messages.{messages};

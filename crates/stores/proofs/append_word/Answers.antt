@@ -1,7 +1,6 @@
 -- `stores::append_word` meets its contract. Assumes nothing.
 use Prim.Native.Nat.{◌*◌, ◌-◌, ◌<◌, ◌≤◌, ℕ}
 use Rattle.stores.proofs.Stores.{store_grown}
-use borrow.Author.Rules.{rules}
 use mathlib.Core.Path.{◌∙◌, ◌≡◌}
 use native.Mathlib.Nat.{mul-le-mul}
 use native.Mathlib.Omega.{arith}
@@ -27,7 +26,7 @@ returns-then-n-lt-STORE_MESSAGES c =
     let p = c.requires in
     let v = c.width_of-v.ensures in
     c.set_message.ensures
-    ∙ rw v (store_grown y p.0.low p.0.high s a.h.0 p.1.0 used a.t.now e _ c.store_at.ensures.place a.n a.w many room p.1.1)
+    ∙ rw v (store_grown y p.table.low p.table.high s a.h.0 p.h_bound used a.t.now e _ c.store_at.ensures.place a.n a.w many room p.w_bound)
 
 pub returns-else-n-lt-STORE_MESSAGES : goal.returns-else-n-lt-STORE_MESSAGES
 returns-else-n-lt-STORE_MESSAGES c = λ L s y used many room e. absurd (omega (arith, c.if-n-lt-STORE_MESSAGES.false))

@@ -9,11 +9,11 @@ use Rattle.stores.proofs.change_store.Goals as goal
 
 pub append_word-requires : goal.append_word-requires
 unfolding StoreBelow
-append_word-requires c = record { table = search rules; h_bound = search rules; w_bound = below_told c.in-Append.is _ c.requires.store_below; }
+append_word-requires c = record { table = search rules; h_bound = search rules; w_bound = below_told c.in-Append.is _ c.requires.store_below }
 
 pub append_word-requires-in-TakeAppend : goal.append_word-requires-in-TakeAppend
 unfolding StoreBelow
-append_word-requires-in-TakeAppend c = record { table = search rules; h_bound = search rules; w_bound = below_told c.in-TakeAppend.is _ c.requires.store_below; }
+append_word-requires-in-TakeAppend c = record { table = search rules; h_bound = search rules; w_bound = below_told c.in-TakeAppend.is _ c.requires.store_below }
 
 pub returns-in-Keep : goal.returns-in-Keep
 unfolding store_after

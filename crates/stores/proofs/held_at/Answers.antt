@@ -1,7 +1,6 @@
 -- `stores::held_at` meets its contract. Assumes nothing.
 use Prim.Native.Nat.{◌*◌, ◌-◌, ◌<◌, ◌≤◌, ℕ}
 use Rattle.stores.proofs.Stores.{held-read}
-use borrow.Author.Rules.{rules}
 use mathlib.Core.Path.{◌∙◌, ◌≡◌}
 use native.Mathlib.Nat.{mul-le-mul}
 use native.Mathlib.Omega.{arith}
@@ -24,9 +23,10 @@ pub returns : goal.returns
 returns c =
     let a = c.args in
     let p = c.requires in
-    let v = c.width_of-v.ensures in (
-      rw v at c.message.ensures.low,
-      λ L s y used e.
+    let v = c.width_of-v.ensures in
+    record {
+      upper_bound = rw v at c.message.ensures.low;
+      value = λ L s y used e.
           rw v at c.message.ensures.value
-          ∙ held-read y p.0.low p.0.high s a.h.0 p.1.0 used a.t.now e _ c.store_at.ensures.place a.k p.1.1,
-    )
+          ∙ held-read y p.table.low p.table.high s a.h.0 p.h_bound used a.t.now e _ c.store_at.ensures.place a.k p.k_bound;
+    }

@@ -5,7 +5,6 @@ use Rattle.rules.proofs.Places.{set-count}
 use Rattle.rules.proofs.Valid.{Held}
 use Rattle.rules.specs.Calls.{hold}
 use Rattle.rules.specs.Table.{hub}
-use borrow.Author.Rules.{rules}
 use lib.ListN.{length}
 use mathlib.Core.Path.{◌∙◌, ◌≡◌}
 use Rattle.stores.proofs.hold_hub.Goals as goal

@@ -1,6 +1,5 @@
 -- `stores::hub_at` meets its contract. Assumes nothing.
 use Rattle.stores.proofs.Laws.{hub-read}
-use borrow.Author.Rules.{rules}
 use Rattle.stores.proofs.hub_at.Goals as goal
 
 pub returns : goal.returns

@@ -2,7 +2,6 @@
 use Prim.Native.Nat.{◌≤◌, ℕ}
 use Rattle.rules.specs.HubTable.{is_out}
 use Rattle.rules.specs.Table.{hub}
-use borrow.Author.Rules.{rules}
 use lib.Dec.{eqb}
 use lib.ListN.{get_or-eq_default, length}
 use mathlib.Core.Path.{ap}

@@ -2,7 +2,6 @@
 use Prim.Native.Nat.{◌+◌, ◌-◌, ℕ}
 use Rattle.records.specs.Records.{store_size}
 use Rattle.stores.proofs.Stores.{store_taken}
-use borrow.Author.Rules.{rules}
 use mathlib.Core.Path.{◌≡◌}
 use native.Mathlib.Omega.{arith}
 use Rattle.stores.proofs.take_oldest.Goals as goal
@@ -15,5 +14,5 @@ returns c =
     let at = c.store_at-a.result in
     let n : ℕ = at + c.store_size-n.result - at in
     let many : n ≡ store_size a.ts = omega (arith, c.store_size-n.ensures) in
-    store_taken y p.0.low p.0.high s a.h.0 p.1 used a.t.now e at c.store_at-a.ensures.place _ n many room
-    (rw c.width_of.ensures at c.remove-IsFirst.ensures)
+    store_taken y p.table.low p.table.high s a.h.0 p.h_bound used a.t.now e at c.store_at-a.ensures.place _ n many room
+    (rw c.width_of.ensures at c.remove_first.ensures)
