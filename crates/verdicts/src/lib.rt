@@ -2,6 +2,7 @@
 // the table (`judge`, of a Memory hub's blocks `judge_block`).
 // Not here: the hub table itself (crate hubtable), the update of a Board and what a verdict does (crate requests).
 #![tactic(auto)]
+
 ghost use Rattle.std.specs.Prelude.{◌<◌, ◌≤◌, ℕ, length, ◌≡◌};
 ghost use Rattle.hubtable.specs.Says.{Below, RecordOf, says};
 ghost use Rattle.messages.specs.Messages.{messages};
