@@ -2,6 +2,7 @@
 // may cross chunks of any size and an overlong line takes no memory. specs/Lines.antt says what a line is and what is printed.
 // Bytes are not counted: eight numbers take at most 87, so the limit of 90 turns no line away (proofs/Texts.antt).
 #![tactic(auto)]
+
 ghost use Rattle.std.specs.Prelude.{◌*◌, ◌+◌, ◌<◌, ◌≤◌, drop, length, [], ◌++◌, ◌∷◌, ◌≡◌};
 ghost use Rattle.lines.specs.Lines.{Put, bad_text, decimal, print_room, printed};
 ghost use Rattle.lines.specs.Scan.{byte_step, digit_step, is_fresh, line_of_scan, next_of, progress_of, push, space_step, start_of};

@@ -1,10 +1,8 @@
 -- `lines::decimal_length` meets its contract: as many turns as there are digits before the last. Assumes nothing.
-use Prim.Native.Nat.{◌+◌, ◌≤◌}
 use Rattle.lines.proofs.Decimal.{decimal_small, length_more}
 use Rattle.lines.proofs.Putting.{short}
-use Rattle.lines.specs.Lines.{decimal}
 use lib.ListN.{length}
-use mathlib.Core.Path.{◌≡◌, ap}
+use mathlib.Core.Path.{ap}
 use native.Mathlib.Omega.{arith}
 use Rattle.lines.proofs.decimal_length.Goals as goal
 

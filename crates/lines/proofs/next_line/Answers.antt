@@ -1,14 +1,12 @@
 -- `lines::next_line` meets its contract. The loop's invariant: what is left to read from here comes to the same as the whole.
-use Prim.Native.Nat.{◌+◌, ◌-◌}
+use Prim.Native.Nat.{◌+◌}
 use Rattle.lines.proofs.Steps.{byte_at, end_at, newline-at}
 use Rattle.lines.specs.Scan.{line_of_scan, progress_of}
 use Rattle.lines.specs.declared.Line.{Line}
 use Rattle.lines.specs.declared.Progress.TheVariants.{Ended}
 use Rattle.lines.specs.declared.Scan.{Scan}
-use borrow.Author.Rules.{rules}
-use lib.ListN.{drop, length}
-use mathlib.Core.Path.{◌∙◌, ◌≡◌, ap, refl}
-use native.Mathlib.Omega.{arith}
+use lib.ListN.{drop}
+use mathlib.Core.Path.{◌∙◌, ap}
 use Rattle.lines.proofs.next_line.Goals as goal
 
 pub returns-then-b-eq-NEWLINE : goal.returns-then-b-eq-NEWLINE
@@ -26,4 +24,4 @@ loop-i-preserved c =
     ∙ c.loop-i.invariant
 
 pub returns : goal.returns
-returns c =     end_at c.loop-i.i c.loop-i.s c.args.buf.now c.loop-i-test.false ∙ c.loop-i.invariant
+returns c = end_at c.loop-i.i c.loop-i.s c.args.buf.now c.loop-i-test.false ∙ c.loop-i.invariant

@@ -1,13 +1,9 @@
 -- `lines::numbers_length` meets its contract: what is measured and what is left is the whole line. Assumes nothing.
 use Prim.Native.Nat.{◌*◌, ◌+◌, ◌-◌, ◌≤◌}
-use Rattle.lines.proofs.Putting.{short}
-use Rattle.lines.proofs.Writing.{tail, tail_measured, tail_none, tail_whole}
+use Rattle.lines.proofs.Writing.{tail}
 use Rattle.lines.specs.Lines.{printed}
-use borrow.Author.Rules.{rules}
-use lib.ListN.{drop, get_or, length}
-use mathlib.Core.Path.{◌≡◌, ap}
-use native.Mathlib.Nat.{zero-add}
-use native.Mathlib.Omega.{arith}
+use lib.ListN.{drop, length}
+use mathlib.Core.Path.{◌≡◌}
 use Rattle.lines.proofs.numbers_length.Given as goal
 
 abbrev pub invariant-loop-k : goal.invariant-loop-k

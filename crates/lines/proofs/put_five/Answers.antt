@@ -1,6 +1,5 @@
 -- `lines::put_five` meets its contract: five stores, one behind the other.
 use Rattle.lines.proofs.Putting.{put_five}
-use borrow.Author.Rules.{rules}
 use lib.ListN.{length-set}
 use native.Mathlib.Omega.{arith}
 use Rattle.lines.proofs.put_five.Goals as goal

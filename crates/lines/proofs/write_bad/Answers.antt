@@ -1,24 +1,23 @@
 -- `lines::write_bad` meets its contract: the number between five bytes and five.
 use Rattle.lines.proofs.Putting.{long, put_bad}
-use borrow.Author.Rules.{rules}
 use native.Mathlib.Omega.{arith}
 use Rattle.lines.proofs.write_bad.Goals as goal
 
 pub put_decimal-b-requires : goal.put_decimal-b-requires
 put_decimal-b-requires c =
     let p = c.put_five-a in
-    omega (arith, c.requires, long c.args.line c.ranges.line.fits, p.ensures.place, p.auto.0)
+    omega (arith, c.requires, long c.args.line c.ranges.line.fits, p.ensures.place, p.auto.out)
 
 pub put_five-requires : goal.put_five-requires
 put_five-requires c =
     let q = c.put_decimal-b in
     let p = c.put_five-a in
-    omega (arith, c.requires, long c.args.line c.ranges.line.fits, p.ensures.place, p.auto.0, q.ensures.place, q.auto.0)
+    omega (arith, c.requires, long c.args.line c.ranges.line.fits, p.ensures.place, p.auto.out, q.ensures.place, q.auto.out)
 
 pub returns : goal.returns
 returns c =
     let r = c.put_five in
     let q = c.put_decimal-b in
     let p = c.put_five-a in
-    put_bad c.args.out.now c.args.at c.requires p.result p.new.0 q.result q.new.0 r.result r.new.0 c.args.line
+    put_bad c.args.out.now c.args.at c.requires p.result p.new.out q.result q.new.out r.result r.new.out c.args.line
     c.ranges.line.fits p.ensures q.ensures r.ensures

@@ -1,7 +1,6 @@
 -- `lines::Scan::finish` meets its contract: each return is a case of `line_of_scan`.
 use Rattle.lines.proofs.Steps.{end_bad, end_early, end_good, end_short}
 use Rattle.lines.specs.declared.Line.TheVariants.{Good}
-use borrow.Author.Rules.{rules}
 use mathlib.Core.Path.{◌∙◌, ap}
 use Rattle.lines.proofs.Scan.finish.Goals as goal
 
@@ -14,7 +13,7 @@ returns-then-self-3 c =
     ∙ end_good c.args.self c.if-self.false c.if-self-2.true c.if-self-3.true
 
 pub returns-else-self-3 : goal.returns-else-self-3
-returns-else-self-3 c =     end_short c.args.self c.if-self.false c.if-self-2.true c.if-self-3.false
+returns-else-self-3 c = end_short c.args.self c.if-self.false c.if-self-2.true c.if-self-3.false
 
 pub returns-else-self-2 : goal.returns-else-self-2
 returns-else-self-2 c = end_early c.args.self c.if-self.false c.if-self-2.false

@@ -1,6 +1,5 @@
 -- `lines::Scan::next` meets its contract: each return is a case of `next_of`.
 use Rattle.lines.proofs.Steps.{next_more, next_stays}
-use borrow.Author.Rules.{rules}
 use mathlib.Core.Path.{◌∙◌}
 use Rattle.lines.proofs.Scan.next.Goals as goal
 

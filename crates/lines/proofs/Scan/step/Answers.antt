@@ -1,6 +1,5 @@
 -- `lines::Scan::step` meets its contract: each return is a case of `byte_step`.
 use Rattle.lines.proofs.Steps.{byte_bad, byte_digit, byte_high, byte_low, byte_space}
-use borrow.Author.Rules.{rules}
 use mathlib.Core.Path.{◌∙◌}
 use Rattle.lines.proofs.Scan.step.Goals as goal
 
