@@ -4,6 +4,7 @@
 // Not here: what a cell says of a hub (crate hubtexts); which cells there are, in which order, and which are marked (crate
 // sidebyside).
 #![tactic(auto)]
+
 ghost use Rattle.std.specs.Prelude.{◌≤◌, pred, [], ◌++◌, ◌∷◌, ◌≡◌};
 ghost use Rattle.lines.specs.Lines.{decimal};
 ghost use Rattle.lists.specs.Lists.{numbers};

@@ -1,7 +1,6 @@
 -- `texts::put_answer` meets its contract: by the word. Assumes nothing.
 use Rattle.texts.proofs.Putting.{put_append}
 use Rattle.texts.specs.Cells.{answer_text}
-use borrow.Author.Rules.{rules}
 use borrow.Author.Tests.{eq-eqb, ne_eqb}
 use mathlib.Core.List.{append-nil}
 use Rattle.texts.proofs.put_answer.Goals as goal

@@ -1,6 +1,5 @@
 -- `texts::put_between` meets its contract: three texts, one behind the other. Assumes nothing.
 use Rattle.texts.proofs.Putting.{put_append}
-use borrow.Author.Rules.{rules}
 use Rattle.texts.proofs.put_between.Goals as goal
 
 pub returns : goal.returns

@@ -1,6 +1,5 @@
 -- `texts::put_byte` meets its contract: with room, and without. Assumes nothing.
 use Rattle.texts.proofs.Putting.{put_byte, put_full}
-use borrow.Author.Rules.{rules}
 use Rattle.texts.proofs.put_byte.Goals as goal
 
 pub returns-then-at-out : goal.returns-then-at-out

@@ -1,9 +1,5 @@
 -- `texts::put_bytes` meets its contract: the bytes so far are put. Assumes nothing.
-use Prim.Native.Nat.{◌-◌, ◌≤◌}
 use Rattle.texts.proofs.Putting.{length-put, put_nothing, put_turn}
-use Rattle.texts.specs.Texts.{Put}
-use borrow.Author.Rules.{rules}
-use lib.ListN.{length, take}
 use lib.Seq.{take_all}
 use native.Mathlib.Omega.{arith}
 use Rattle.texts.proofs.put_bytes.Goals as goal

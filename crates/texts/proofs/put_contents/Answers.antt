@@ -1,7 +1,6 @@
 -- `texts::put_contents` meets its contract: three texts, one behind the other. Assumes nothing.
 use Rattle.texts.proofs.Putting.{put_append}
 use Rattle.texts.specs.Cells.{contents_text}
-use borrow.Author.Rules.{rules}
 use Rattle.texts.proofs.put_contents.Goals as goal
 
 pub returns : goal.returns

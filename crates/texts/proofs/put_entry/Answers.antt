@@ -2,7 +2,6 @@
 use Prim.Native.Nat.{pred, suc}
 use Rattle.texts.proofs.Putting.{put_append}
 use Rattle.texts.specs.Cells.{entry_text}
-use borrow.Author.Rules.{rules}
 use borrow.Author.Tests.{eq-eqb, ne_eqb}
 use mathlib.Core.List.{append-nil}
 use mathlib.Core.Path.{◌≡◌}

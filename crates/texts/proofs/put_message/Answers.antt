@@ -1,7 +1,6 @@
 -- `texts::put_message` meets its contract: by the high word. Assumes nothing.
 use Rattle.texts.proofs.Putting.{put_append}
 use Rattle.texts.specs.Cells.{message_text}
-use borrow.Author.Rules.{rules}
 use borrow.Author.Tests.{eq-eqb, ne_eqb}
 use Rattle.texts.proofs.put_message.Goals as goal
 

@@ -1,13 +1,12 @@
 -- `texts::put_number` meets its contract: a line of one number, without its newline. Assumes nothing.
 use Rattle.texts.proofs.Putting.{number-room, number-taken, put_as}
-use borrow.Author.Rules.{rules}
 use lib.Seq.{length-take-le}
 use mathlib.Core.Path.{sym}
 use native.Mathlib.Omega.{arith}
 use Rattle.texts.proofs.put_number.Goals as goal
 
 pub write_numbers-end-requires : goal.write_numbers-end-requires
-write_numbers-end-requires c = record { in_bounds = omega arith; ns_in_bounds = number-room c.args.n (omega arith); }
+write_numbers-end-requires c = record { in_bounds = omega arith; ns_in_bounds = number-room c.args.n (omega arith) }
 
 pub slice_bounds-line-count : goal.slice_bounds-line-count
 slice_bounds-line-count c = omega (arith, (number-taken c.write_numbers-end.ensures).low)

@@ -1,6 +1,5 @@
 -- `texts::put_outcome` meets its contract: by the answer. Assumes nothing.
 use Rattle.texts.specs.Cells.{outcome_text}
-use borrow.Author.Rules.{rules}
 use borrow.Author.Tests.{eq-eqb, ne_eqb}
 use Rattle.texts.proofs.put_outcome.Goals as goal
 

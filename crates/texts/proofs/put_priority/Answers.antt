@@ -1,7 +1,6 @@
 -- `texts::put_priority` meets its contract: by whether the two priorities are one. Assumes nothing.
 use Rattle.texts.proofs.Putting.{put_append}
 use Rattle.texts.specs.Cells.{priority_text}
-use borrow.Author.Rules.{rules}
 use borrow.Author.Tests.{eq-eqb, ne_eqb}
 use mathlib.Core.List.{append-nil}
 use Rattle.texts.proofs.put_priority.Goals as goal

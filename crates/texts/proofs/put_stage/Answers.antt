@@ -1,7 +1,6 @@
 -- `texts::put_stage` meets its contract: by the state. Assumes nothing.
 use Rattle.texts.proofs.Putting.{put_append}
 use Rattle.texts.specs.Cells.{stage_text}
-use borrow.Author.Rules.{rules}
 use borrow.Author.Tests.{eq-eqb, ne_eqb}
 use Rattle.texts.proofs.put_stage.Goals as goal
 

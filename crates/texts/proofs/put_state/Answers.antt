@@ -1,7 +1,6 @@
 -- `texts::put_state` meets its contract: by the flag. Assumes nothing.
 use Rattle.texts.proofs.Putting.{put_append}
 use Rattle.texts.specs.Cells.{state_text}
-use borrow.Author.Rules.{rules}
 use borrow.Author.Tests.{eq-eqb, ne_eqb}
 use mathlib.Core.List.{append-nil}
 use Rattle.texts.proofs.put_state.Goals as goal

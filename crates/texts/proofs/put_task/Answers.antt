@@ -1,7 +1,6 @@
 -- `texts::put_task` meets its contract: the first, and any other. Assumes nothing.
 use Rattle.texts.proofs.Putting.{put_as}
 use Rattle.texts.specs.Cells.{task_text}
-use borrow.Author.Rules.{rules}
 use borrow.Author.Tests.{eq-eqb, ne_eqb}
 use mathlib.Core.List.{append-nil}
 use Rattle.texts.proofs.put_task.Goals as goal

@@ -1,10 +1,7 @@
 -- `texts::put_tasks` meets its contract: the entries so far, and what is left of the list. Assumes nothing.
 use Prim.Native.Nat.{◌-◌, ◌≤◌}
-use Rattle.texts.proofs.Lists.{tasks_begin, tasks_end, tasks_nobody, tasks-stop, tasks_turn, tasks_all, tasks_left}
-use Rattle.texts.proofs.Putting.{Joining, joining_begin, joining_end, joining_long, joining_turn, put_as}
-use borrow.Author.Rules.{rules}
-use mathlib.Core.Path.{◌∙◌, refl, sym}
-use native.Mathlib.Omega.{arith}
+use Rattle.texts.proofs.Lists.{tasks_all, tasks_left}
+use Rattle.texts.proofs.Putting.{Joining}
 use Rattle.texts.proofs.put_tasks.Given as goal
 
 abbrev pub invariant-loop-k : goal.invariant-loop-k

@@ -1,6 +1,5 @@
 -- `texts::put_ticks` meets its contract: by the ticks. Assumes nothing.
 use Rattle.texts.specs.Cells.{ticks_text}
-use borrow.Author.Rules.{rules}
 use borrow.Author.Tests.{eq-eqb, ne_eqb}
 use Rattle.texts.proofs.put_ticks.Goals as goal
 

@@ -1,6 +1,5 @@
 -- `texts::put_waits` meets its contract: by the side. Assumes nothing.
 use Rattle.texts.specs.Cells.{waits_text}
-use borrow.Author.Rules.{rules}
 use borrow.Author.Tests.{eq-eqb, ne_eqb}
 use Rattle.texts.proofs.put_waits.Goals as goal
 
