@@ -2,6 +2,7 @@
 // whose writer this is: what has no room is left out.
 // Not here: which cells there are, in which order, and which are marked (crates rows and sidebyside).
 #![tactic(auto)]
+
 ghost use Rattle.std.specs.Prelude.{◌≤◌};
 ghost use Rattle.hubtexts.specs.Cells.{block_text, blocks_text, board_text, count_text, held_from, holds_text, kind_text, none_text, word_text, words_text};
 ghost use Rattle.texts.specs.Texts.{Put};

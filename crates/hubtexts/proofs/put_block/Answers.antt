@@ -1,7 +1,6 @@
 -- `hubtexts::put_block` meets its contract: the first that is named, and any other. Assumes nothing.
 use Rattle.hubtexts.specs.Cells.{block_text}
 use Rattle.texts.proofs.Putting.{put_as}
-use borrow.Author.Rules.{rules}
 use borrow.Author.Tests.{eq-eqb, ne_eqb}
 use mathlib.Core.List.{append-nil}
 use Rattle.hubtexts.proofs.put_block.Goals as goal

@@ -1,13 +1,10 @@
 -- `hubtexts::put_blocks` meets its contract: the blocks so far, and what is left of them. Assumes nothing.
-use Prim.Native.Nat.{◌*◌, ◌+◌, ◌-◌, ◌≤◌}
-use Rattle.hubtexts.proofs.Lists.{blocks_end, blocks_in, blocks_out, blocks_left}
-use Rattle.hubtexts.specs.Cells.{blocks_text}
-use Rattle.texts.proofs.Putting.{Joining, joining_begin, joining_end, joining_long, joining_same, joining_turn, length-put}
-use borrow.Author.Rules.{rules}
-use mathlib.Core.Logic.{⊎_elim}
+use Rattle.hubtexts.proofs.Lists.{blocks_end, blocks_in, blocks_out}
+use Rattle.texts.proofs.Putting.{joining_begin, joining_end, joining_long, joining_same, joining_turn, length-put}
 use mathlib.Core.Path.{◌∙◌, refl, sym}
 use native.Mathlib.Omega.{arith}
 use Rattle.hubtexts.proofs.put_blocks.Goals as goal
+use Rattle.hubtexts.proofs.put_blocks.Goals.{then-m-ne0, else-m-ne0}
 
 pub loop-b-init : goal.loop-b-init
 loop-b-init c = ((omega arith, omega arith, omega arith), joining_begin _ _ _)
@@ -21,14 +18,14 @@ loop-b-preserved c =
     let l = c.loop-b in
     let less = c.loop-b-test.true in
     let m = c.message-m.ensures.value in
-    ⊎_elim
-    (λ w.
-    rw (w.5, w.6, w.7)
-    ((omega arith, omega (arith, l.invariant.0), omega (arith, l.invariant.0, c.requires)), joining_turn l.invariant.1 w.2.ensures (blocks_out a.w a.t.now a.from l.p l.k l.b less (λ z. w.0.taken (m ∙ z)))))
-    (λ w.
-    rw (w.1, w.2, w.3)
-    ((omega arith, omega (arith, l.invariant.0), omega (arith, l.invariant.0, c.requires)), joining_same l.invariant.1 (blocks_in a.w a.t.now a.from l.p l.k l.b less (sym m ∙ w.0.left))))
-    c.if-m-ne0.branch
+    elim c.if-m-ne0.branch [
+      | then-m-ne0 w ↦
+          rw (w.out-is, w.end-is, w.k-is)
+          ((omega arith, omega (arith, l.invariant.0), omega (arith, l.invariant.0, c.requires)), joining_turn l.invariant.1 w.put_block-end.ensures (blocks_out a.w a.t.now a.from l.p l.k l.b less (λ z. w.if-m-ne0.true (m ∙ z))))
+      | else-m-ne0 w ↦
+          rw (w.out-is, w.end-is, w.k-is)
+          ((omega arith, omega (arith, l.invariant.0), omega (arith, l.invariant.0, c.requires)), joining_same l.invariant.1 (blocks_in a.w a.t.now a.from l.p l.k l.b less (sym m ∙ w.if-m-ne0.false)))
+    ]
 
 pub shape_of-out : goal.shape_of-out
 shape_of-out c = length-put c.put_none.ensures ∙ joining_long c.loop-b.invariant.1

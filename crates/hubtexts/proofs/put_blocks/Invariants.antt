@@ -1,12 +1,8 @@
 -- `hubtexts::put_blocks` meets its contract: the blocks so far, and what is left of them. Assumes nothing.
 use Prim.Native.Nat.{◌*◌, ◌+◌, ◌-◌, ◌≤◌}
-use Rattle.hubtexts.proofs.Lists.{blocks_end, blocks_in, blocks_out, blocks_left}
+use Rattle.hubtexts.proofs.Lists.{blocks_left}
 use Rattle.hubtexts.specs.Cells.{blocks_text}
-use Rattle.texts.proofs.Putting.{Joining, joining_begin, joining_end, joining_long, joining_same, joining_turn, length-put}
-use borrow.Author.Rules.{rules}
-use mathlib.Core.Logic.{⊎_elim}
-use mathlib.Core.Path.{◌∙◌, refl, sym}
-use native.Mathlib.Omega.{arith}
+use Rattle.texts.proofs.Putting.{Joining}
 use Rattle.hubtexts.proofs.put_blocks.Given as goal
 
 abbrev pub invariant-loop-b : goal.invariant-loop-b

@@ -1,7 +1,6 @@
 -- `hubtexts::put_board` meets its contract: written, or not. Assumes nothing.
 use Rattle.hubtexts.specs.Cells.{board_text}
 use Rattle.texts.proofs.Putting.{put_append}
-use borrow.Author.Rules.{rules}
 use borrow.Author.Tests.{eq-eqb, ne_eqb}
 use Rattle.hubtexts.proofs.put_board.Goals as goal
 

@@ -1,7 +1,6 @@
 -- `hubtexts::put_count` meets its contract: by the kind, and the count. Assumes nothing.
 use Rattle.hubtexts.specs.Cells.{count_text}
 use Rattle.texts.proofs.Putting.{put_as}
-use borrow.Author.Rules.{rules}
 use borrow.Author.Tests.{eq-eqb, ne_eqb}
 use mathlib.Core.List.{append-nil}
 use Rattle.hubtexts.proofs.put_count.Goals as goal

@@ -1,6 +1,5 @@
 -- `hubtexts::put_holds` meets its contract: by the kind. Assumes nothing.
 use Rattle.hubtexts.specs.Cells.{holds_text}
-use borrow.Author.Rules.{rules}
 use borrow.Author.Tests.{eq-eqb, ne_eqb}
 use Rattle.hubtexts.proofs.put_holds.Goals as goal
 

@@ -1,7 +1,6 @@
 -- `hubtexts::put_kind` meets its contract: by the kind. Assumes nothing.
 use Rattle.hubtexts.specs.Cells.{kind_text}
 use Rattle.texts.proofs.Putting.{put_append, put_as}
-use borrow.Author.Rules.{rules}
 use borrow.Author.Tests.{eq-eqb, ne_eqb}
 use mathlib.Core.List.{append-nil}
 use Rattle.hubtexts.proofs.put_kind.Goals as goal

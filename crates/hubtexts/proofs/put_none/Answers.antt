@@ -1,7 +1,6 @@
 -- `hubtexts::put_none` meets its contract: none was named, or some. Assumes nothing.
 use Rattle.hubtexts.specs.Cells.{none_text}
 use Rattle.texts.proofs.Putting.{put_nothing}
-use borrow.Author.Rules.{rules}
 use borrow.Author.Tests.{eq-eqb, ne_eqb}
 use Rattle.hubtexts.proofs.put_none.Goals as goal
 

@@ -1,7 +1,6 @@
 -- `hubtexts::put_word` meets its contract: the first, and any other. Assumes nothing.
 use Rattle.hubtexts.specs.Cells.{word_text}
 use Rattle.texts.proofs.Putting.{put_append}
-use borrow.Author.Rules.{rules}
 use borrow.Author.Tests.{eq-eqb, ne_eqb}
 use Rattle.hubtexts.proofs.put_word.Goals as goal
 

@@ -1,8 +1,6 @@
 -- `hubtexts::put_words` meets its contract: the words so far, and what is left of them. Assumes nothing.
-use Prim.Native.Nat.{◌*◌, ◌+◌, ◌-◌, ◌≤◌}
-use Rattle.hubtexts.proofs.Lists.{words_begin, words_empty, words_end, words_turn, words_all, words_left}
-use Rattle.texts.proofs.Putting.{Joining, joining_begin, joining_end, joining_long, joining_turn, put_as}
-use borrow.Author.Rules.{rules}
+use Rattle.hubtexts.proofs.Lists.{words_begin, words_empty, words_end, words_turn}
+use Rattle.texts.proofs.Putting.{joining_begin, joining_end, joining_long, joining_turn, put_as}
 use mathlib.Core.Path.{◌∙◌, refl}
 use native.Mathlib.Omega.{arith}
 use Rattle.hubtexts.proofs.put_words.Goals as goal
