@@ -4,6 +4,7 @@
 // which is asked for only where the lists are known to be exact. Every place follows from `ts`, the number of words in a task
 // record, and the contracts speak of every layout that has it.
 #![tactic(auto)]
+
 ghost use Rattle.std.specs.Prelude.{◌<◌, ◌≤◌, eqb, leb, get_or, length, ◌&&◌, true, ◌≡◌};
 ghost use Rattle.bodies.specs.Bodies.{Used};
 ghost use Rattle.lists.specs.Lists.{numbers, occ};

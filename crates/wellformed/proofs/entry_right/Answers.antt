@@ -1,7 +1,6 @@
 -- `wellformed::entry_right` meets its contract: the task's words are read once its number is known to be in use.
 -- Assumes nothing.
 use Rattle.wellformed.proofs.Turns.{meets_far, meets-words}
-use borrow.Author.Rules.{rules}
 use mathlib.Core.Path.{sym}
 use native.Mathlib.Omega.{arith}
 use Rattle.wellformed.proofs.entry_right.Goals as goal

@@ -10,7 +10,6 @@ use Rattle.rules.specs.Table.{Layout, part, read, ready_at}
 use Rattle.rules.specs.WellFormed.{contents_right, for_all, unused_zero}
 use Rattle.wellformed.proofs.Whole.{contents-used, exact_passed, no_marks, ready-marks, refused, whole}
 use Rattle.wellformed.specs.Walks.{exact_in, hub_right, walks}
-use borrow.Author.Rules.{rules}
 use lib.ListN.{drop, get_or, length, take}
 use mathlib.Core.Bool.{true}
 use mathlib.Core.List.{List}
@@ -51,7 +50,7 @@ returns-then-not-unused_zero c L y =
 pub walk-requires : goal.walk-requires
 walk-requires c =
     let u = used c.args.ts c.args.t.now c.requires.le_ts c.requires.ts_bound (c.if-t-table_size.false ∙ c.table_size.ensures) (λ L y. sym (c.contents_right.ensures L y) ∙ c.if-not-contents_right.false) in
-    record { used = u; list_len = lent-long c.args.t.now c.ready_at-a.result 16 (omega (arith, u.long)); marks = record { long = refl; low = λ j. rw (no_marks 16 j) zero-le }; }
+    record { used = u; list_len = lent-long c.args.t.now c.ready_at-a.result 16 (omega (arith, u.long)); marks = record { long = refl; low = λ j. rw (no_marks 16 j) zero-le } }
 
 pub returns-then-not-walk : goal.returns-then-not-walk
 returns-then-not-walk c L y =
@@ -62,7 +61,7 @@ returns-then-not-walk c L y =
 pub hubs_right-requires : goal.hubs_right-requires
 hubs_right-requires c =
     let u = used c.args.ts c.args.t.now c.requires.le_ts c.requires.ts_bound (c.if-t-table_size.false ∙ c.table_size.ensures) (λ L y. sym (c.contents_right.ensures L y) ∙ c.if-not-contents_right.false) in
-    record { used = u; marks = in_some c.args.ts c.requires.le_ts c.requires.ts_bound (λ L y. ready-marks (lent c.ready_at-a.result c.args.t.now) (c.walk.ensures L y) c.if-not-walk.false (lent-long c.args.t.now c.ready_at-a.result 16 (omega (arith, u.long)))); }
+    record { used = u; marks = in_some c.args.ts c.requires.le_ts c.requires.ts_bound (λ L y. ready-marks (lent c.ready_at-a.result c.args.t.now) (c.walk.ensures L y) c.if-not-walk.false (lent-long c.args.t.now c.ready_at-a.result 16 (omega (arith, u.long)))) }
 
 pub returns-then-not-hubs_right : goal.returns-then-not-hubs_right
 returns-then-not-hubs_right c L y =

@@ -2,14 +2,13 @@
 use Prim.Native.Nat.{◌-◌, ℕ}
 use Rattle.messages.specs.Messages.{message_at}
 use Rattle.rules.proofs.Layouts.{Laid, wide}
-use Rattle.rules.specs.Table.{Layout, State, stage_of}
+use Rattle.rules.specs.Table.{Layout, stage_of}
 use Rattle.rules.specs.WellFormed.{fields_right, stage_right}
 use Rattle.wellformed.proofs.Turns.{answer_last, record_neither, record_range, record_stage}
-use Rattle.wellformed.specs.Walks.{listed, record_of, record_right}
-use borrow.Author.Rules.{rules}
-use lib.Dec.{eqb, leb}
+use Rattle.wellformed.specs.Walks.{record_of}
+use lib.Dec.{leb}
 use lib.ListN.{get_or}
-use mathlib.Core.Bool.{◌&&◌, true}
+use mathlib.Core.Bool.{◌&&◌}
 use mathlib.Core.List.{List}
 use mathlib.Core.Path.{◌∙◌, ◌≡◌, ap, sym}
 use native.Mathlib.Omega.{arith}

@@ -2,7 +2,6 @@
 use Rattle.rules.specs.Table.{read, stage_of}
 use Rattle.wellformed.proofs.Turns.{listed_as, listed_neither, listed_no}
 use Rattle.wellformed.specs.Walks.{record_of}
-use borrow.Author.Rules.{rules}
 use mathlib.Core.Path.{◌∙◌, refl, sym}
 use native.Mathlib.Omega.{arith}
 use Rattle.wellformed.proofs.listed_right.Goals as goal

@@ -2,7 +2,6 @@
 -- the order by them is all that is left to test. Assumes nothing.
 use Rattle.rules.specs.Table.{read}
 use Rattle.wellformed.proofs.Ordered.{exact_sound, exact_words, formed_by}
-use borrow.Author.Rules.{rules}
 use native.Mathlib.Omega.{arith}
 use Rattle.wellformed.proofs.order_right.Goals as goal
 

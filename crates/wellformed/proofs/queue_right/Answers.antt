@@ -3,7 +3,6 @@ use Prim.Native.Nat.{◌*◌, ◌+◌}
 use Rattle.bodies.proofs.Parts.{lent-long}
 use Rattle.lists.proofs.Padding.{all_zero-at}
 use Rattle.wellformed.proofs.Hubs.{queue_as, queue_barred, queue_far, queue_none, queue_walked}
-use borrow.Author.Rules.{rules}
 use mathlib.Core.Bool.{false, true}
 use mathlib.Core.Path.{◌∙◌, sym}
 use native.Mathlib.Omega.{arith}
@@ -39,7 +38,7 @@ returns-then-not-may_wait c L y =
     (queue_barred L c.args.t.now c.args.h c.requires.h_bound _ c.args.marks.now c.if-e-eq0.false y p.result p.ensures.place (r.result + c.args.h * 4) (omega arith) c.if-e-t.false (sym c.may_wait.ensures ∙ c.if-not-may_wait.true))
 
 pub walk-requires : goal.walk-requires
-walk-requires c =     let a = c.waits_at-at in record { used = c.requires.used; list_len = lent-long c.args.t.now a.result 16 (omega arith); marks = c.requires.marks; }
+walk-requires c = let a = c.waits_at-at in record { used = c.requires.used; list_len = lent-long c.args.t.now a.result 16 (omega arith); marks = c.requires.marks }
 
 pub returns : goal.returns
 returns c L y =

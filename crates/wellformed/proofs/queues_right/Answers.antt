@@ -1,10 +1,7 @@
 -- `wellformed::queues_right` meets its contract. The loop's invariant is `Passing`, in every layout: the lists so far are
 -- right, and marked. Assumes nothing.
-use Prim.Native.Nat.{◌-◌}
-use Rattle.rules.proofs.Layouts.{Laid, in_some}
-use Rattle.rules.specs.Table.{Layout}
-use Rattle.wellformed.proofs.Hubs.{Passing, passing_begin, passing_end, passing_low, passing_no, passing_step}
-use borrow.Author.Rules.{rules}
+use Rattle.rules.proofs.Layouts.{in_some}
+use Rattle.wellformed.proofs.Hubs.{passing_begin, passing_end, passing_low, passing_no, passing_step}
 use Rattle.wellformed.proofs.queues_right.Goals as goal
 
 pub loop-h-init : goal.loop-h-init
@@ -14,7 +11,7 @@ pub queue_right-requires : goal.queue_right-requires
 queue_right-requires c =
     let l = c.loop-h in
     let u = c.loop-h-test.true in
-    let low = in_some c.args.ts c.requires.used.low c.requires.used.high (λ L y. passing_low L _ _ l.marks l.h (l.invariant L y) c.requires.used c.requires.marks u) in record { used = c.requires.used; h_bound = u; marks = low; }
+    let low = in_some c.args.ts c.requires.used.low c.requires.used.high (λ L y. passing_low L _ _ l.marks l.h (l.invariant L y) c.requires.used c.requires.marks u) in record { used = c.requires.used; h_bound = u; marks = low }
 
 pub returns-then-not-queue_right : goal.returns-then-not-queue_right
 returns-then-not-queue_right c L y =

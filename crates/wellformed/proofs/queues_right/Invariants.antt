@@ -1,10 +1,9 @@
 -- `wellformed::queues_right` meets its contract. The loop's invariant is `Passing`, in every layout: the lists so far are
 -- right, and marked. Assumes nothing.
 use Prim.Native.Nat.{◌-◌}
-use Rattle.rules.proofs.Layouts.{Laid, in_some}
+use Rattle.rules.proofs.Layouts.{Laid}
 use Rattle.rules.specs.Table.{Layout}
-use Rattle.wellformed.proofs.Hubs.{Passing, passing_begin, passing_end, passing_low, passing_no, passing_step}
-use borrow.Author.Rules.{rules}
+use Rattle.wellformed.proofs.Hubs.{Passing}
 use Rattle.wellformed.proofs.queues_right.Given as goal
 
 abbrev pub invariant-loop-h : goal.invariant-loop-h

@@ -1,7 +1,6 @@
 -- `wellformed::ready_right` meets its contract: what must be 0, then the answer, then the word. Assumes nothing.
 use Rattle.wellformed.proofs.Turns.{answer_last, ready_bare, ready_far, ready-met, ready_no}
 use Rattle.wellformed.specs.Walks.{record_of}
-use borrow.Author.Rules.{rules}
 use mathlib.Core.Path.{◌∙◌, sym}
 use native.Mathlib.Omega.{arith}
 use Rattle.wellformed.proofs.ready_right.Goals as goal

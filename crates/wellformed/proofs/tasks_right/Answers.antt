@@ -1,18 +1,9 @@
 -- `wellformed::tasks_right` meets its contract. The loop's invariant: the tasks so far are right, in every layout.
 -- Assumes nothing.
-use Prim.Native.Nat.{◌-◌, ◌≤◌, ℕ}
 use Rattle.bodies.proofs.Parts.{lent-long}
 use Rattle.bodies.proofs.Turns.{for_all_end, for_all-fail, for_all-none, for_all-step}
-use Rattle.rules.proofs.Layouts.{Laid}
-use Rattle.rules.specs.Table.{Layout, read}
-use Rattle.rules.specs.WellFormed.{for_all}
 use Rattle.wellformed.proofs.Turns.{record_task}
-use Rattle.wellformed.specs.Walks.{task_right}
-use borrow.Author.Rules.{rules}
-use lib.ListN.{get_or}
-use mathlib.Core.Bool.{Bool, true}
-use mathlib.Core.List.{List}
-use mathlib.Core.Path.{◌∙◌, ◌≡◌, sym}
+use mathlib.Core.Path.{◌∙◌, sym}
 use native.Mathlib.Omega.{arith}
 use Rattle.wellformed.proofs.tasks_right.Invariants.{passes}
 use Rattle.wellformed.proofs.tasks_right.Goals as goal
@@ -21,7 +12,7 @@ pub loop-i-init : goal.loop-i-init
 loop-i-init c = (omega arith, λ L y. for_all-none _)
 
 pub task_right-requires : goal.task_right-requires
-task_right-requires c = let p = c.task_at-b in record { used = c.requires; x_len = lent-long c.args.t.now p.result c.args.ts (omega arith); }
+task_right-requires c = let p = c.task_at-b in record { used = c.requires; x_len = lent-long c.args.t.now p.result c.args.ts (omega arith) }
 
 pub returns-then-not-task_right : goal.returns-then-not-task_right
 returns-then-not-task_right c L y =

@@ -1,19 +1,14 @@
 -- `wellformed::tasks_right` meets its contract. The loop's invariant: the tasks so far are right, in every layout.
 -- Assumes nothing.
 use Prim.Native.Nat.{◌-◌, ◌≤◌, ℕ}
-use Rattle.bodies.proofs.Parts.{lent-long}
-use Rattle.bodies.proofs.Turns.{for_all_end, for_all-fail, for_all-none, for_all-step}
 use Rattle.rules.proofs.Layouts.{Laid}
 use Rattle.rules.specs.Table.{Layout, read}
 use Rattle.rules.specs.WellFormed.{for_all}
-use Rattle.wellformed.proofs.Turns.{record_task}
 use Rattle.wellformed.specs.Walks.{task_right}
-use borrow.Author.Rules.{rules}
 use lib.ListN.{get_or}
 use mathlib.Core.Bool.{Bool, true}
 use mathlib.Core.List.{List}
-use mathlib.Core.Path.{◌∙◌, ◌≡◌, sym}
-use native.Mathlib.Omega.{arith}
+use mathlib.Core.Path.{◌≡◌}
 use Rattle.wellformed.proofs.tasks_right.Given as goal
 
 abbrev pub passes : Layout → List ℕ → List ℕ → ℕ → Bool

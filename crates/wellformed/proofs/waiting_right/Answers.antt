@@ -5,7 +5,6 @@ use Rattle.rules.proofs.Numbers.{bears_number}
 use Rattle.rules.proofs.Reading.{read-hubs}
 use Rattle.rules.specs.WellFormed.{stage_right}
 use Rattle.wellformed.proofs.Turns.{hub-kind}
-use borrow.Author.Rules.{rules}
 use borrow.Author.Tests.{le-leb, lt-leb}
 use lib.ListN.{get_or}
 use mathlib.Core.Bool.{and-false}

@@ -6,8 +6,6 @@ use Rattle.rules.proofs.Reading.{read-hubs}
 use Rattle.rules.specs.Table.{read}
 use Rattle.wellformed.proofs.Turns.{answer_last, waiting_as, waiting_bare, waiting-long}
 use Rattle.wellformed.specs.Walks.{record_of}
-use borrow.Author.Rules.{rules}
-use borrow.Author.Tests.{not-false}
 use mathlib.Core.Path.{◌∙◌, ap, refl, sym}
 use Rattle.wellformed.proofs.waiting_task.Goals as goal
 

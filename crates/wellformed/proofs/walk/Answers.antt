@@ -1,10 +1,8 @@
 -- `wellformed::walk` meets its contract. The loop's invariant is `Walking`, in every layout: what is left of the list is what
 -- the whole comes to, and what is left to mark makes up the marks. Assumes nothing.
 use Prim.Native.Nat.{◌-◌, ◌≤◌}
-use Rattle.rules.proofs.Layouts.{Laid, in_some}
-use Rattle.rules.specs.Table.{Layout}
-use Rattle.wellformed.proofs.Turns.{Walking, walking_begin, walking_end, walking_full, walking_hit, walking_low, walking_miss, walking_used}
-use borrow.Author.Rules.{rules}
+use Rattle.rules.proofs.Layouts.{in_some}
+use Rattle.wellformed.proofs.Turns.{walking_begin, walking_end, walking_full, walking_hit, walking_low, walking_miss, walking_used}
 use lib.ListN.{get_or}
 use mathlib.Core.Path.{◌∙◌, sym}
 use native.Mathlib.Omega.{arith}
@@ -19,7 +17,7 @@ returns-then-e-eq0 c L y =
     walking_end L c.args.t.now c.args.list.now c.args.hub c.args.side c.args.owner c.args.marks.now l.marks l.k (l.invariant L y) c.requires.list_len c.loop-k-test.true c.if-e-eq0.true c.zeros.result c.zeros.ensures
 
 pub entry_right-requires : goal.entry_right-requires
-entry_right-requires c = record { used = c.requires.used; e_nonzero = omega arith; }
+entry_right-requires c = record { used = c.requires.used; e_nonzero = omega arith }
 
 pub returns-then-not-entry_right : goal.returns-then-not-entry_right
 returns-then-not-entry_right c L y =
@@ -31,8 +29,8 @@ overflow_cast-i c =
     -- the entry is a task in use
     let l = c.loop-k in
     let used : get_or c.args.list.now l.k 0 ≤ 16 =
-        in_some c.args.ts c.requires.used.low c.requires.used.high
-        (λ L y. omega (arith, walking_used L c.args.t.now c.args.list.now c.args.hub c.args.side c.args.owner c.args.marks.now l.marks l.k (l.invariant L y) c.requires.list_len c.loop-k-test.true c.if-e-eq0.false (sym (c.entry_right.ensures L y) ∙ c.if-not-entry_right.false))) in
+    in_some c.args.ts c.requires.used.low c.requires.used.high
+    (λ L y. omega (arith, walking_used L c.args.t.now c.args.list.now c.args.hub c.args.side c.args.owner c.args.marks.now l.marks l.k (l.invariant L y) c.requires.list_len c.loop-k-test.true c.if-e-eq0.false (sym (c.entry_right.ensures L y) ∙ c.if-not-entry_right.false))) in
     omega arith
 
 pub offset_bounds-marks-i : goal.offset_bounds-marks-i
@@ -40,8 +38,8 @@ offset_bounds-marks-i c =
     -- the entry is a task in use
     let l = c.loop-k in
     let used : get_or c.args.list.now l.k 0 ≤ 16 =
-        in_some c.args.ts c.requires.used.low c.requires.used.high
-        (λ L y. omega (arith, walking_used L c.args.t.now c.args.list.now c.args.hub c.args.side c.args.owner c.args.marks.now l.marks l.k (l.invariant L y) c.requires.list_len c.loop-k-test.true c.if-e-eq0.false (sym (c.entry_right.ensures L y) ∙ c.if-not-entry_right.false))) in
+    in_some c.args.ts c.requires.used.low c.requires.used.high
+    (λ L y. omega (arith, walking_used L c.args.t.now c.args.list.now c.args.hub c.args.side c.args.owner c.args.marks.now l.marks l.k (l.invariant L y) c.requires.list_len c.loop-k-test.true c.if-e-eq0.false (sym (c.entry_right.ensures L y) ∙ c.if-not-entry_right.false))) in
     omega arith
 
 pub bounds-marks-i : goal.bounds-marks-i
@@ -49,8 +47,8 @@ bounds-marks-i c =
     -- the entry is a task in use
     let l = c.loop-k in
     let used : get_or c.args.list.now l.k 0 ≤ 16 =
-        in_some c.args.ts c.requires.used.low c.requires.used.high
-        (λ L y. omega (arith, walking_used L c.args.t.now c.args.list.now c.args.hub c.args.side c.args.owner c.args.marks.now l.marks l.k (l.invariant L y) c.requires.list_len c.loop-k-test.true c.if-e-eq0.false (sym (c.entry_right.ensures L y) ∙ c.if-not-entry_right.false))) in
+    in_some c.args.ts c.requires.used.low c.requires.used.high
+    (λ L y. omega (arith, walking_used L c.args.t.now c.args.list.now c.args.hub c.args.side c.args.owner c.args.marks.now l.marks l.k (l.invariant L y) c.requires.list_len c.loop-k-test.true c.if-e-eq0.false (sym (c.entry_right.ensures L y) ∙ c.if-not-entry_right.false))) in
     omega arith
 
 pub overflow_add-marks : goal.overflow_add-marks
@@ -64,8 +62,8 @@ offset_bounds-marks-i-in-loop-k c =
     -- the entry is a task in use
     let l = c.loop-k in
     let used : get_or c.args.list.now l.k 0 ≤ 16 =
-        in_some c.args.ts c.requires.used.low c.requires.used.high
-        (λ L y. omega (arith, walking_used L c.args.t.now c.args.list.now c.args.hub c.args.side c.args.owner c.args.marks.now l.marks l.k (l.invariant L y) c.requires.list_len c.loop-k-test.true c.if-e-eq0.false (sym (c.entry_right.ensures L y) ∙ c.if-not-entry_right.false))) in
+    in_some c.args.ts c.requires.used.low c.requires.used.high
+    (λ L y. omega (arith, walking_used L c.args.t.now c.args.list.now c.args.hub c.args.side c.args.owner c.args.marks.now l.marks l.k (l.invariant L y) c.requires.list_len c.loop-k-test.true c.if-e-eq0.false (sym (c.entry_right.ensures L y) ∙ c.if-not-entry_right.false))) in
     omega arith
 
 pub bounds-marks-i-in-loop-k : goal.bounds-marks-i-in-loop-k
@@ -73,8 +71,8 @@ bounds-marks-i-in-loop-k c =
     -- the entry is a task in use
     let l = c.loop-k in
     let used : get_or c.args.list.now l.k 0 ≤ 16 =
-        in_some c.args.ts c.requires.used.low c.requires.used.high
-        (λ L y. omega (arith, walking_used L c.args.t.now c.args.list.now c.args.hub c.args.side c.args.owner c.args.marks.now l.marks l.k (l.invariant L y) c.requires.list_len c.loop-k-test.true c.if-e-eq0.false (sym (c.entry_right.ensures L y) ∙ c.if-not-entry_right.false))) in
+    in_some c.args.ts c.requires.used.low c.requires.used.high
+    (λ L y. omega (arith, walking_used L c.args.t.now c.args.list.now c.args.hub c.args.side c.args.owner c.args.marks.now l.marks l.k (l.invariant L y) c.requires.list_len c.loop-k-test.true c.if-e-eq0.false (sym (c.entry_right.ensures L y) ∙ c.if-not-entry_right.false))) in
     omega arith
 
 pub loop-k-preserved : goal.loop-k-preserved

@@ -1,13 +1,9 @@
 -- `wellformed::walk` meets its contract. The loop's invariant is `Walking`, in every layout: what is left of the list is what
 -- the whole comes to, and what is left to mark makes up the marks. Assumes nothing.
-use Prim.Native.Nat.{◌-◌, ◌≤◌}
-use Rattle.rules.proofs.Layouts.{Laid, in_some}
+use Prim.Native.Nat.{◌-◌}
+use Rattle.rules.proofs.Layouts.{Laid}
 use Rattle.rules.specs.Table.{Layout}
-use Rattle.wellformed.proofs.Turns.{Walking, walking_begin, walking_end, walking_full, walking_hit, walking_low, walking_miss, walking_used}
-use borrow.Author.Rules.{rules}
-use lib.ListN.{get_or}
-use mathlib.Core.Path.{◌∙◌, sym}
-use native.Mathlib.Omega.{arith}
+use Rattle.wellformed.proofs.Turns.{Walking}
 use Rattle.wellformed.proofs.walk.Given as goal
 
 abbrev pub invariant-loop-k : goal.invariant-loop-k

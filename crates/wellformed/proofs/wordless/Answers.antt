@@ -1,6 +1,5 @@
 -- `wellformed::wordless` meets its contract: in one word the last is the first, in two both are 0. Assumes nothing.
 use Rattle.wellformed.proofs.Turns.{word_none}
-use borrow.Author.Rules.{rules}
 use Rattle.wellformed.proofs.wordless.Goals as goal
 
 pub returns : goal.returns
