@@ -3,6 +3,7 @@
 // What comes back is how many are ahead of the caller: the place that joining promised, or 0.
 // Not here: the hub table itself (crate hubtable), when a call is refused, and the rest of what it gives back.
 #![tactic(auto)]
+
 ghost use Rattle.std.specs.Prelude.{◌<◌, ◌≤◌, ℕ, length, ◌≡◌};
 ghost use Rattle.hubtable.specs.Says.{Below, says};
 ghost use Rattle.hubtable.specs.declared.Verdict.TheVariants.{Met};

@@ -6,10 +6,10 @@ use mathlib.Core.Path.{◌∙◌, ap, sym}
 use Rattle.requests.proofs.kept_word.Goals as goal
 
 pub returns-then-side-ne-PUT : goal.returns-then-side-ne-PUT
-returns-then-side-ne-PUT c = record { upper_bound = search rules; value = λ h k e d w. kept_get h k (λ q. c.if-side-ne-PUT.true (d ∙ q)); }
+returns-then-side-ne-PUT c = record { upper_bound = search rules; value = λ h k e d w. kept_get h k (λ q. c.if-side-ne-PUT.true (d ∙ q)) }
 
 pub returns-then-kind : goal.returns-then-kind
-returns-then-kind c = record { upper_bound = search rules; value = λ h k e d w. w ∙ kept_put h k (sym d ∙ c.if-side-ne-PUT.false) true (ap bears (sym e) ∙ c.if-kind.true); }
+returns-then-kind c = record { upper_bound = search rules; value = λ h k e d w. w ∙ kept_put h k (sym d ∙ c.if-side-ne-PUT.false) true (ap bears (sym e) ∙ c.if-kind.true) }
 
 pub returns-else-kind : goal.returns-else-kind
-returns-else-kind c = record { upper_bound = search rules; value = λ h k e d w. kept_put h k (sym d ∙ c.if-side-ne-PUT.false) false (ap bears (sym e) ∙ c.if-kind.false); }
+returns-else-kind c = record { upper_bound = search rules; value = λ h k e d w. kept_put h k (sym d ∙ c.if-side-ne-PUT.false) false (ap bears (sym e) ∙ c.if-kind.false) }

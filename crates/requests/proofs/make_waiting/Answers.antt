@@ -1,7 +1,6 @@
 -- `requests::make_waiting` meets its contract. Assumes nothing.
 use Rattle.rules.specs.Lists.{waits}
 use Rattle.rules.specs.Table.{Task, set_task, words}
-use borrow.Author.Rules.{rules}
 use mathlib.Core.Path.{◌∙◌, ap}
 use native.Mathlib.Numerals.{add-one}
 use Rattle.requests.proofs.make_waiting.Goals as goal

@@ -1,12 +1,11 @@
 -- `requests::meet_all` meets its contract. Assumes nothing.
-use Prim.Native.Nat.{◌+◌, ◌-◌, ◌<◌, ◌≤◌, ℕ}
+use Prim.Native.Nat.{◌+◌, ◌<◌, ◌≤◌, ℕ}
 use Rattle.moves.specs.Moves.{key_of}
 use Rattle.requests.proofs.Boards.{all-met, steps, steps_last, steps_ready}
 use Rattle.rules.proofs.Layouts.{Laid}
 use Rattle.rules.proofs.Room.{waiters-room}
 use Rattle.rules.proofs.Valid.{Sound}
 use Rattle.rules.specs.Table.{Layout, State, hub, words}
-use borrow.Author.Rules.{rules}
 use lib.ListN.{length}
 use mathlib.Core.Path.{◌∙◌, ◌≡◌, ap, refl}
 use native.Mathlib.Numerals.{add-one}
@@ -24,7 +23,7 @@ loop-k-preserved c =
     let key = key_of a.keys.now in
     let h = a.h.0 in
     let more : (L : Layout) (s : State) → Laid a.ts L → Sound s → h < length s.hubs → a.t.now ≡ words L s
-    → c.meet_first.new.0 ≡ words L (steps key a.w h (l.k + 1) s) =
+    → c.meet_first.new.t ≡ words L (steps key a.w h (l.k + 1) s) =
     λ L s y sound used e.
     (let r = steps_ready key a.w h l.k s (sound, used) in
     rw (add-one, steps_last key a.w h l.k s) (c.meet_first.ensures L (steps key a.w h l.k s) y r.0 r.1 (l.invariant.2 L s y sound used e))) in

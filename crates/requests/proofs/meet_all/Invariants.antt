@@ -1,20 +1,16 @@
 -- `requests::meet_all` meets its contract. Assumes nothing.
-use Prim.Native.Nat.{◌+◌, ◌-◌, ◌<◌, ◌≤◌, ℕ}
+use Prim.Native.Nat.{◌-◌, ◌<◌, ◌≤◌}
 use Rattle.moves.specs.Moves.{key_of}
-use Rattle.requests.proofs.Boards.{all-met, steps, steps_last, steps_ready}
+use Rattle.requests.proofs.Boards.{steps}
 use Rattle.rules.proofs.Layouts.{Laid}
-use Rattle.rules.proofs.Room.{waiters-room}
 use Rattle.rules.proofs.Valid.{Sound}
-use Rattle.rules.specs.Table.{Layout, State, hub, words}
-use borrow.Author.Rules.{rules}
+use Rattle.rules.specs.Table.{Layout, State, words}
 use lib.ListN.{length}
-use mathlib.Core.Path.{◌∙◌, ◌≡◌, ap, refl}
-use native.Mathlib.Numerals.{add-one}
-use native.Mathlib.Omega.{arith}
+use mathlib.Core.Path.{◌≡◌}
 use Rattle.requests.proofs.meet_all.Given as goal
 
 abbrev pub invariant-loop-k : goal.invariant-loop-k
-invariant-loop-k l = 
+invariant-loop-k l =
     (length l.t ≡ length l.initial.t)
     × (l.k ≤ 16)
     × ((L : Layout) (s : State) → Laid l.ts L → Sound s → l.h.0 < length s.hubs → l.initial.t ≡ words L s → l.t ≡ words L (steps (key_of l.keys) l.w l.h.0 l.k s))

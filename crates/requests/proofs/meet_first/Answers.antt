@@ -2,7 +2,6 @@
 use Rattle.moves.proofs.Laws.{entry_read, entry_stands, waiter_in}
 use Rattle.requests.proofs.Boards.{first-met, none-met}
 use Rattle.rules.specs.Table.{hub, words}
-use borrow.Author.Rules.{rules}
 use mathlib.Core.Path.{◌∙◌, ◌≡◌, ap}
 use native.Mathlib.Omega.{arith}
 use Rattle.requests.proofs.meet_first.Goals as goal

@@ -1,7 +1,6 @@
 -- `requests::request` meets its contract. Assumes nothing.
 use Rattle.requests.proofs.Laws.{board-put, not-update, update-ahead}
 use Rattle.verdicts.proofs.Laws.{asked}
-use borrow.Author.Rules.{rules}
 use mathlib.Core.Path.{◌∙◌, sym}
 use Rattle.requests.proofs.request.Goals as goal
 

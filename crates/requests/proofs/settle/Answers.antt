@@ -11,14 +11,13 @@ use mathlib.Core.Path.{◌∙◌, ap, subst, sym}
 use Rattle.requests.proofs.settle.Goals as goal
 
 pub meet-requires : goal.meet-requires
-meet-requires c = record { table = search rules; caller_bound = search rules; target_bound = search rules; below = subst (Below _) c.in-Met.is c.judge-v.ensures.below; }
+meet-requires c = record { table = search rules; caller_bound = search rules; target_bound = search rules; below = subst (Below _) c.in-Met.is c.judge-v.ensures.below }
 
 pub returns-in-Met : goal.returns-in-Met
 returns-in-Met c =
     λ L s y g a n e.
-    let told = c.v-1.given in
     let j = c.judge-v.ensures.result_value L s y g a n e in
-    let said = ap (says _) (sym told.1) ∙ j in
+    let said = ap (says _) (sym c.in-Met.is) ∙ j in
     record { table = c.meet.ensures L s y g a said e; ahead = met-ahead _ s g _ a _ said }
 
 pub returns-in-Fail : goal.returns-in-Fail

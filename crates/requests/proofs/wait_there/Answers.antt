@@ -7,7 +7,6 @@ use Rattle.rules.proofs.Room.{sound_stands}
 use Rattle.rules.specs.Calls.{wait}
 use Rattle.rules.specs.Lists.{leave, unqueue}
 use Rattle.rules.specs.Table.{hub, set_task}
-use borrow.Author.Rules.{rules}
 use lib.ListN.{length, length-map}
 use mathlib.Core.Path.{◌∙◌, ap, refl, sym}
 use Rattle.requests.proofs.wait_there.Goals as goal
