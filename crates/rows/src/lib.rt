@@ -2,6 +2,7 @@
 // Which words a row covers is specs/Rows.antt.
 // Not here: what a row says (crate rowtexts).
 #![tactic(auto)]
+
 ghost use Rattle.std.specs.Prelude.{◌*◌, ◌+◌, ◌≤◌, ◌≡◌};
 ghost use Rattle.lists.specs.Lists.{bit};
 ghost use Rattle.rows.specs.Rows.{KeysOf, hub_row, marked_in, row_at, rows, task_row};

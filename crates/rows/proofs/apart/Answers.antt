@@ -3,7 +3,6 @@ use Prim.Native.Nat.{◌*◌, ◌+◌}
 use Rattle.records.specs.Records.{hubs_at, ready_at, waits_at}
 use Rattle.rows.proofs.Marks.{moved, only}
 use Rattle.rows.specs.Rows.{apart, covers, differs, more_differs}
-use borrow.Author.Rules.{rules}
 use mathlib.Core.Path.{refl, sym}
 use native.Mathlib.Omega.{arith}
 use Rattle.rows.proofs.apart.Goals as goal

@@ -1,9 +1,7 @@
 -- `rows::count_marked` meets its contract: the marked rows so far, and those that are left. Assumes nothing.
-use Prim.Native.Nat.{◌+◌, ◌-◌, ◌≤◌}
 use Rattle.lists.specs.Lists.{bit}
-use Rattle.rows.proofs.Turns.{marked_begin, marked_end, marked_turn, marked_all, marked_left}
-use borrow.Author.Rules.{rules}
-use mathlib.Core.Path.{◌∙◌, ◌≡◌, ap}
+use Rattle.rows.proofs.Turns.{marked_begin, marked_end, marked_turn}
+use mathlib.Core.Path.{◌∙◌, ap}
 use native.Mathlib.Omega.{arith}
 use Rattle.rows.proofs.count_marked.Goals as goal
 

@@ -1,9 +1,7 @@
 -- `rows::differ` meets its contract: what the words from here on say is what all say. Assumes nothing.
-use Prim.Native.Nat.{◌*◌, ◌+◌, ◌-◌, ◌≤◌}
-use Rattle.rows.proofs.Marks.{differ_begin, differ_end, differ_found, differ_same, differ_left}
-use Rattle.rows.specs.Rows.{differ}
-use borrow.Author.Rules.{rules}
-use mathlib.Core.Path.{◌∙◌, ◌≡◌, sym}
+use Prim.Native.Nat.{◌*◌, ◌+◌}
+use Rattle.rows.proofs.Marks.{differ_begin, differ_end, differ_found, differ_same}
+use mathlib.Core.Path.{◌∙◌, sym}
 use native.Mathlib.Omega.{arith}
 use Rattle.rows.proofs.differ.Goals as goal
 

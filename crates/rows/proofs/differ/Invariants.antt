@@ -1,10 +1,8 @@
 -- `rows::differ` meets its contract: what the words from here on say is what all say. Assumes nothing.
 use Prim.Native.Nat.{◌*◌, ◌+◌, ◌-◌, ◌≤◌}
-use Rattle.rows.proofs.Marks.{differ_begin, differ_end, differ_found, differ_same, differ_left}
+use Rattle.rows.proofs.Marks.{differ_left}
 use Rattle.rows.specs.Rows.{differ}
-use borrow.Author.Rules.{rules}
-use mathlib.Core.Path.{◌∙◌, ◌≡◌, sym}
-use native.Mathlib.Omega.{arith}
+use mathlib.Core.Path.{◌≡◌}
 use Rattle.rows.proofs.differ.Given as goal
 
 abbrev pub invariant-loop-j : goal.invariant-loop-j

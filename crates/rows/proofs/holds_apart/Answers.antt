@@ -3,7 +3,6 @@ use Prim.Native.Nat.{◌*◌, ◌+◌}
 use Rattle.records.specs.Records.{hubs_at}
 use Rattle.rows.proofs.Marks.{moved}
 use Rattle.rows.specs.Rows.{apart, covers, differs, more_differs}
-use borrow.Author.Rules.{rules}
 use mathlib.Core.Path.{refl, sym}
 use native.Mathlib.Nat.{add-zero}
 use native.Mathlib.Omega.{arith}

@@ -1,6 +1,5 @@
 -- `rows::is_shown` meets its contract: test by test. Assumes nothing.
 use Rattle.rows.specs.Rows.{shown}
-use borrow.Author.Rules.{rules}
 use mathlib.Core.Path.{◌∙◌, refl, sym}
 use Rattle.rows.proofs.is_shown.Goals as goal
 

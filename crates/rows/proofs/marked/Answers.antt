@@ -1,17 +1,15 @@
 -- `rows::marked` meets its contract: by who uses the row, then as `apart`. Assumes nothing.
 use Rattle.rows.specs.Rows.{marked}
-use borrow.Author.Rules.{rules}
-use borrow.Author.Tests.{not-false, not-true}
 use mathlib.Core.Path.{◌∙◌, refl, sym}
 use Rattle.rows.proofs.marked.Goals as goal
 
 pub returns-then-not-used : goal.returns-then-not-used
 unfolding marked
-returns-then-not-used c = rw (sym c.used.ensures ∙ c.if-used.true, sym c.used-then-used.ensures ∙ not-true _ c.if-not-used.true) refl
+returns-then-not-used c = rw (sym c.used.ensures ∙ c.if-used.true, sym c.used-then-used.ensures ∙ c.if-not-used.true) refl
 
 pub returns-then-used : goal.returns-then-used
 unfolding marked
-returns-then-used c = rw (sym c.used.ensures ∙ c.if-used.true, sym c.used-then-used.ensures ∙ not-false _ c.if-not-used.false) c.apart.ensures
+returns-then-used c = rw (sym c.used.ensures ∙ c.if-used.true, sym c.used-then-used.ensures ∙ c.if-not-used.false) c.apart.ensures
 
 pub returns-then-used-2 : goal.returns-then-used-2
 unfolding marked

@@ -2,7 +2,6 @@
 use Prim.Native.Nat.{◌*◌, ◌+◌}
 use Rattle.rows.proofs.Marks.{moved}
 use Rattle.rows.specs.Rows.{apart, covers, differs, more_differs}
-use borrow.Author.Rules.{rules}
 use mathlib.Core.Path.{◌∙◌, refl}
 use native.Mathlib.Omega.{arith}
 use Rattle.rows.proofs.priority_apart.Goals as goal
@@ -17,10 +16,9 @@ pub returns : goal.returns
 unfolding apart covers differs more_differs
 returns c =
     let s = c.args in
-    let keys = c.requires.1.1 in
     rw (
       moved s.a.now s.b.now _ (8 + s.i * s.ts + 2) 1 c.differ.ensures (omega arith),
       c.if-differ.false,
-      c.word-old.ensures ∙ keys.0.key s.i,
-      c.word-new.ensures ∙ keys.1.key s.i,
+      c.word-old.ensures ∙ c.requires.keys_of.key s.i,
+      c.word-new.ensures ∙ c.requires.keys_of_2.key s.i,
     ) refl

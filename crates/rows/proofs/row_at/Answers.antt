@@ -1,6 +1,5 @@
 -- `rows::row_at` meets its contract: by the number. Assumes nothing.
 use Rattle.rows.specs.Rows.{row_at}
-use borrow.Author.Rules.{rules}
 use borrow.Author.Tests.{eq-eqb, le-ltb, lt-ltb, ne_eqb}
 use mathlib.Core.Path.{refl}
 use Rattle.rows.proofs.row_at.Goals as goal

@@ -1,6 +1,5 @@
 -- `rows::used` meets its contract: by the row. Assumes nothing.
 use Rattle.rows.specs.Rows.{used}
-use borrow.Author.Rules.{rules}
 use mathlib.Core.Path.{refl}
 use Rattle.rows.proofs.used.Goals as goal
 
