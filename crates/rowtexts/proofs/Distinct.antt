@@ -300,7 +300,9 @@ unfolding among first_free
 runs_among s [] e = refl
 runs_among s (i ∷ is) e =
     bool_case (is_suspended (task s i))
-    (λ q. rw q (runs_among s is (behind (first_free s is) (rw q at e))))
+    (λ q.
+    let f : first_free s (i ∷ is) ≡ first_free s is = rw q refl in
+    f ∙ runs_among s is (behind (first_free s is) (ap (λ (x : ℕ). among x (i ∷ is)) (sym f) ∙ e)))
     (λ q. absurd (false≢true (sym (rw (q, eq-eqb (suc i) (suc i) refl) at e))))
   where
     behind : (x : ℕ) → cond (eqb (suc i) x) true (among x is) ≡ false → among x is ≡ false

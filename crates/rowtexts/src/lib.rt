@@ -2,6 +2,7 @@
 // texts' do: what has no room is left out.
 // Not here: which rows there are, and which are marked (crate rows); the line that these make (crate sidebyside).
 #![tactic(auto)]
+
 ghost use Rattle.std.specs.Prelude.{◌<◌, ◌≤◌};
 ghost use Rattle.rows.specs.Rows.{KeysOf, row_number};
 ghost use Rattle.rowtexts.specs.RowTexts.{cell, mark_text, title, used_text};

@@ -1,6 +1,5 @@
 -- `rowtexts::put_cell` meets its contract: used, or not. Assumes nothing.
 use Rattle.rowtexts.specs.RowTexts.{cell}
-use borrow.Author.Rules.{rules}
 use mathlib.Core.Path.{◌∙◌, sym}
 use Rattle.rowtexts.proofs.put_cell.Goals as goal
 

@@ -1,6 +1,5 @@
 -- `rowtexts::put_mark` meets its contract: marked, or not. Assumes nothing.
 use Rattle.rowtexts.specs.RowTexts.{mark_text}
-use borrow.Author.Rules.{rules}
 use Rattle.rowtexts.proofs.put_mark.Goals as goal
 
 pub returns-then-m : goal.returns-then-m

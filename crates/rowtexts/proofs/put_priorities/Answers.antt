@@ -1,7 +1,6 @@
 -- `rowtexts::put_priorities` meets its contract: the word of the record, and the key. Assumes nothing.
 use Rattle.records.specs.Records.{task_at}
 use Rattle.rowtexts.specs.RowTexts.{used_text}
-use borrow.Author.Rules.{rules}
 use mathlib.Core.Path.{◌∙◌}
 use Rattle.rowtexts.proofs.put_priorities.Goals as goal
 

@@ -1,6 +1,5 @@
 -- `rowtexts::put_title` meets its contract: by the row. Assumes nothing.
 use Rattle.rowtexts.specs.RowTexts.{title}
-use borrow.Author.Rules.{rules}
 use Rattle.rowtexts.proofs.put_title.Goals as goal
 
 pub returns-in-Contents : goal.returns-in-Contents

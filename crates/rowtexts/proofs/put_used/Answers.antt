@@ -1,12 +1,11 @@
 -- `rowtexts::put_used` meets its contract: by the row. Assumes nothing.
 use Prim.Native.Nat.{◌<◌}
 use Rattle.rowtexts.specs.RowTexts.{used_text}
-use borrow.Author.Rules.{rules}
 use native.Mathlib.Omega.{arith}
 use Rattle.rowtexts.proofs.put_used.Goals as goal
 
 pub put_store-requires : goal.put_store-requires
-put_store-requires c = let low : c.in-Holds.h < 16 = rw c.in-Holds.is at c.requires.row_bound in record { le_ts = omega arith; ts_bound = omega arith; h_bound = low; }
+put_store-requires c = let low : c.in-Holds.h < 16 = rw c.in-Holds.is at c.requires.row_bound in record { le_ts = omega arith; ts_bound = omega arith; h_bound = low }
 
 pub put_tasks-requires-in-Waiting : goal.put_tasks-requires-in-Waiting
 put_tasks-requires-in-Waiting c = let low : c.in-Waiting.h < 16 = rw c.in-Waiting.is at c.requires.row_bound in omega (arith, c.waits_at.ensures)
