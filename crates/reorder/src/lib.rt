@@ -3,6 +3,7 @@
 // afterwards; ts is the number of words in a task record. Safe on any table of the length required.
 // Not here: effective priorities (inherit), joining and leaving a list (moves), the services.
 #![tactic(auto)]
+
 ghost use Rattle.std.specs.Prelude.{◌<◌, ◌≤◌, ℕ, eqb, get_or, length, false, not, true, ◌≡◌};
 ghost use Rattle.moves.specs.Moves.{key_of};
 ghost use Rattle.records.specs.Records.{Table};

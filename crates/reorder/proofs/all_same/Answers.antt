@@ -1,7 +1,5 @@
 -- `reorder::all_same` meets its contract. The loop's invariant is `Same`: none below i differs. Assumes nothing.
-use Prim.Native.Nat.{◌-◌}
-use Rattle.reorder.proofs.Loops.{Same, same_begin, same_end, same_step}
-use borrow.Author.Rules.{rules}
+use Rattle.reorder.proofs.Loops.{same_begin, same_end, same_step}
 use mathlib.Core.Bool.{false≢true}
 use Rattle.reorder.proofs.all_same.Goals as goal
 

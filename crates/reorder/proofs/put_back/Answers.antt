@@ -2,7 +2,6 @@
 use Prim.Native.Nat.{◌-◌, suc}
 use Rattle.reorder.proofs.Back.{rejoin-hub, rejoin-none, rejoin_nowhere, rejoin-ready, rejoin-used}
 use Rattle.rules.specs.Table.{words}
-use borrow.Author.Rules.{rules}
 use mathlib.Core.Path.{◌∙◌, ◌≡◌, ap}
 use native.Mathlib.Omega.{arith}
 use Rattle.reorder.proofs.put_back.Goals as goal

@@ -1,8 +1,6 @@
 -- `reorder::put_changed` meets its contract. The loop's invariant is `Putting`: those below i are back. Assumes nothing.
 use Prim.Native.Nat.{◌-◌}
-use Rattle.reorder.proofs.Loops.{Putting, putting_begin, putting_end, putting_hit, putting_miss}
-use borrow.Author.Rules.{rules}
-use mathlib.Core.Logic.{⊎_elim}
+use Rattle.reorder.proofs.Loops.{Putting}
 use Rattle.reorder.proofs.put_changed.Given as goal
 
 abbrev pub invariant-loop-i : goal.invariant-loop-i

@@ -1,5 +1,4 @@
 -- `reorder::reorder` meets its contract: the keys now, and the reordering by them. Assumes nothing.
-use borrow.Author.Rules.{rules}
 use Rattle.reorder.proofs.reorder.Goals as goal
 
 pub returns : goal.returns

@@ -1,7 +1,6 @@
 -- `reorder::reorder_by` meets its contract: all are taken out, then all are put back. Assumes nothing.
 use Rattle.reorder.proofs.Loops.{reorder_all, reorder_none}
 use Rattle.rules.specs.Table.{words}
-use borrow.Author.Rules.{rules}
 use mathlib.Core.Path.{◌∙◌, ap, sym}
 use Rattle.reorder.proofs.reorder_by.Goals as goal
 
@@ -9,7 +8,7 @@ pub returns-then-all_same : goal.returns-then-all_same
 returns-then-all_same c =
     λ L s s' y x many few before after w.
     let a = c.args in
-    w ∙ ap (words L) (sym (reorder_none a.before.now a.after.now a.n s s' many before after (c.All-same.ensures c.if-all_same.true)))
+    w ∙ ap (words L) (sym (reorder_none a.before.now a.after.now a.n s s' many before after (c.all_same.ensures c.if-all_same.true)))
 
 pub returns : goal.returns
 returns c =
@@ -17,4 +16,4 @@ returns c =
     let out = c.take_changed in
     let back = c.put_changed in
     let a = c.args in
-    reorder_all a.before.now a.after.now a.n s s' many before after a.t.now out.new.0 back.new.0 a.ts out.ensures back.ensures L y x few w
+    reorder_all a.before.now a.after.now a.n s s' many before after a.t.now out.new.t back.new.t a.ts out.ensures back.ensures L y x few w

@@ -1,8 +1,6 @@
 -- `reorder::take_changed` meets its contract. The loop's invariant is `Taking`: those below i are out. Assumes nothing.
 use Prim.Native.Nat.{◌-◌}
-use Rattle.reorder.proofs.Loops.{Taking, taking_begin, taking_end, taking_hit, taking_miss}
-use borrow.Author.Rules.{rules}
-use mathlib.Core.Logic.{⊎_elim}
+use Rattle.reorder.proofs.Loops.{Taking}
 use Rattle.reorder.proofs.take_changed.Given as goal
 
 abbrev pub invariant-loop-i : goal.invariant-loop-i
