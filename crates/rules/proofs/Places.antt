@@ -240,19 +240,19 @@ module _ (L : Layout) (z : Sized L) (s : State) (tasks : length s.tasks ≤ 16) 
   unused_zero_lem =
       let stores = rows (store_size L) (store_of L) 16 s.hubs in
       let lists = rows 16 wait_words 16 s.hubs ++ stores in
-      let afterTasks = rows 4 hub_words 16 s.hubs ++ (entries 16 s.ready ++ lists) in
-      let atHubs : words L s ≡ to_hubs L s ++ (rows 4 hub_words 16 s.hubs ++ (entries 16 s.ready ++ lists)) = simp append_assoc in
-      let atWaits : words L s ≡ to_waits L s ++ lists = simp append_assoc in
-      let atStores : words L s ≡ to_stores L s ++ (stores ++ []) = simp (append_assoc, append-nil) in
+      let after_tasks = rows 4 hub_words 16 s.hubs ++ (entries 16 s.ready ++ lists) in
+      let at_hubs : words L s ≡ to_hubs L s ++ (rows 4 hub_words 16 s.hubs ++ (entries 16 s.ready ++ lists)) = simp append_assoc in
+      let at_waits : words L s ≡ to_waits L s ++ lists = simp append_assoc in
+      let at_stores : words L s ≡ to_stores L s ++ (stores ++ []) = simp (append_assoc, append-nil) in
       rw (
         tasks-word L s,
         hubs-word L s,
-        rest_zero (task_size L) (task_words L) z.task 16 s.tasks tasks (contents L s) afterTasks tasks_at (length-contents L s),
-        ap (zero_from (hubs_at L + length s.hubs * 4) (ready_at L)) atHubs
+        rest_zero (task_size L) (task_words L) z.task 16 s.tasks tasks (contents L s) after_tasks tasks_at (length-contents L s),
+        ap (zero_from (hubs_at L + length s.hubs * 4) (ready_at L)) at_hubs
             ∙ rest_zero 4 hub_words (λ h. refl) 16 s.hubs hubs (to_hubs L s) (entries 16 s.ready ++ lists) (hubs_at L) (length_to_hubs L z s),
-        ap (zero_from (waits_at L + length s.hubs * 16) (stores_at L)) atWaits
+        ap (zero_from (waits_at L + length s.hubs * 16) (stores_at L)) at_waits
             ∙ rest_zero 16 wait_words length-wait_words 16 s.hubs hubs (to_waits L s) stores (waits_at L) (length_to_waits L z s),
-        ap (zero_from (stores_at L + length s.hubs * store_size L) (size L)) atStores
+        ap (zero_from (stores_at L + length s.hubs * store_size L) (size L)) at_stores
             ∙ rest_zero (store_size L) (store_of L) (λ h. z.store h.held) 16 s.hubs hubs (to_stores L s) [] (stores_at L) (length_to_stores L z s),
       )
 
@@ -293,7 +293,7 @@ module _ (L : Layout) (z : Sized L) (s : State) where
   -- a hub that has no waiter and holds nothing but zeros: its list and its store are zeros already
   pub add_hub_lem : (y : Hub) → y.waiters ≡ [] → store_of L y ≡ replicate (store_size L) 0 → length s.hubs < 16 → set (sets (words L s) (hubs_at L + length s.hubs * 4) (hub_words y)) 2 (suc (length s.hubs)) ≡ words L (add_hub y s)
   unfolding add_hub contents entries words
-  add_hub_lem y noWaiter empty h =
+  add_hub_lem y no_waiter empty h =
       ap (λ (l : List ℕ). set l 2 (suc (length s.hubs))) (cut_sets next none (some y) refl)
       ∙ rw (
         length-append s.hubs (y ∷ []),
@@ -303,7 +303,7 @@ module _ (L : Layout) (z : Sized L) (s : State) where
       )
     where
       zeros : wait_words y ≡ replicate 16 0
-      zeros = rw noWaiter
+      zeros = rw no_waiter
 
       rest : List ℕ
       rest = entries 16 s.ready ++ (rows 16 wait_words 16 s.hubs ++ rows (store_size L) (store_of L) 16 s.hubs)

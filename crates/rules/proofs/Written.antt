@@ -77,10 +77,10 @@ module _ (t : List ℕ) where
         ∙ ap (λ (k : ℕ). part B k t) m
       where
         next : (j : ℕ) → j < n → j < N → f (g (suc i + j)) ≡ part (B + w + j * w) w t
-        next j hj hN =
+        next j hj h_n =
             let x : suc i + j ≡ i + suc j = omega arith in
             let b : B + suc j * w ≡ B + w + j * w = omega (arith, suc-mul j w) in
-            ap (λ (k : ℕ). f (g k)) x ∙ each (suc j) (suc-le-suc hj) (suc-le-suc hN) ∙ ap (λ (b : ℕ). part b w t) b
+            ap (λ (k : ℕ). f (g k)) x ∙ each (suc j) (suc-le-suc hj) (suc-le-suc h_n) ∙ ap (λ (b : ℕ). part b w t) b
 
 -- ---- what `written` says, test by test
 
