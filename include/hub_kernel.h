@@ -4,7 +4,7 @@
  *     uint8_t table[HUB_KERNEL_TABLE_BYTES_2];
  *     hub_kernel_call(table, sizeof table, HUB_KERNEL_BLANK, 0, 0, 0, 0, 0, 0, 0);
  *
- * Link with libpanel.a (`rt staticlib panel` writes target/staticlib/libpanel.a, for
+ * Link with libpanel.a (`tools/archive panel` writes target/staticlib/libpanel.a, for
  * x86-64 Linux). It exports the six functions below and uses nothing but the C
  * library's memcpy, memmove and memset.
  *

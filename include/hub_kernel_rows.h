@@ -1,5 +1,5 @@
 /* Two tables of the hub kernel side by side, as rows of text: what ./compare shows.
- * `rt staticlib pairs` writes target/staticlib/libpairs.a, for x86-64 Linux. C11; C++ too.
+ * `tools/archive pairs` writes target/staticlib/libpairs.a, for x86-64 Linux. C11; C++ too.
  *
  * Both tables are accepted by hub_kernel_compare (hub_kernel.h): well formed, of one edition.
  * The text is lines, in one order, each with its newline, no zero byte behind the last:

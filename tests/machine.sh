@@ -1,5 +1,5 @@
 # Sourced by the scripts that build C against the proved archive; needs $root, the repository.
-# `rt staticlib` writes an archive for x86-64. On x86-64 C is built with plain gcc and run as it is; on aarch64 it is built with
+# tools/archive writes an archive for x86-64. On x86-64 C is built with plain gcc and run as it is; on aarch64 it is built with
 # Debian's gcc-x86-64-linux-gnu (and its C library, libc6-dev-amd64-cross), linked -static, and run under the kit's own emulator.
 
 archive=$root/target/staticlib/libpanel.a
@@ -25,11 +25,16 @@ command -v "$CC" >/dev/null || { echo "$CC is missing (Debian: gcc, or gcc-x86-6
 # say WORDS..: what is being done, on standard error
 say() { echo "$*" >&2; }
 
+# newer_sources FILE: the files of crates/, and crates.txt, that are newer; what rt keeps in out/ is none
+newer_sources() {
+    find "$root/crates" "$root/crates.txt" -name out -prune -o -type f -newer "$1" -print
+}
+
 # make_archive: proves crate panel, with what it stands on, and writes the archive, unless it is newer than all of crates/
 make_archive() {
-    if [ -f "$archive" ] && [ -z "$(find "$root/crates" "$root/crates.txt" -newer "$archive" -print)" ]; then return; fi
-    say "building $archive (rt staticlib panel)"
-    said=$(cd "$root" && rt staticlib panel 2>&1) || { printf '%s\n' "$said" >&2; exit 1; }
+    if [ -f "$archive" ] && [ -z "$(newer_sources "$archive")" ]; then return; fi
+    say "building $archive (tools/archive panel)"
+    said=$("$root/tools/archive" panel 2>&1) || { printf '%s\n' "$said" >&2; exit 1; }
 }
 
 # compile OUTPUT ARGS..: a program, with the archive after its sources
