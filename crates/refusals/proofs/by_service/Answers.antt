@@ -23,14 +23,9 @@ returns-in-10 c L s y valid room e = rw (c.in-10.is, c.for_add_hub.ensures, e, h
 
 pub returns-in-1-to-7 : goal.returns-in-1-to-7
 returns-in-1-to-7 c L s y valid room e =
-    let n = c.in_default-1.rest in
-    let service = c.args.c.service in
-    let not-blank : service ≡ 0 → ⊥ = λ k. n.0.0.1 (inl k) in
-    c.for_caller.ensures (omega arith) (omega arith) L s y room valid.listed e
+    c.for_caller.ensures (grind arith) (omega arith) L s y room valid.listed e
 
 pub returns-in_default : goal.returns-in_default
 unfolding refusal refusal_for
 returns-in_default c L s y valid room e =
-    let n = c.in_default-1.rest in
-    let service = c.args.c.service in
-    rw (unknown service c.if-service-lt8.false (λ k. n.0.0.1 (inr k)) n.0.1 n.1)
+    rw (unknown c.args.c.service (grind arith) (λ k. grind arith) (λ k. grind arith) (λ k. grind arith))

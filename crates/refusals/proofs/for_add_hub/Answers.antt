@@ -1,17 +1,17 @@
 -- `refusals::for_add_hub` meets its contract: the tests are `good_hub` and the contents' word. Assumes nothing.
 use Rattle.rules.specs.Refusals.{need}
 use borrow.Author.Rules.{rules}
-use borrow.Author.Tests.{le-ltb, lt-ltb, not-false, not-true}
+use borrow.Author.Tests.{le-ltb, lt-ltb}
 use Rattle.refusals.proofs.for_add_hub.Goals as goal
 
 pub returns-then-not-good_hub : goal.returns-then-not-good_hub
 unfolding need
-returns-then-not-good_hub c = rw (← c.good_hub.ensures, not-true c.good_hub.result c.if-not-good_hub.true)
+returns-then-not-good_hub c = rw (← c.good_hub.ensures, c.if-not-good_hub.true)
 
 pub returns-then-word-lt-MOST_RECORDS : goal.returns-then-word-lt-MOST_RECORDS
 unfolding need
-returns-then-word-lt-MOST_RECORDS c =     rw (← c.good_hub.ensures, not-false c.good_hub.result c.if-not-good_hub.false, ← c.word.ensures, lt-ltb _ _ c.if-word-lt-MOST_RECORDS.true)
+returns-then-word-lt-MOST_RECORDS c =     rw (← c.good_hub.ensures, c.if-not-good_hub.false, ← c.word.ensures, lt-ltb _ _ c.if-word-lt-MOST_RECORDS.true)
 
 pub returns-else-word-lt-MOST_RECORDS : goal.returns-else-word-lt-MOST_RECORDS
 unfolding need
-returns-else-word-lt-MOST_RECORDS c =     rw (← c.good_hub.ensures, not-false c.good_hub.result c.if-not-good_hub.false, ← c.word.ensures, le-ltb _ _ c.if-word-lt-MOST_RECORDS.false)
+returns-else-word-lt-MOST_RECORDS c =     rw (← c.good_hub.ensures, c.if-not-good_hub.false, ← c.word.ensures, le-ltb _ _ c.if-word-lt-MOST_RECORDS.false)

@@ -5,7 +5,6 @@ use Rattle.rules.proofs.Places.{hubs-word, tasks-word}
 use Rattle.rules.specs.Calls.{service_of}
 use Rattle.rules.specs.Refusals.{by_running, need, on_task, refusal, refusal_for}
 use borrow.Author.Rules.{rules}
-use borrow.Author.Tests.{not-false, not-true}
 use mathlib.Core.Path.{◌∙◌, sym}
 use native.Mathlib.Omega.{arith}
 use Rattle.refusals.proofs.for_caller.Goals as goal
@@ -14,7 +13,7 @@ pub returns-then-not-is_running : goal.returns-then-not-is_running
 unfolding by_running need refusal
 returns-then-not-is_running c low high L s y room listed e =
     let r = c.is_running in
-    sym ((asks_running s _ _ low high).1 ∙ rw (← r.ensures L s y room listed e, not-true r.result c.if-not-is_running.true))
+    sym ((asks_running s _ _ low high).1 ∙ rw (← r.ensures L s y room listed e, c.if-not-is_running.true))
 
 pub returns-in-1 : goal.returns-in-1
 unfolding by_running need refusal refusal_for service_of
@@ -23,7 +22,7 @@ returns-in-1 c low high L s y room listed e =
     rw (
       c.in-1.is,
       ← r.ensures L s y room listed e,
-      not-false r.result c.if-not-is_running.false,
+      c.if-not-is_running.false,
       c.for_request.ensures,
       e,
       hubs-word L s,
@@ -34,23 +33,22 @@ pub returns-in-6 : goal.returns-in-6
 unfolding by_running need refusal refusal_for service_of
 returns-in-6 c low high L s y room listed e =
     let r = c.is_running in
-    rw (c.in-6.is, ← r.ensures L s y room listed e, not-false r.result c.if-not-is_running.false)
+    rw (c.in-6.is, ← r.ensures L s y room listed e, c.if-not-is_running.false)
 
 pub returns-in-7 : goal.returns-in-7
 unfolding by_running need refusal refusal_for service_of
 returns-in-7 c low high L s y room listed e =
     let r = c.is_running in
-    rw (c.in-7.is, ← r.ensures L s y room listed e, not-false r.result c.if-not-is_running.false, c.for_sleep.ensures)
+    rw (c.in-7.is, ← r.ensures L s y room listed e, c.if-not-is_running.false, c.for_sleep.ensures)
 
 pub returns-in_default : goal.returns-in_default
 unfolding by_running need on_task refusal
 returns-in_default c low high L s y room listed e =
     let r = c.is_running in
-    let n = c.in_default.rest in
     rw (
-      asks_task s c.args.c c.args.c.service (omega (arith, n.0.0.1)) (omega (arith, n.0.1, n.1)),
+      asks_task s c.args.c c.args.c.service (omega arith) (omega arith),
       ← r.ensures L s y room listed e,
-      not-false r.result c.if-not-is_running.false,
+      c.if-not-is_running.false,
       c.for_task.ensures,
       e,
       tasks-word L s,

@@ -1,6 +1,8 @@
 -- `refusals::for_request` meets its contract: the lookup's answer is the test of the hub, and then comes `good_request`.
 -- Assumes nothing.
-use Rattle.records.specs.Records.{hub_at}
+use Prim.Native.Nat.{ℕ}
+use mathlib.Core.List.{List}
+use Rattle.records.specs.Records.{hub_at, hubs_at}
 use Rattle.records.specs.declared.HubRecord.{HubRecord}
 use Rattle.refusals.specs.Lookup.{found_hub, hubs_in, kind_in}
 use Rattle.refusals.specs.declared.FoundHub.TheVariants.{InUse}
@@ -13,36 +15,31 @@ use mathlib.Core.Path.{◌∙◌, ◌≡◌, ap, refl, sym}
 use native.Mathlib.Omega.{arith}
 use Rattle.refusals.proofs.for_request.Goals as goal
 
--- the hub is the one looked up, and in use
--- TODO place In-InUse
-looked : (c : tie.After-known-told) → InUse c.in-InUse.h ≡ found_hub c.args.t.now c.args.c.target
-looked c = sym c.in-InUse.is ∙ c.find_hub-found.ensures
-
--- TODO place In-InUse
-in_use : (c : tie.After-known-told) → ltb c.args.c.target (hubs_in c.args.t.now) ≡ true
-in_use c = hub_in_use _ _ _ (looked c)
-
--- TODO place In-InUse
-number : (c : tie.After-known-told) → c.in-InUse.h.0 ≡ c.args.c.target
-number c = hub-number _ _ _ (looked c)
-
 -- its kind stands where the contract says
--- TODO place After-hub-x
-kind : (c : tie.After-hub) → c.hub-x.result.kind ≡ kind_in c.args.ts c.args.t.now c.args.c.target
+kind : (ts : ℕ) (t : List ℕ) (n at h : ℕ) (x : HubRecord) → x ≡ hub_at at t h → at ≡ hubs_at ts → h ≡ n → x.kind ≡ kind_in ts t n
 unfolding hub_at
-kind c = ap (λ (x : HubRecord). x.kind) c.hub-x.ensures ∙ rw (c.hubs_at.ensures, number c) refl
+kind ts t n at h x e place number = ap (λ (r : HubRecord). r.kind) e ∙ rw (place, number) refl
 
 pub returns-in_default : goal.returns-in_default
 unfolding need
 returns-in_default c = rw (hub_unused _ _ (sym c.in_default.is ∙ c.find_hub-found.ensures))
 
 pub hub-x-requires : goal.hub-x-requires
-hub-x-requires c = record { at_bound = search rules; h_bound = omega (arith, number c); }
+hub-x-requires c =
+    -- the hub is the one looked up, and in use
+    let looked : InUse c.in-InUse.h ≡ found_hub c.args.t.now c.args.c.target = sym c.in-InUse.is ∙ c.find_hub-found.ensures in
+    record { at_bound = search rules; h_bound = omega (arith, hub-number _ _ _ looked); }
 
 pub returns-then-good_request : goal.returns-then-good_request
 unfolding need
-returns-then-good_request c =     rw (in_use c, ← kind c, ← c.good_request.ensures, c.if-good_request.true)
+returns-then-good_request c =
+    -- the hub is the one looked up, and in use
+    let looked : InUse c.in-InUse.h ≡ found_hub c.args.t.now c.args.c.target = sym c.in-InUse.is ∙ c.find_hub-found.ensures in
+    rw (hub_in_use _ _ _ looked, ← kind c.args.ts c.args.t.now c.args.c.target c.hubs_at.result c.in-InUse.h.0 c.hub-x.result c.hub-x.ensures c.hubs_at.ensures (hub-number _ _ _ looked), ← c.good_request.ensures, c.if-good_request.true)
 
 pub returns-else-good_request : goal.returns-else-good_request
 unfolding need
-returns-else-good_request c =     rw (in_use c, ← kind c, ← c.good_request.ensures, c.if-good_request.false)
+returns-else-good_request c =
+    -- the hub is the one looked up, and in use
+    let looked : InUse c.in-InUse.h ≡ found_hub c.args.t.now c.args.c.target = sym c.in-InUse.is ∙ c.find_hub-found.ensures in
+    rw (hub_in_use _ _ _ looked, ← kind c.args.ts c.args.t.now c.args.c.target c.hubs_at.result c.in-InUse.h.0 c.hub-x.result c.hub-x.ensures c.hubs_at.ensures (hub-number _ _ _ looked), ← c.good_request.ensures, c.if-good_request.false)

@@ -1,9 +1,9 @@
 -- `refusals::good_hub` meets its contract: each number's row of the kinds table computes. Assumes nothing.
-use Rattle.rules.proofs.Numbers.{no_kind, past_kinds}
+use Rattle.rules.proofs.Numbers.{no_kind}
 use Rattle.rules.specs.Refusals.{good_hub}
 use Rattle.rules.specs.Table.{kind_of}
-use mathlib.Core.Logic.{inl, inr, ⊎_elim}
-use mathlib.Core.Path.{◌≡◌}
+use mathlib.Core.Logic.{⊎_elim}
+use native.Mathlib.Omega.{arith}
 use Rattle.refusals.proofs.good_hub.Goals as goal
 
 pub returns-in-1 : goal.returns-in-1
@@ -32,9 +32,4 @@ returns-in-7 c = rw c.in-7.is
 
 pub returns-in_default : goal.returns-in_default
 unfolding good_hub
-returns-in_default c =
-    let n = c.in_default.rest in
-    let kind = c.args.kind in
-    let not-event : kind ≡ 1 → ⊥ = λ k. n.0.0.0.0.0.1 (inl k) in
-    let not-resource : kind ≡ 5 → ⊥ = λ k. n.0.0.0.0.0.1 (inr k) in
-    rw (no_kind kind (λ h. past_kinds kind h not-event n.0.0.0.0.1 n.0.0.0.1 n.0.0.1 not-resource n.0.1 n.1))
+returns-in_default c = rw (no_kind c.args.kind (λ h. grind arith))

@@ -12,7 +12,7 @@ unfolding good_wait mode_of
 returns-in-3 c = rw (c.in-3.is, c.good_ticks.ensures)
 
 pub returns-in-1 : goal.returns-in-1
-returns-in-1 c = sym (no_limit _ _ c.if-mode-lt1.false c.if-mode-lt3.true)
+returns-in-1 c = sym (no_limit c.args.mode c.args.ticks (omega arith) (omega arith))
 
 pub returns-in_default : goal.returns-in_default
 unfolding good_wait
@@ -20,4 +20,4 @@ returns-in_default c = rw (no_mode c.args.mode (λ h. omega arith))
 
 pub returns-in_default-2 : goal.returns-in_default-2
 unfolding good_wait
-returns-in_default-2 c = rw (no_mode c.args.mode (λ h. omega (arith, c.in_default-1.rest.1)))
+returns-in_default-2 c = rw (no_mode c.args.mode (λ h. omega arith))

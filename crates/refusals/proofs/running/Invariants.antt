@@ -8,7 +8,6 @@ use Rattle.rules.proofs.Valid.{Listed, Room}
 use Rattle.rules.specs.Lists.{first_free, next}
 use Rattle.rules.specs.Table.{Layout, State, words}
 use borrow.Author.Rules.{rules}
-use borrow.Author.Tests.{not-false, not-true}
 use lib.ListN.{drop, drop_of_length-le, get_or, length}
 use mathlib.Core.Bool.{cond}
 use mathlib.Core.Path.{◌≡◌, ◌∙◌, ap, refl, sym}
