@@ -2,6 +2,7 @@
 // Any words, any length, any numbers: where the words are those of a state, the answer is the rules'.
 // Not here: 1 and 2, the tests of the table itself.
 #![tactic(auto)]
+
 ghost use Rattle.std.specs.Prelude.{◌≤◌, suc, eqb, leb, ltb, ◌&&◌, not, ◌≡◌};
 ghost use Rattle.records.specs.Records.{task_at};
 ghost use Rattle.refusals.specs.Lookup.{found_hub, found_task, hubs_in, kind_in, tasks_in};

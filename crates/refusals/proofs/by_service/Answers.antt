@@ -3,9 +3,7 @@ use Rattle.refusals.proofs.Numbers.{unknown}
 use Rattle.rules.proofs.Places.{hubs-word, tasks-word}
 use Rattle.rules.specs.Calls.{service_of}
 use Rattle.rules.specs.Refusals.{refusal, refusal_for}
-use borrow.Author.Rules.{rules}
-use mathlib.Core.Logic.{inl, inr, ⊎_elim}
-use mathlib.Core.Path.{◌≡◌}
+use mathlib.Core.Logic.{⊎_elim}
 use native.Mathlib.Omega.{arith}
 use Rattle.refusals.proofs.by_service.Goals as goal
 

@@ -1,6 +1,5 @@
 -- `refusals::find_hub` meets its contract: the test is the lookup's own. Assumes nothing.
 use Rattle.refusals.specs.Lookup.{found_hub}
-use borrow.Author.Rules.{rules}
 use borrow.Author.Tests.{le-ltb, lt-ltb}
 use Rattle.refusals.proofs.find_hub.Goals as goal
 

@@ -1,6 +1,5 @@
 -- `refusals::for_add_task` meets its contract: the tests are the rules' own. Assumes nothing.
 use Rattle.rules.specs.Refusals.{need}
-use borrow.Author.Rules.{rules}
 use borrow.Author.Tests.{le-ltb, lt-ltb}
 use Rattle.refusals.proofs.for_add_task.Goals as goal
 

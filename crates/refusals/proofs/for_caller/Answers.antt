@@ -4,7 +4,6 @@ use Rattle.refusals.proofs.Numbers.{asks_running, asks_task, kind-asked}
 use Rattle.rules.proofs.Places.{hubs-word, tasks-word}
 use Rattle.rules.specs.Calls.{service_of}
 use Rattle.rules.specs.Refusals.{by_running, need, on_task, refusal, refusal_for}
-use borrow.Author.Rules.{rules}
 use mathlib.Core.Path.{◌∙◌, sym}
 use native.Mathlib.Omega.{arith}
 use Rattle.refusals.proofs.for_caller.Goals as goal

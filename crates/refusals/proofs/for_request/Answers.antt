@@ -4,13 +4,11 @@ use Prim.Native.Nat.{ℕ}
 use mathlib.Core.List.{List}
 use Rattle.records.specs.Records.{hub_at, hubs_at}
 use Rattle.records.specs.declared.HubRecord.{HubRecord}
-use Rattle.refusals.specs.Lookup.{found_hub, hubs_in, kind_in}
+use Rattle.refusals.specs.Lookup.{found_hub, kind_in}
 use Rattle.refusals.specs.declared.FoundHub.TheVariants.{InUse}
 use Rattle.refusals.proofs.Found.{hub_in_use, hub-number, hub_unused}
 use Rattle.rules.specs.Refusals.{need}
 use borrow.Author.Rules.{rules}
-use lib.Dec.{ltb}
-use mathlib.Core.Bool.{true}
 use mathlib.Core.Path.{◌∙◌, ◌≡◌, ap, refl, sym}
 use native.Mathlib.Omega.{arith}
 use Rattle.refusals.proofs.for_request.Goals as goal
@@ -28,7 +26,7 @@ pub hub-x-requires : goal.hub-x-requires
 hub-x-requires c =
     -- the hub is the one looked up, and in use
     let looked : InUse c.in-InUse.h ≡ found_hub c.args.t.now c.args.c.target = sym c.in-InUse.is ∙ c.find_hub-found.ensures in
-    record { at_bound = search rules; h_bound = omega (arith, hub-number _ _ _ looked); }
+    record { at_bound = search rules; h_bound = omega (arith, hub-number _ _ _ looked) }
 
 pub returns-then-good_request : goal.returns-then-good_request
 unfolding need

@@ -1,7 +1,6 @@
 -- `refusals::for_service` meets its contract. Assumes nothing.
 use Prim.Native.Nat.{suc, zero, ℕ}
 use Rattle.rules.specs.Refusals.{behind, need, refusal_at}
-use borrow.Author.Rules.{rules}
 use mathlib.Core.Path.{◌∙◌, ◌≡◌, refl, sym}
 use Rattle.refusals.proofs.for_service.Goals as goal
 
@@ -21,8 +20,8 @@ returns-then-refused-ne0 c L s y valid room e = first _ _ _ (c.by_service-refuse
 
 pub returns-then-good_message : goal.returns-then-good_message
 unfolding need refusal_at
-returns-then-good_message c L s y valid room e =     rw (sym (c.good_message.ensures L y) ∙ c.if-good_message.true) (then _ _ 0 (c.by_service-refused.ensures L s y valid room e) c.if-refused-ne0.false)
+returns-then-good_message c L s y valid room e = rw (sym (c.good_message.ensures L y) ∙ c.if-good_message.true) (then _ _ 0 (c.by_service-refused.ensures L s y valid room e) c.if-refused-ne0.false)
 
 pub returns-else-good_message : goal.returns-else-good_message
 unfolding need refusal_at
-returns-else-good_message c L s y valid room e =     rw (sym (c.good_message.ensures L y) ∙ c.if-good_message.false) (then _ _ 6 (c.by_service-refused.ensures L s y valid room e) c.if-refused-ne0.false)
+returns-else-good_message c L s y valid room e = rw (sym (c.good_message.ensures L y) ∙ c.if-good_message.false) (then _ _ 6 (c.by_service-refused.ensures L s y valid room e) c.if-refused-ne0.false)

@@ -1,6 +1,5 @@
 -- `refusals::for_sleep` meets its contract: the test is `good_ticks`. Assumes nothing.
 use Rattle.rules.specs.Refusals.{need}
-use borrow.Author.Rules.{rules}
 use Rattle.refusals.proofs.for_sleep.Goals as goal
 
 pub returns-then-good_ticks : goal.returns-then-good_ticks

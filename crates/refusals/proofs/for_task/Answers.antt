@@ -1,7 +1,6 @@
 -- `refusals::for_task` meets its contract: the lookup's answer is the test. Assumes nothing.
 use Rattle.refusals.proofs.Found.{task_in_use, task_unused}
 use Rattle.rules.specs.Refusals.{need}
-use borrow.Author.Rules.{rules}
 use mathlib.Core.Path.{◌∙◌, sym}
 use Rattle.refusals.proofs.for_task.Goals as goal
 

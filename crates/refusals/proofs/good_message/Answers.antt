@@ -1,6 +1,5 @@
 -- `refusals::good_message` meets its contract. Assumes nothing.
 use Rattle.rules.proofs.Layouts.{wide}
-use borrow.Author.Rules.{rules}
 use mathlib.Core.Path.{◌∙◌, refl}
 use Rattle.refusals.proofs.good_message.Goals as goal
 

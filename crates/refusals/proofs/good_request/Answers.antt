@@ -1,5 +1,4 @@
 -- `refusals::good_request` meets its contract: the last side is `last_side`'s, the wait `good_wait`'s. Assumes nothing.
-use borrow.Author.Rules.{rules}
 use Rattle.refusals.proofs.good_request.Goals as goal
 
 pub returns : goal.returns

@@ -2,7 +2,6 @@
 use Rattle.refusals.proofs.Numbers.{no_limit}
 use Rattle.rules.proofs.Numbers.{no_mode}
 use Rattle.rules.specs.Refusals.{good_wait, mode_of}
-use borrow.Author.Rules.{rules}
 use mathlib.Core.Path.{sym}
 use native.Mathlib.Omega.{arith}
 use Rattle.refusals.proofs.good_wait.Goals as goal

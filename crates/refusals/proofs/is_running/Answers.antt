@@ -1,5 +1,4 @@
 -- `refusals::is_running` meets its contract: `running` gives the number to compare. Assumes nothing.
-use borrow.Author.Rules.{rules}
 use native.Mathlib.Numerals.{add-one}
 use Rattle.refusals.proofs.is_running.Goals as goal
 

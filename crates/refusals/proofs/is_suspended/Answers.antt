@@ -1,5 +1,4 @@
 -- `refusals::is_suspended` meets its contract: the record is the one that `task` gives. Assumes nothing.
-use borrow.Author.Rules.{rules}
 use Rattle.refusals.proofs.is_suspended.Goals as goal
 
 pub returns : goal.returns
