@@ -2,10 +2,8 @@
 -- mask of the whole list, and what is left is entries, then zeros; so from an empty entry on nothing is left. Assumes nothing.
 use Prim.Native.Nat.{◌+◌, ◌-◌, ◌≤◌}
 use Rattle.lists.specs.Lists.{numbers, packed}
-use Rattle.summaries.proofs.Masks.{Turn, mask_ended, next_turn}
 use Rattle.summaries.specs.Mask.{mask_of}
 use borrow.Author.Rules.{rules}
-use borrow.Author.Tests.{eqb-true, not-false}
 use lib.ListN.{drop, drop_of_length-le, length}
 use mathlib.Core.Bool.{true}
 use mathlib.Core.List.{[]}
@@ -15,7 +13,7 @@ use native.Mathlib.Omega.{arith}
 use Rattle.summaries.proofs.mask_of.Given as goal
 
 abbrev pub invariant-loop-k : goal.invariant-loop-k
-invariant-loop-k l = 
+invariant-loop-k l =
     (l.k ≤ length l.list) × (packed (drop l.k l.list) ≡ true) × (l.mask + mask_of (numbers (drop l.k l.list)) ≡ mask_of (numbers l.list))
 
 abbrev pub decreases-loop-k : goal.decreases-loop-k
