@@ -2,6 +2,7 @@
 // or it becomes free.
 // Not here: the Stop itself (crate tasks).
 #![tactic(auto)]
+
 ghost use Rattle.std.specs.Prelude.{◌<◌, ◌≤◌, length, ◌≡◌};
 ghost use Rattle.moves.specs.Moves.{key_of};
 ghost use Rattle.records.specs.Records.{Table};

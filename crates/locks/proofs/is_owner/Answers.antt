@@ -1,6 +1,5 @@
 -- `locks::is_owner` meets its contract. Assumes nothing.
 use Rattle.locks.proofs.Laws.{owner-read}
-use borrow.Author.Rules.{rules}
 use Rattle.locks.proofs.is_owner.Goals as goal
 
 pub returns : goal.returns

@@ -1,5 +1,5 @@
 -- `locks::pass_all` meets its contract. Assumes nothing.
-use Prim.Native.Nat.{◌+◌, ◌-◌, ◌≤◌, ℕ}
+use Prim.Native.Nat.{◌+◌, ℕ}
 use Rattle.moves.specs.Moves.{key_of}
 use Rattle.rules.proofs.Hubs.{many_pass}
 use Rattle.rules.proofs.Layouts.{Laid}
@@ -8,7 +8,6 @@ use Rattle.rules.proofs.Waiting.{Good, good_pass}
 use Rattle.rules.specs.Calls.{pass_all}
 use Rattle.rules.specs.Table.{Layout, State, words}
 use Rattle.locks.proofs.Laws.{sound_pass}
-use borrow.Author.Rules.{rules}
 use lib.ListN.{length}
 use mathlib.Core.Path.{◌∙◌, ◌≡◌, ap, refl}
 use native.Mathlib.Numerals.{add-one}
@@ -25,7 +24,7 @@ loop-h-preserved c =
     let l = c.loop-h in
     let a = c.args in
     let more : (L : Layout) (s : State) → Laid a.ts L → Sound s → Good s → a.n ≡ length s.hubs → a.t.now ≡ words L s
-    → c.pass_one.new.0 ≡ words L (pass_all (key_of a.keys.now) a.i.0 (l.h + 1) s) =
+    → c.pass_one.new.t ≡ words L (pass_all (key_of a.keys.now) a.i.0 (l.h + 1) s) =
     λ L s y sound g many e.
     (let key = key_of a.keys.now in
     let i = a.i.0 in

@@ -1,22 +1,17 @@
 -- `locks::pass_all` meets its contract. Assumes nothing.
-use Prim.Native.Nat.{◌+◌, ◌-◌, ◌≤◌, ℕ}
+use Prim.Native.Nat.{◌-◌, ◌≤◌}
 use Rattle.moves.specs.Moves.{key_of}
-use Rattle.rules.proofs.Hubs.{many_pass}
 use Rattle.rules.proofs.Layouts.{Laid}
 use Rattle.rules.proofs.Valid.{Sound}
-use Rattle.rules.proofs.Waiting.{Good, good_pass}
+use Rattle.rules.proofs.Waiting.{Good}
 use Rattle.rules.specs.Calls.{pass_all}
 use Rattle.rules.specs.Table.{Layout, State, words}
-use Rattle.locks.proofs.Laws.{sound_pass}
-use borrow.Author.Rules.{rules}
 use lib.ListN.{length}
-use mathlib.Core.Path.{◌∙◌, ◌≡◌, ap, refl}
-use native.Mathlib.Numerals.{add-one}
-use native.Mathlib.Omega.{arith}
+use mathlib.Core.Path.{◌≡◌}
 use Rattle.locks.proofs.pass_all.Given as goal
 
 abbrev pub invariant-loop-h : goal.invariant-loop-h
-invariant-loop-h l = 
+invariant-loop-h l =
     (length l.t ≡ length l.initial.t)
     × (l.h ≤ l.n)
     × ((L : Layout) (s : State) → Laid l.ts L → Sound s → Good s → l.n ≡ length s.hubs → l.initial.t ≡ words L s → l.t ≡ words L (pass_all (key_of l.keys) l.i.0 l.h s))
