@@ -1,6 +1,7 @@
 // Services 2 to 7: Start, Stop, Suspend, Resume, Yield, Sleep, each on a table that holds a state, by the caller that runs.
 // Not here: when a call is refused, and what it gives back; how a stopped task's locks pass on (crate locks).
 #![tactic(auto)]
+
 ghost use Rattle.std.specs.Prelude.{◌<◌, ◌≤◌, ℕ, get_or, length, ◌≡◌};
 ghost use Rattle.moves.specs.Moves.{key_of, task_of};
 ghost use Rattle.records.specs.Records.{Table};

@@ -1,6 +1,5 @@
 -- `tasks::make_inactive` meets its contract. Assumes nothing.
 use Rattle.rules.specs.Table.{inactive}
-use borrow.Author.Rules.{rules}
 use Rattle.tasks.proofs.make_inactive.Goals as goal
 
 pub returns : goal.returns

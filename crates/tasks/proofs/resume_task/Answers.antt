@@ -2,7 +2,6 @@
 use Rattle.rules.specs.Calls.{flag, serve}
 use Rattle.rules.specs.Table.{Task, words}
 use Rattle.tasks.proofs.Laws.{failed, granted, tasks-flag}
-use borrow.Author.Rules.{rules}
 use borrow.Author.Tests.{eq-eqb, ne_eqb}
 use mathlib.Core.Bool.{not}
 use mathlib.Core.Path.{◌∙◌, ap, sym}

@@ -2,7 +2,6 @@
 use Rattle.rules.specs.Calls.{flag}
 use Rattle.rules.specs.Lists.{flagged}
 use Rattle.rules.specs.Table.{Task, set_task, words}
-use borrow.Author.Rules.{rules}
 use mathlib.Core.Path.{◌∙◌, ap}
 use Rattle.tasks.proofs.set_flag.Goals as goal
 

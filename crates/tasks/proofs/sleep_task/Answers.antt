@@ -3,7 +3,6 @@ use Rattle.rules.proofs.Room.{sound_stands}
 use Rattle.rules.specs.Calls.{serve, slept}
 use Rattle.rules.specs.Lists.{asleep, leave}
 use Rattle.rules.specs.Table.{Task, set_task, words}
-use borrow.Author.Rules.{rules}
 use mathlib.Core.Path.{◌∙◌, ap}
 use Rattle.tasks.proofs.sleep_task.Goals as goal
 

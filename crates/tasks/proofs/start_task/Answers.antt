@@ -3,7 +3,6 @@ use Rattle.moves.specs.Moves.{key_of}
 use Rattle.rules.specs.Calls.{serve, start}
 use Rattle.rules.specs.Table.{Task, words}
 use Rattle.tasks.proofs.Laws.{failed, granted, tasks-start}
-use borrow.Author.Rules.{rules}
 use borrow.Author.Tests.{eq-eqb, ne_eqb}
 use mathlib.Core.Path.{◌∙◌, ap, sym}
 use native.Mathlib.Omega.{arith}

@@ -11,7 +11,6 @@ use Rattle.rules.specs.Lists.{leave}
 use Rattle.rules.specs.Table.{Task, inactive, set_task, words}
 use Rattle.tasks.proofs.Laws.{failed, good_out, granted, sound_out}
 use borrow.Author.Rules.{rules}
-use borrow.Author.Tests.{not-false, not-true}
 use lib.ListN.{get_or, length}
 use mathlib.Core.Path.{◌∙◌, ◌≡◌, ap, sym}
 use native.Mathlib.Omega.{arith}
@@ -23,11 +22,11 @@ returns-then-not-may_stop c =
     λ L s y g caller target e.
     let a = c.args.c in
     let x = c.task_at-x.ensures.value L s y g.tasks target e in
-    let no = sym (c.may_stop.ensures ∙ ap (λ (t : Task). may_stop t a) x) ∙ not-true _ c.if-not-may_stop.true in
+    let no = sym (c.may_stop.ensures ∙ ap (λ (t : Task). may_stop t a) x) ∙ c.if-not-may_stop.true in
     c.give_answer.ensures L s y g.tasks caller e ∙ ap (words L) (failed _ _ s a no)
 
 pub give_answer-requires-2 : goal.give_answer-requires-2
-give_answer-requires-2 c =     let p = c.requires in record { table = record { low = p.0.low; high = p.0.high; long = search rules }; i_bound = p.1.0; w_bound = omega arith; }
+give_answer-requires-2 c = let p = c.requires in record { table = record { low = p.table.low; high = p.table.high; long = search rules }; i_bound = p.caller_bound; w_bound = omega arith }
 
 pub returns : goal.returns
 unfolding deactivate leave serve stop
@@ -37,7 +36,7 @@ returns c =
     let key = key_of c.args.keys.now in
     let i = a.target in
     let x = c.task_at-x.ensures.value L s y g.tasks target e in
-    let yes = sym (c.may_stop.ensures ∙ ap (λ (t : Task). may_stop t a) x) ∙ not-false _ c.if-not-may_stop.false in
+    let yes = sym (c.may_stop.ensures ∙ ap (λ (t : Task). may_stop t a) x) ∙ c.if-not-may_stop.false in
     let left = c.leave_list.ensures L s y (sound_stands s (valid_sound s g) i) target e in
     let made = c.make_inactive.ensures L (leave i s) y g.tasks target left in
     let out = made ∙ ap (λ (t : Task). words L (set_task i (inactive t.priority) (leave i s))) x in

@@ -2,7 +2,6 @@
 use Rattle.rules.proofs.Room.{sound_stands}
 use Rattle.rules.specs.Calls.{serve, yielded}
 use Rattle.rules.specs.Lists.{answer, leave}
-use borrow.Author.Rules.{rules}
 use Rattle.tasks.proofs.yield_turn.Goals as goal
 
 pub returns : goal.returns
