@@ -1,5 +1,6 @@
 // Service 8, Tick, on a table that holds a state.
 #![tactic(auto)]
+
 ghost use Rattle.std.specs.Prelude.{◌<◌, ◌≤◌, get_or, length, ◌≡◌};
 ghost use Rattle.moves.specs.Moves.{key_of};
 ghost use Rattle.records.specs.Records.{Table};

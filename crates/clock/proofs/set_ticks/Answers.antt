@@ -1,7 +1,6 @@
 -- `clock::set_ticks` meets its contract. Assumes nothing.
 use Rattle.rules.specs.Lists.{counted}
 use Rattle.rules.specs.Table.{Task, set_task, words}
-use borrow.Author.Rules.{rules}
 use mathlib.Core.Path.{◌∙◌, ap}
 use Rattle.clock.proofs.set_ticks.Goals as goal
 

@@ -1,5 +1,5 @@
 -- `clock::tick` meets its contract. Assumes nothing.
-use Prim.Native.Nat.{◌+◌, ◌-◌, ◌≤◌, ℕ}
+use Prim.Native.Nat.{◌+◌, ℕ}
 use Rattle.clock.proofs.Laws.{sound_tick}
 use Rattle.moves.specs.Moves.{key_of}
 use Rattle.rules.proofs.Layouts.{Laid}
@@ -8,19 +8,15 @@ use Rattle.rules.proofs.Places.{tasks-word}
 use Rattle.rules.proofs.Valid.{Sound}
 use Rattle.rules.specs.Calls.{tick_all}
 use Rattle.rules.specs.Table.{Layout, State, words}
-use borrow.Author.Rules.{rules}
 use lib.ListN.{get_or, length}
 use mathlib.Core.Path.{◌∙◌, ◌≡◌, ap, refl}
 use native.Mathlib.Numerals.{add-one}
 use native.Mathlib.Omega.{arith}
 use Rattle.clock.proofs.tick.Goals as goal
 
-pub overflow_cast-n : goal.overflow_cast-n
-overflow_cast-n c = omega (arith, c.slice_known-2-1.given 1)
-
 pub loop-i-init : goal.loop-i-init
 unfolding tick_all
-loop-i-init c =     (refl, c.requires.t_bound, omega arith, λ L s y sound e. (rw e (tasks-word L s), e))
+loop-i-init c = (refl, c.requires.t_bound, omega arith, λ L s y sound e. (rw e (tasks-word L s), e))
 
 pub loop-i-preserved : goal.loop-i-preserved
 unfolding tick_all
@@ -28,7 +24,7 @@ loop-i-preserved c =
     let l = c.loop-i in
     let a = c.args in
     let more : (L : Layout) (s : State) → Laid a.ts L → Sound s → a.t.now ≡ words L s
-    → (get_or a.t.now 1 0 ≡ length s.tasks) × (c.tick_one.new.0 ≡ words L (tick_all (key_of a.keys.now) (l.i + 1) s)) =
+    → (get_or a.t.now 1 0 ≡ length s.tasks) × (c.tick_one.new.t ≡ words L (tick_all (key_of a.keys.now) (l.i + 1) s)) =
     λ L s y sound e.
     (let key = key_of a.keys.now in
     let held = l.invariant.3 L s y sound e in

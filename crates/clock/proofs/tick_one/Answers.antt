@@ -3,8 +3,6 @@ use Prim.Native.Nat.{◌-◌, suc}
 use Rattle.clock.proofs.Laws.{tick_down, tick_idle, tick_last, tick_none}
 use Rattle.rules.specs.Table.{Task, words}
 use Rattle.rules.specs.WellFormed.{within}
-use borrow.Author.Rules.{rules}
-use borrow.Author.Tests.{not-false, not-true}
 use mathlib.Core.Path.{◌∙◌, ◌≡◌, ap, sym}
 use native.Mathlib.Omega.{arith}
 use Rattle.clock.proofs.tick_one.Goals as goal
@@ -14,14 +12,14 @@ returns-then-not-counts_down c =
     λ L s y sound used e.
     let x = c.task_at-x.ensures.value L s y sound.tasks used e in
     let counts = sym (ap (λ (r : Task). within 3 4 r.state) x) ∙ sym c.counts_down.ensures in
-    e ∙ ap (words L) (tick_idle _ _ s (counts ∙ not-true _ c.if-not-counts_down.true))
+    e ∙ ap (words L) (tick_idle _ _ s (counts ∙ c.if-not-counts_down.true))
 
 pub returns-then-ticks-eq0 : goal.returns-then-ticks-eq0
 returns-then-ticks-eq0 c =
     λ L s y sound used e.
     let x = c.task_at-x.ensures.value L s y sound.tasks used e in
     let counts = sym (ap (λ (r : Task). within 3 4 r.state) x) ∙ sym c.counts_down.ensures in
-    let yes = counts ∙ not-false _ c.if-not-counts_down.false in
+    let yes = counts ∙ c.if-not-counts_down.false in
     let ticks = ap (λ (r : Task). r.ticks) x in
     e ∙ ap (words L) (tick_none _ _ s yes (sym ticks ∙ c.if-ticks-eq0.true))
 
@@ -30,7 +28,7 @@ returns-then-ticks-eq1 c =
     λ L s y sound used e.
     let x = c.task_at-x.ensures.value L s y sound.tasks used e in
     let counts = sym (ap (λ (r : Task). within 3 4 r.state) x) ∙ sym c.counts_down.ensures in
-    let yes = counts ∙ not-false _ c.if-not-counts_down.false in
+    let yes = counts ∙ c.if-not-counts_down.false in
     let ticks = ap (λ (r : Task). r.ticks) x in
     c.wake_task.ensures L s y sound used e
     ∙ ap (words L) (tick_last _ _ s yes (sym ticks ∙ c.if-ticks-eq1.true))
@@ -40,7 +38,7 @@ returns-else-ticks-eq1 c =
     λ L s y sound used e.
     let x = c.task_at-x.ensures.value L s y sound.tasks used e in
     let counts = sym (ap (λ (r : Task). within 3 4 r.state) x) ∙ sym c.counts_down.ensures in
-    let yes = counts ∙ not-false _ c.if-not-counts_down.false in
+    let yes = counts ∙ c.if-not-counts_down.false in
     let ticks = ap (λ (r : Task). r.ticks) x in
     let n = c.task_at-x.result.ticks - 2 in
     let less : c.task_at-x.result.ticks - 1 ≡ suc n = omega (arith, c.if-ticks-eq0.false, c.if-ticks-eq1.false) in
