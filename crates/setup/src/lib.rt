@@ -1,6 +1,7 @@
 // Services 0, 9 and 10 in the words of a table.
 // Not here: when these calls are refused, and the start of a task that is added.
 #![tactic(auto)]
+
 ghost use Rattle.std.specs.Prelude.{◌<◌, get_or, length, replicate, [], ◌≡◌};
 ghost use Rattle.records.specs.Records.{Table};
 ghost use Rattle.rules.proofs.Layouts.{Laid};

@@ -4,7 +4,6 @@ use Rattle.records.specs.Records.{hub_words}
 use Rattle.rules.proofs.Layouts.{sized, store_zero}
 use Rattle.rules.proofs.Places.{add_hub_lem, hubs-word}
 use Rattle.rules.specs.Table.{kind_of, stored}
-use borrow.Author.Rules.{rules}
 use lib.ListN.{get_or}
 use mathlib.Core.List.{List}
 use mathlib.Core.Path.{◌∙◌, ap, refl}

@@ -4,7 +4,6 @@ use Rattle.records.specs.Records.{task_words}
 use Rattle.rules.proofs.Layouts.{message-written, sized}
 use Rattle.rules.proofs.Places.{add_task_lem, tasks-word}
 use Rattle.rules.specs.Table.{inactive}
-use borrow.Author.Rules.{rules}
 use lib.ListN.{get_or}
 use mathlib.Core.List.{List}
 use mathlib.Core.Path.{◌∙◌, ap}

@@ -1,6 +1,5 @@
 -- `setup::blank` meets its contract: zeros, and the contents. Assumes nothing.
 use Rattle.setup.proofs.Zeros.{blank-words}
-use borrow.Author.Rules.{rules}
 use lib.ListN.{length-set}
 use native.Mathlib.Omega.{arith}
 use Rattle.setup.proofs.blank.Goals as goal
