@@ -2,6 +2,7 @@
 // numbers out. `call` and `summary` are the public promise, over both editions; each function above them says what it does to
 // every state that a table of any layout holds.
 #![tactic(auto)]
+
 ghost use Rattle.std.specs.Prelude.{◌<◌, ◌≤◌, get_or, length, true, ◌≡◌};
 ghost use Rattle.kernel.specs.Promise.{Accepts, Called, CalledIn, Judged, ServedIn};
 ghost use Rattle.moves.specs.Moves.{key_of};

@@ -5,7 +5,6 @@ use Rattle.kernel.proofs.Laws.{key-added}
 use Rattle.rules.proofs.Changes.{length-add_task}
 use Rattle.rules.proofs.Places.{tasks-word}
 use Rattle.rules.specs.Calls.{add_started, add_task, start}
-use borrow.Author.Rules.{rules}
 use lib.ListN.{get_or, length, length-set}
 use mathlib.Core.Path.{◌∙◌, ◌≡◌, refl, sym}
 use native.Mathlib.Omega.{arith}

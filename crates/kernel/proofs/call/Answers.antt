@@ -1,7 +1,6 @@
 -- `kernel::call` meets its contract: `call_in`, in the edition that fits the length. Assumes nothing.
 use Rattle.rules.specs.Table.{edition_of}
 use Rattle.wellformed.proofs.Editions.{edition_laid_of}
-use borrow.Author.Rules.{rules}
 use Rattle.kernel.proofs.call.Goals as goal
 
 pub returns : goal.returns

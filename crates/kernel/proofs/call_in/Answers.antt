@@ -16,14 +16,14 @@ returns-then-refused-ne0 c = λ L y. called_refused L _ _ _ (c.refusal_of-refuse
 pub serve_call-served-requires : goal.serve_call-served-requires
 serve_call-served-requires c =
     let p = c.requires in
-    let e = edition_of_lem _ p.0 p.1 in
-    let j = c.refusal_of-refused.ensures e.layout e.laid in record { le_ts = p.0; ts_bound = p.1; accepts = record { edition = e; none = sym j.refusal ∙ c.if-refused-ne0.false }; keys_len = j.long c.if-refused-ne0.false; }
+    let e = edition_of_lem _ p.le_ts p.ts_bound in
+    let j = c.refusal_of-refused.ensures e.layout e.laid in record { le_ts = p.le_ts; ts_bound = p.ts_bound; accepts = record { edition = e; none = sym j.refusal ∙ c.if-refused-ne0.false }; keys_len = j.long c.if-refused-ne0.false }
 
 pub outcome_of-requires : goal.outcome_of-requires
 outcome_of-requires c =
     let p = c.requires in
-    let e = edition_of_lem _ p.0 p.1 in
-    let fits = fits-table e.laid p.0 p.1 c.args.t.now c.args.c (sym (c.refusal_of-refused.ensures e.layout e.laid).refusal ∙ c.if-refused-ne0.false) in
+    let e = edition_of_lem _ p.le_ts p.ts_bound in
+    let fits = fits-table e.laid p.le_ts p.ts_bound c.args.t.now c.args.c (sym (c.refusal_of-refused.ensures e.layout e.laid).refusal ∙ c.if-refused-ne0.false) in
     search rules
 
 pub returns : goal.returns

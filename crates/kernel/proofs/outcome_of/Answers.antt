@@ -2,7 +2,6 @@
 use Rattle.kernel.proofs.Laws.{outcome-none, outcome_other, outcome_past, outcome-word}
 use Rattle.rules.specs.Reply.{outcome_of}
 use Rattle.rules.specs.Table.{Task}
-use borrow.Author.Rules.{rules}
 use mathlib.Core.Path.{◌∙◌, ap, sym}
 use native.Mathlib.Omega.{arith}
 use Rattle.kernel.proofs.outcome_of.Goals as goal
@@ -41,4 +40,4 @@ returns-in_default c =
     let k = c.args.c in
     let x = c.task_at-x.ensures.value L s y fits (used (omega arith) (omega arith)) e in
     let answer = ap (λ (r : Task). r.answer) x in
-    outcome_other _ (λ z. c.in_default.rest.0.1 (answer ∙ z)) (λ z. c.in_default.rest.1 (answer ∙ z)) ∙ outcome-word s k (omega arith) (omega arith)
+    outcome_other _ (λ z. c.in_default.in_default-own.rest.0.1 (answer ∙ z)) (λ z. c.in_default.in_default-own.rest.1 (answer ∙ z)) ∙ outcome-word s k (omega arith) (omega arith)

@@ -4,8 +4,6 @@ use Rattle.rules.proofs.After.{valid_in, words_in}
 use Rattle.rules.proofs.Layouts.{store_place}
 use Rattle.rules.proofs.Room.{valid-room}
 use Rattle.rules.specs.Table.{read}
-use borrow.Author.Rules.{rules}
-use borrow.Author.Tests.{not-false, not-true}
 use mathlib.Core.Path.{◌∙◌, sym}
 use native.Mathlib.Omega.{arith}
 use Rattle.kernel.proofs.refusal_of.Goals as goal
@@ -18,16 +16,16 @@ returns-then-t-table_size c =
 pub returns-then-c-eq-BLANK : goal.returns-then-c-eq-BLANK
 returns-then-c-eq-BLANK c =
     λ L y. record {
-  refusal = blank_0 L _ _ (c.if-t-table_size.false ∙ (c.table_size.ensures ∙ store_place y 16)) c.if-c-eq-BLANK.true;
-  long = λ z. c.requires.keys_len;
-  keys = λ z n. absurd (n c.if-c-eq-BLANK.true);
-}
+      refusal = blank_0 L _ _ (c.if-t-table_size.false ∙ (c.table_size.ensures ∙ store_place y 16)) c.if-c-eq-BLANK.true;
+      long = λ z. c.requires.keys_len;
+      keys = λ z n. absurd (n c.if-c-eq-BLANK.true);
+    }
 
 pub returns-then-not-well_formed_keys : goal.returns-then-not-well_formed_keys
 returns-then-not-well_formed_keys c =
     λ L y.
     judged_no L _ _ 2
-    (refused_2 L _ _ (c.if-t-table_size.false ∙ (c.table_size.ensures ∙ store_place y 16)) c.if-c-eq-BLANK.false (sym (c.well_formed_keys.ensures L y).right ∙ not-true _ c.if-not-well_formed_keys.true))
+    (refused_2 L _ _ (c.if-t-table_size.false ∙ (c.table_size.ensures ∙ store_place y 16)) c.if-c-eq-BLANK.false (sym (c.well_formed_keys.ensures L y).right ∙ c.if-not-well_formed_keys.true))
     (λ z. omega arith)
 
 pub returns : goal.returns
@@ -35,7 +33,7 @@ returns c =
     λ L y.
     let t = c.args.t.now in
     let f = c.well_formed_keys.ensures L y in
-    let yes = not-false _ c.if-not-well_formed_keys.false in
+    let yes = c.if-not-well_formed_keys.false in
     let w = sym f.right ∙ yes in
     let g = valid_in L t w in
     record {

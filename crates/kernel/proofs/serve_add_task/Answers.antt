@@ -1,6 +1,5 @@
 -- `kernel::serve_add_task` meets its contract. Assumes nothing.
 use Rattle.rules.specs.Calls.{serve}
-use borrow.Author.Rules.{rules}
 use borrow.Author.Tests.{eq-eqb, ne_eqb}
 use mathlib.Core.Path.{◌∙◌, refl}
 use Rattle.kernel.proofs.serve_add_task.Goals as goal

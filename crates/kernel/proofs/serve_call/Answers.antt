@@ -19,7 +19,7 @@ use Rattle.kernel.proofs.serve_call.Goals as goal
 pub blank-requires : goal.blank-requires
 blank-requires c =
     let p = c.requires in
-    fits-table p.1.1.0.edition.laid p.0 p.1.0 _ _ p.1.1.0.none
+    fits-table p.accepts.edition.laid p.le_ts p.ts_bound _ _ p.accepts.none
 
 pub returns-then-c-eq-BLANK : goal.returns-then-c-eq-BLANK
 unfolding service_of
@@ -35,17 +35,17 @@ returns-then-c-eq-BLANK c =
 pub bounds-t-1 : goal.bounds-t-1
 bounds-t-1 c =
     let p = c.requires in
-    let fits = fits-table p.1.1.0.edition.laid p.0 p.1.0 _ _ p.1.1.0.none in
+    let fits = fits-table p.accepts.edition.laid p.le_ts p.ts_bound _ _ p.accepts.none in
     search rules
 
 pub overflow_cast-n : goal.overflow_cast-n
 overflow_cast-n c = omega (arith, c.slice_known-2-1.given 1)
 
 pub is_calm-calm-requires : goal.is_calm-calm-requires
-is_calm-calm-requires c =     let p = c.requires in record { le_ts = p.0; ts_bound = p.1.0; accepts = p.1.1.0; le_service = omega (arith, c.if-c-eq-BLANK.false); }
+is_calm-calm-requires c = let p = c.requires in record { le_ts = p.le_ts; ts_bound = p.ts_bound; accepts = p.accepts; le_service = omega (arith, c.if-c-eq-BLANK.false) }
 
 pub serve_one-served-requires : goal.serve_one-served-requires
-serve_one-served-requires c =     let p = c.requires in record { le_ts = p.0; ts_bound = p.1.0; accepts = p.1.1.0; le_service = omega (arith, c.if-c-eq-BLANK.false); keys_len = p.1.1.1; }
+serve_one-served-requires c = let p = c.requires in record { le_ts = p.le_ts; ts_bound = p.ts_bound; accepts = p.accepts; le_service = omega (arith, c.if-c-eq-BLANK.false); keys_len = p.keys_len }
 
 pub returns-then-calm : goal.returns-then-calm
 returns-then-calm c =
@@ -65,7 +65,7 @@ reorder-requires c =
     let L = e.edition.layout in
     let q = known e.edition.laid c.requires.le_ts c.requires.ts_bound t c.args.c e.none c.slice_known-1.given c.if-c-eq-BLANK.false in
     let fits = q.fits in
-    let few : get_or t 1 0 ≤ 16 = rw q.table (rw (tasks-word L (read L t)) q.valid.tasks) in record { table = search rules; n_bound = omega (arith, few); }
+    let few : get_or t 1 0 ≤ 16 = rw q.table (rw (tasks-word L (read L t)) q.valid.tasks) in record { table = search rules; n_bound = omega (arith, few) }
 
 pub returns : goal.returns
 unfolding served

@@ -3,7 +3,6 @@ use Rattle.kernel.proofs.Laws.{caller_in, service_is, to_service}
 use Rattle.moves.proofs.Laws.{valid_sound}
 use Rattle.moves.specs.Moves.{key_of}
 use Rattle.rules.specs.Calls.{Sleep, Yield, service_of}
-use borrow.Author.Rules.{rules}
 use mathlib.Core.Path.{◌∙◌, ◌≡◌}
 use native.Mathlib.Omega.{arith}
 use Rattle.kernel.proofs.serve_caller.Goals as goal

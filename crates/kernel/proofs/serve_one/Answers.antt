@@ -17,7 +17,7 @@ request-requires c =
     let e = c.requires.accepts in
     let s = read e.edition.layout c.args.t.now in
     let one = c.if-c-eq-HUB_REQUEST.true in
-    let q = known e.edition.laid c.requires.le_ts c.requires.ts_bound c.args.t.now k e.none c.slice_known-1.given (λ z. omega (arith, z, one)) in record { table = q.fits; caller_bound = omega (arith, one, caller_in s q.valid k q.accepted (omega (arith, one)) (omega (arith, one)), q.valid.tasks); target_bound = target-low s q.valid k q.accepted (omega (arith, one)) (omega (arith, one)); c_bound = message-fits _ _ e.edition.laid c.requires.le_ts c.requires.ts_bound k (accepted-message e.edition.layout c.args.t.now k e.none) one (search rules) (search rules); }
+    let q = known e.edition.laid c.requires.le_ts c.requires.ts_bound c.args.t.now k e.none c.slice_known-1.given (λ z. omega (arith, z, one)) in record { table = q.fits; caller_bound = omega (arith, one, caller_in s q.valid k q.accepted (omega (arith, one)) (omega (arith, one)), q.valid.tasks); target_bound = target-low s q.valid k q.accepted (omega (arith, one)) (omega (arith, one)); c_bound = message-fits _ _ e.edition.laid c.requires.le_ts c.requires.ts_bound k (accepted-message e.edition.layout c.args.t.now k e.none) one (search rules) (search rules) }
 
 pub returns-then-c-eq-HUB_REQUEST : goal.returns-then-c-eq-HUB_REQUEST
 unfolding service_of
@@ -37,7 +37,7 @@ returns-then-c-eq-HUB_REQUEST c =
     }
 
 pub serve_other-requires : goal.serve_other-requires
-serve_other-requires c =     let p = c.requires in record { le_ts = p.0; ts_bound = p.1.0; accepts = p.1.1.0; le_service = omega (arith, p.1.1.1.0, c.if-c-eq-HUB_REQUEST.false); keys_len = p.1.1.1.1; }
+serve_other-requires c = let p = c.requires in record { le_ts = p.le_ts; ts_bound = p.ts_bound; accepts = p.accepts; le_service = omega (arith, p.le_service, c.if-c-eq-HUB_REQUEST.false); keys_len = p.keys_len }
 
 pub returns : goal.returns
 returns c =

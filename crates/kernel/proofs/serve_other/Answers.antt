@@ -6,7 +6,6 @@ use Rattle.rules.proofs.Accepted.{hub_tests, task_tests}
 use Rattle.rules.proofs.Places.{hubs-word, tasks-word}
 use Rattle.rules.specs.Calls.{AddHub, AddTask, new_hub, serve, service_of}
 use Rattle.rules.specs.Table.{read}
-use borrow.Author.Rules.{rules}
 use mathlib.Core.Path.{◌∙◌, ◌≡◌, refl}
 use native.Mathlib.Omega.{arith}
 use Rattle.kernel.proofs.serve_other.Goals as goal
@@ -18,7 +17,7 @@ serve_target-requires c =
     let s = read e.edition.layout c.args.t.now in
     let lo = c.requires.le_service in
     let q = known e.edition.laid c.requires.le_ts c.requires.ts_bound c.args.t.now k e.none c.slice_known-1.given (λ z. omega (arith, z, lo)) in
-    let hi = c.if-service-le-RESUME.true in record { table = q.fits; caller_bound = omega (arith, caller_in s q.valid k q.accepted (omega (arith, lo)) (omega (arith, hi)), q.valid.tasks); target_bound = target-low s q.valid k q.accepted (omega (arith, lo)) (omega (arith, hi)); t_bound = rw q.table (rw (hubs-word e.edition.layout s) q.valid.hubs); }
+    let hi = c.if-service-le-RESUME.true in record { table = q.fits; caller_bound = omega (arith, caller_in s q.valid k q.accepted (omega (arith, lo)) (omega (arith, hi)), q.valid.tasks); target_bound = target-low s q.valid k q.accepted (omega (arith, lo)) (omega (arith, hi)); t_bound = rw q.table (rw (hubs-word e.edition.layout s) q.valid.hubs) }
 
 pub returns-then-service-le-RESUME : goal.returns-then-service-le-RESUME
 returns-then-service-le-RESUME c =
@@ -36,7 +35,7 @@ serve_caller-requires c =
     let s = read e.edition.layout c.args.t.now in
     let lo = c.if-service-le-RESUME.false in
     let hi = c.if-service-le-SLEEP.true in
-    let q = known e.edition.laid c.requires.le_ts c.requires.ts_bound c.args.t.now k e.none c.slice_known-1.given (λ z. omega (arith, z, lo)) in record { table = q.fits; caller_bound = omega (arith, caller_in s q.valid k q.accepted (omega (arith, lo)) (omega (arith, hi)), q.valid.tasks); }
+    let q = known e.edition.laid c.requires.le_ts c.requires.ts_bound c.args.t.now k e.none c.slice_known-1.given (λ z. omega (arith, z, lo)) in record { table = q.fits; caller_bound = omega (arith, caller_in s q.valid k q.accepted (omega (arith, lo)) (omega (arith, hi)), q.valid.tasks) }
 
 pub returns-then-service-le-SLEEP : goal.returns-then-service-le-SLEEP
 returns-then-service-le-SLEEP c =
@@ -52,7 +51,7 @@ tick-requires c =
     let k = c.args.c in
     let e = c.requires.accepts in
     let s = read e.edition.layout c.args.t.now in
-    let q = known e.edition.laid c.requires.le_ts c.requires.ts_bound c.args.t.now k e.none c.slice_known-1.given (λ z. omega (arith, z, c.requires.le_service)) in record { table = q.fits; t_bound = rw q.table (rw (tasks-word e.edition.layout s) q.valid.tasks); }
+    let q = known e.edition.laid c.requires.le_ts c.requires.ts_bound c.args.t.now k e.none c.slice_known-1.given (λ z. omega (arith, z, c.requires.le_service)) in record { table = q.fits; t_bound = rw q.table (rw (tasks-word e.edition.layout s) q.valid.tasks) }
 
 pub returns-then-service-eq-TICK : goal.returns-then-service-eq-TICK
 unfolding serve service_of
@@ -70,7 +69,7 @@ serve_add_task-requires c =
     let e = c.requires.accepts in
     let s = read e.edition.layout c.args.t.now in
     let q = known e.edition.laid c.requires.le_ts c.requires.ts_bound c.args.t.now k e.none c.slice_known-1.given (λ z. omega (arith, z, c.requires.le_service)) in
-    let room = (task_tests s k (task_named s q.valid k q.accepted AddTask (service_is k 9 c.if-service-eq-ADD_TASK.true))).1 in record { table = q.fits; t_bound = rw q.table (rw (tasks-word e.edition.layout s) room); keys_len = c.requires.keys_len; }
+    let room = (task_tests s k (task_named s q.valid k q.accepted AddTask (service_is k 9 c.if-service-eq-ADD_TASK.true))).1 in record { table = q.fits; t_bound = rw q.table (rw (tasks-word e.edition.layout s) room); keys_len = c.requires.keys_len }
 
 pub returns-then-service-eq-ADD_TASK : goal.returns-then-service-eq-ADD_TASK
 unfolding service_of
@@ -91,7 +90,7 @@ add_hub-requires c =
     let s = read e.edition.layout c.args.t.now in
     let q = known e.edition.laid c.requires.le_ts c.requires.ts_bound c.args.t.now k e.none c.slice_known-1.given (λ z. omega (arith, z, c.requires.le_service)) in
     let ten : k.service ≡ 10 = omega (arith, service-low s q.valid k q.accepted, c.if-service-eq-ADD_TASK.false, c.if-service-eq-TICK.false, c.if-service-le-SLEEP.false) in
-    let room = (hub_tests s k (task_named s q.valid k q.accepted AddHub (service_is k 10 ten))).1 in record { table = q.fits; t_bound = rw q.table (rw (hubs-word e.edition.layout s) room); }
+    let room = (hub_tests s k (task_named s q.valid k q.accepted AddHub (service_is k 10 ten))).1 in record { table = q.fits; t_bound = rw q.table (rw (hubs-word e.edition.layout s) room) }
 
 pub returns : goal.returns
 unfolding new_hub serve service_of

@@ -5,7 +5,6 @@ use Rattle.moves.specs.Moves.{key_of}
 use Rattle.rules.proofs.Accepted.{on_task_lem}
 use Rattle.rules.specs.Calls.{Resume, Start, Stop, Suspend, service_of}
 use Rattle.rules.specs.Refusals.{refusal_for}
-use borrow.Author.Rules.{rules}
 use mathlib.Core.Path.{◌∙◌, ◌≡◌}
 use native.Mathlib.Omega.{arith}
 use Rattle.kernel.proofs.serve_target.Goals as goal
@@ -49,8 +48,7 @@ returns-in_default c =
     λ L s y g a p q e.
     let k = c.args.c in
     let key = key_of c.args.keys.now in
-    let r = c.in_default.rest in
-    let five : k.service ≡ 5 = omega (arith, p, q, r.0.0.1, r.0.1, r.1) in
+    let five : k.service ≡ 5 = omega arith in
     let v = service_is k 5 five in
     let ok = on_task_lem s g.listed k (task_named s g k a Resume v) in
     c.resume_task.ensures L key s y (valid_sound s g) (caller_in s g k a (omega arith) (omega arith)) ok.1 e
