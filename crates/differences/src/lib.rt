@@ -2,6 +2,7 @@
 // tables: how many places differ, and, where their entries fit, the entries themselves. The tables are only read.
 // Not here: when a table is well formed (crate wellformed).
 #![tactic(auto)]
+
 ghost use Rattle.std.specs.Prelude.{◌*◌, ◌≤◌, length, ◌≡◌};
 ghost use Rattle.differences.specs.Differences.{Compares, entries, entry_words, table_refusal};
 ghost use Rattle.std.proofs.lemmas.List.Edits.{sets};

@@ -11,7 +11,7 @@ use Rattle.rules.proofs.Editions.{down_formed, down_passed, down_state, passed, 
 use Rattle.rules.proofs.Layouts.{one_laid, sized, two_laid}
 use Rattle.rules.proofs.Places.{length-words}
 use Rattle.rules.specs.Refusals.{need}
-use Rattle.rules.specs.Table.{one, read, size, two, words}
+use Rattle.rules.specs.Table.{one, read, two, words}
 use lib.ListN.{length}
 use mathlib.Core.Bool.{true}
 use mathlib.Core.List.{List}

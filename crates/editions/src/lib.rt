@@ -3,6 +3,7 @@
 // records have. The source is only read.
 // Not here: when a table is well formed (crate wellformed), a record's words (crate records).
 #![tactic(auto)]
+
 ghost use Rattle.std.specs.Prelude.{◌≤◌, length, ◌≡◌};
 ghost use Rattle.editions.specs.Editions.{Below, contents_from, stores_from, tasks_from};
 ghost use Rattle.rules.specs.Editions.{Moved, down_refusal, high_zero, move_refusal, moved_down, moved_up, up_refusal, zeros_at};

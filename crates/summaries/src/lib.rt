@@ -1,6 +1,7 @@
 // "Hub summary: given a table and a hub, one word with bit i set when task i waits there, and the number of set bits as
 // count. Refused with 1, 2 or 5, then both are 0." Any words, any length, any hub number; the table is only read.
 #![tactic(auto)]
+
 ghost use Rattle.std.specs.Prelude.{◌<◌, ◌≤◌, true, ◌≡◌};
 ghost use Rattle.lists.specs.Lists.{numbers, packed};
 ghost use Rattle.rules.proofs.Layouts.{Laid};

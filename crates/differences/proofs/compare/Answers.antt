@@ -1,6 +1,5 @@
 -- `differences::compare` meets its contract, each way out by its tests. Assumes nothing.
 use Rattle.differences.proofs.Ways.{compared, formed_most, refused_13, refused_8, refused_first, refused_second, table-formed}
-use borrow.Author.Rules.{rules}
 use mathlib.Core.Path.{◌∙◌, sym}
 use native.Mathlib.Omega.{arith}
 use Rattle.differences.proofs.compare.Goals as goal
@@ -33,7 +32,7 @@ returns-then-places-count c =
 pub write_entries-requires : goal.write_entries-requires
 write_entries-requires c =
     let a = c.args in
-    let f = table-formed a.first.now (sym c.refusal_of-earlier.ensures ∙ c.if-earlier-ne0.false) in record { first_len = c.if-first-second.false; first_len_bound = omega (arith, formed_most a.first.now f); }
+    let f = table-formed a.first.now (sym c.refusal_of-earlier.ensures ∙ c.if-earlier-ne0.false) in record { first_len = c.if-first-second.false; first_len_bound = omega (arith, formed_most a.first.now f) }
 
 pub overflow_cast-result : goal.overflow_cast-result
 overflow_cast-result c =

@@ -1,11 +1,7 @@
 -- `differences::count_entries` meets its contract: the count so far is that of the places so far. Assumes nothing.
 use Prim.Native.Nat.{◌-◌}
-use Rattle.differences.proofs.Passes.{Counted, counted_begin, counted-differ, counted_equal, up_to_all}
-use borrow.Author.Rules.{rules}
+use Rattle.differences.proofs.Passes.{Counted}
 use lib.ListN.{length}
-use mathlib.Core.Logic.{⊎_elim}
-use mathlib.Core.Path.{◌∙◌, ap}
-use native.Mathlib.Omega.{arith}
 use Rattle.differences.proofs.count_entries.Given as goal
 
 abbrev pub invariant-loop-i : goal.invariant-loop-i

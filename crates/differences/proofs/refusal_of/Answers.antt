@@ -3,8 +3,6 @@ use Rattle.differences.proofs.Ways.{table_1, table_2, table-passed}
 use Rattle.rules.proofs.Layouts.{store_place}
 use Rattle.rules.specs.Table.{edition_of}
 use Rattle.wellformed.proofs.Editions.{edition_laid_of}
-use borrow.Author.Rules.{rules}
-use borrow.Author.Tests.{not-false, not-true}
 use mathlib.Core.Path.{◌∙◌, sym}
 use Rattle.differences.proofs.refusal_of.Goals as goal
 
@@ -19,7 +17,7 @@ returns-then-not-well_formed c =
     let t = c.args.t.now in
     let y = edition_laid_of t _ c.task_size-ts.ensures.value in
     table_2 t 0 (c.if-t-table_size.false ∙ c.table_size.ensures ∙ store_place y 16)
-    (sym (c.well-formed-2.ensures (edition_of t) y) ∙ not-true _ c.if-not-well_formed.true)
+    (sym (c.well_formed-2.ensures (edition_of t) y) ∙ c.if-not-well_formed.true)
 
 pub returns : goal.returns
 returns c =
@@ -27,5 +25,5 @@ returns c =
     let y = edition_laid_of t _ c.task_size-ts.ensures.value in
     table-passed t 0 record {
       long = c.if-t-table_size.false ∙ c.table_size.ensures ∙ store_place y 16;
-      formed = sym (c.well-formed-2.ensures (edition_of t) y) ∙ not-false _ c.if-not-well_formed.false;
+      formed = sym (c.well_formed-2.ensures (edition_of t) y) ∙ c.if-not-well_formed.false;
     }

@@ -1,11 +1,7 @@
 -- `differences::write_entries` meets its contract: the words so far are those of the places so far. Assumes nothing.
 use Prim.Native.Nat.{◌-◌}
-use Rattle.differences.proofs.Passes.{Written, up_to_all, written_begin, written-differ, written_equal}
-use borrow.Author.Rules.{rules}
+use Rattle.differences.proofs.Passes.{Written}
 use lib.ListN.{length}
-use lib.Seq.{length-sets}
-use mathlib.Core.Logic.{⊎_elim}
-use native.Mathlib.Omega.{arith}
 use Rattle.differences.proofs.write_entries.Given as goal
 
 abbrev pub invariant-loop-place : goal.invariant-loop-place

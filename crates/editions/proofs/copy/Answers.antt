@@ -2,7 +2,6 @@
 use Prim.Native.Nat.{◌-◌}
 use Rattle.editions.proofs.Bodies.{words-moved}
 use Rattle.rules.proofs.Layouts.{store_place}
-use borrow.Author.Rules.{rules}
 use mathlib.Core.Path.{◌∙◌, ◌≡◌, refl}
 use native.Mathlib.Omega.{arith}
 use Rattle.editions.proofs.copy.Goals as goal

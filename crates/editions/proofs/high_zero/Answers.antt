@@ -1,7 +1,6 @@
 -- `editions::high_zero` meets its contract. Assumes nothing.
 use Prim.Native.Nat.{ℕ}
 use Rattle.rules.specs.Editions.{high_zero, zeros_at}
-use borrow.Author.Rules.{rules}
 use mathlib.Core.Bool.{Bool, ◌&&◌}
 use mathlib.Core.Path.{◌∙◌, ap, ap₂}
 use Rattle.editions.proofs.high_zero.Goals as goal

@@ -1,6 +1,5 @@
 -- `editions::move_up` meets its contract, each way out by its tests. Assumes nothing.
 use Rattle.editions.proofs.Ways.{up_done, up_refused, up_tables}
-use borrow.Author.Rules.{rules}
 use native.Mathlib.Omega.{arith}
 use Rattle.editions.proofs.move_up.Goals as goal
 
@@ -12,9 +11,10 @@ returns-then-refusal-ne0 c =
 pub copy-requires : goal.copy-requires
 copy-requires c =
     let a = c.args in
-    up_tables a.from.now a.to.now _ c.refusal_of-refusal.ensures c.if-refusal-ne0.false
+    let both = up_tables a.from.now a.to.now _ c.refusal_of-refusal.ensures c.if-refusal-ne0.false in
+    record { table = both.0; table_2 = both.1 }
 
 pub returns : goal.returns
 returns c =
     let a = c.args in
-    up_done a.from.now a.to.now _ c.refusal_of-refusal.ensures c.if-refusal-ne0.false (λ k. omega (arith, c.shared_slice_known-1.given k)) _ c.copy.ensures
+    up_done a.from.now a.to.now _ c.refusal_of-refusal.ensures c.if-refusal-ne0.false (λ k. omega (arith, c.type_inv.from k)) _ c.copy.ensures

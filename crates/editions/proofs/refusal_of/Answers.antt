@@ -1,8 +1,6 @@
 -- `editions::refusal_of` meets its contract, each way out by its tests. Assumes nothing.
 use Rattle.rules.proofs.Editions.{refused_malformed, refused_room, refused_source, tested}
 use Rattle.rules.proofs.Layouts.{store_place}
-use borrow.Author.Rules.{rules}
-use borrow.Author.Tests.{not-false, not-true}
 use mathlib.Core.Path.{◌∙◌, sym}
 use Rattle.editions.proofs.refusal_of.Goals as goal
 
@@ -16,10 +14,10 @@ pub returns-then-not-well_formed : goal.returns-then-not-well_formed
 returns-then-not-well_formed c =
     λ L M y z.
     refused_malformed L M _ _ 0 (c.if-from-table_size.false ∙ c.table_size.ensures ∙ store_place y 16) (c.if-room-table_size.false ∙ c.table_size-2.ensures ∙ store_place z 16)
-    (sym (c.well-formed-2.ensures L y) ∙ not-true _ c.if-not-well_formed.true)
+    (sym (c.well_formed-2.ensures L y) ∙ c.if-not-well_formed.true)
 
 pub returns : goal.returns
 returns c =
     λ L M y z.
     tested L M _ _ 0 (c.if-from-table_size.false ∙ c.table_size.ensures ∙ store_place y 16) (c.if-room-table_size.false ∙ c.table_size-2.ensures ∙ store_place z 16)
-    (sym (c.well-formed-2.ensures L y) ∙ not-false _ c.if-not-well_formed.false)
+    (sym (c.well_formed-2.ensures L y) ∙ c.if-not-well_formed.false)

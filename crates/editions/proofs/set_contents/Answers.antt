@@ -1,7 +1,6 @@
 -- `editions::set_contents` meets its contract. Assumes nothing.
 use Prim.Native.Nat.{ℕ}
 use Rattle.editions.proofs.Bodies.{contents_are}
-use borrow.Author.Rules.{rules}
 use lib.Seq.{sets}
 use mathlib.Core.List.{List}
 use mathlib.Core.Path.{◌∙◌, ap}

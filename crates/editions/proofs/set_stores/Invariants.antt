@@ -1,14 +1,9 @@
 -- `editions::set_stores` meets its contract: the messages so far are one run of stores. Assumes nothing.
 use Prim.Native.Nat.{◌*◌, ◌+◌, ◌-◌, ◌≤◌}
-use Rattle.editions.proofs.Joined.{joined_turn}
 use Rattle.editions.specs.Editions.{joined}
-use Rattle.messages.proofs.Laws.{length-message}
 use Rattle.messages.specs.Messages.{message_at, message_words}
-use borrow.Author.Rules.{rules}
-use lib.Seq.{length-sets, sets}
-use mathlib.Core.Path.{◌∙◌, ◌≡◌, ap, refl}
-use native.Mathlib.Nat.{mul-le-mul_left}
-use native.Mathlib.Omega.{arith}
+use lib.Seq.{sets}
+use mathlib.Core.Path.{◌≡◌}
 use Rattle.editions.proofs.set_stores.Given as goal
 
 abbrev pub invariant-loop-k : goal.invariant-loop-k

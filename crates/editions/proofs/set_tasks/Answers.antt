@@ -1,12 +1,11 @@
 -- `editions::set_tasks` meets its contract: the records so far are one run of stores. Assumes nothing.
-use Prim.Native.Nat.{◌-◌, ◌≤◌, ℕ}
+use Prim.Native.Nat.{ℕ}
 use Rattle.editions.proofs.Bodies.{length_record}
 use Rattle.editions.proofs.Joined.{joined_turn}
 use Rattle.editions.specs.Editions.{joined}
 use Rattle.records.specs.Records.{task_at, task_words}
-use borrow.Author.Rules.{rules}
 use lib.ListN.{length}
-use lib.Seq.{length-sets, sets}
+use lib.Seq.{length-sets}
 use mathlib.Core.Path.{◌∙◌, ◌≡◌, ap, refl}
 use native.Mathlib.Omega.{arith}
 use Rattle.editions.proofs.set_tasks.Goals as goal

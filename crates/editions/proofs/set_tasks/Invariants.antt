@@ -1,14 +1,9 @@
 -- `editions::set_tasks` meets its contract: the records so far are one run of stores. Assumes nothing.
-use Prim.Native.Nat.{◌-◌, ◌≤◌, ℕ}
-use Rattle.editions.proofs.Bodies.{length_record}
-use Rattle.editions.proofs.Joined.{joined_turn}
+use Prim.Native.Nat.{◌-◌, ◌≤◌}
 use Rattle.editions.specs.Editions.{joined}
 use Rattle.records.specs.Records.{task_at, task_words}
-use borrow.Author.Rules.{rules}
-use lib.ListN.{length}
-use lib.Seq.{length-sets, sets}
-use mathlib.Core.Path.{◌∙◌, ◌≡◌, ap, refl}
-use native.Mathlib.Omega.{arith}
+use lib.Seq.{sets}
+use mathlib.Core.Path.{◌≡◌}
 use Rattle.editions.proofs.set_tasks.Given as goal
 
 abbrev pub invariant-loop-i : goal.invariant-loop-i

@@ -1,9 +1,5 @@
 -- `editions::zeros_at` meets its contract: the words so far are 0. Assumes nothing.
-use Prim.Native.Nat.{◌-◌, ◌≤◌}
 use Rattle.rules.proofs.HighWords.{zeros_more, zeros-none, zeros-not}
-use Rattle.rules.specs.Editions.{zeros_at}
-use borrow.Author.Rules.{rules}
-use mathlib.Core.Bool.{true}
 use mathlib.Core.Path.{◌∙◌, ◌≡◌, sym}
 use native.Mathlib.Omega.{arith}
 use Rattle.editions.proofs.zeros_at.Goals as goal

@@ -1,11 +1,8 @@
 -- `editions::zeros_at` meets its contract: the words so far are 0. Assumes nothing.
 use Prim.Native.Nat.{◌-◌, ◌≤◌}
-use Rattle.rules.proofs.HighWords.{zeros_more, zeros-none, zeros-not}
 use Rattle.rules.specs.Editions.{zeros_at}
-use borrow.Author.Rules.{rules}
 use mathlib.Core.Bool.{true}
-use mathlib.Core.Path.{◌∙◌, ◌≡◌, sym}
-use native.Mathlib.Omega.{arith}
+use mathlib.Core.Path.{◌≡◌}
 use Rattle.editions.proofs.zeros_at.Given as goal
 
 abbrev pub invariant-loop-i : goal.invariant-loop-i

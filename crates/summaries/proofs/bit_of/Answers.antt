@@ -1,6 +1,5 @@
 -- `summaries::bit_of` meets its contract: half of 2 to the entry. Assumes nothing.
 use Rattle.summaries.proofs.Masks.{bit_shift}
-use borrow.Author.Rules.{rules}
 use Rattle.summaries.proofs.bit_of.Goals as goal
 
 pub returns : goal.returns

@@ -1,12 +1,10 @@
 -- `summaries::mask_of` meets its contract. The loop's invariant: the mask so far and the bits of what is left make the
 -- mask of the whole list, and what is left is entries, then zeros; so from an empty entry on nothing is left. Assumes nothing.
-use Prim.Native.Nat.{◌+◌, ◌-◌, ◌≤◌}
-use Rattle.lists.specs.Lists.{numbers, packed}
+use Prim.Native.Nat.{◌+◌}
+use Rattle.lists.specs.Lists.{numbers}
 use Rattle.summaries.proofs.Masks.{mask_ended, next_turn}
 use Rattle.summaries.specs.Mask.{mask_of}
-use borrow.Author.Rules.{rules}
-use lib.ListN.{drop, drop_of_length-le, length}
-use mathlib.Core.Bool.{true}
+use lib.ListN.{drop, drop_of_length-le}
 use mathlib.Core.List.{[]}
 use mathlib.Core.Path.{◌≡◌}
 use native.Mathlib.Numerals.{add-one}

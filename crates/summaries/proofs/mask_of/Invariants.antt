@@ -3,13 +3,9 @@
 use Prim.Native.Nat.{◌+◌, ◌-◌, ◌≤◌}
 use Rattle.lists.specs.Lists.{numbers, packed}
 use Rattle.summaries.specs.Mask.{mask_of}
-use borrow.Author.Rules.{rules}
-use lib.ListN.{drop, drop_of_length-le, length}
+use lib.ListN.{drop, length}
 use mathlib.Core.Bool.{true}
-use mathlib.Core.List.{[]}
 use mathlib.Core.Path.{◌≡◌}
-use native.Mathlib.Numerals.{add-one}
-use native.Mathlib.Omega.{arith}
 use Rattle.summaries.proofs.mask_of.Given as goal
 
 abbrev pub invariant-loop-k : goal.invariant-loop-k

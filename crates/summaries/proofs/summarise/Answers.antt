@@ -1,15 +1,12 @@
 -- `summaries::summarise` meets its contract: a summary by the three tests, and where they pass the mask of the hub's
 -- waiting list. Assumes nothing.
 use Rattle.refusals.proofs.Found.{hub_unused}
-use Rattle.rules.proofs.Layouts.{Laid, edition_of_lem}
+use Rattle.rules.proofs.Layouts.{edition_of_lem}
 use Rattle.rules.specs.Reply.{summary_by}
-use Rattle.rules.specs.Table.{Layout}
-use Rattle.rules.specs.WellFormed.{well_formed_in}
-use Rattle.summaries.proofs.Masks.{FoundIn, found_in, mask_lt}
+use Rattle.summaries.proofs.Masks.{found_in, mask_lt}
 use Rattle.summaries.proofs.Promise.{in_use, not_in_use, not_well_formed, wrong_length}
 use borrow.Author.Rules.{rules}
-use mathlib.Core.Bool.{true}
-use mathlib.Core.Path.{◌∙◌, ◌≡◌, sym}
+use mathlib.Core.Path.{◌∙◌, sym}
 use native.Mathlib.Nat.{add-sub_cancel_left}
 use native.Mathlib.Omega.{arith}
 use Rattle.summaries.proofs.summarise.Goals as goal
@@ -33,7 +30,7 @@ waits_at-at-requires c =
     let L = e.layout in
     let y = e.laid in
     let f = found_in L _ _ c.in-InUse.h (sym (c.well_formed-2.ensures L y) ∙ c.if-not-well_formed.false) (sym c.in-InUse.is ∙ c.find_hub-found.ensures) in
-    record { ts_bound = search rules; h_bound = omega (arith, f.below); }
+    record { ts_bound = search rules; h_bound = omega (arith, f.below) }
 
 pub overflow_add-at : goal.overflow_add-at
 overflow_add-at c =
