@@ -2,6 +2,7 @@
 // they fit, the lines themselves. The table is only read.
 // Not here: what a line's text is (crate lines).
 #![tactic(auto)]
+
 ghost use Rattle.std.specs.Prelude.{◌+◌, ◌<◌, ◌≤◌, length, ◌≡◌};
 ghost use Rattle.lines.specs.Lines.{Put};
 ghost use Rattle.listing.specs.Listing.{ListedFrom, ListedIn, line_at, lines_at, text_of_lines};

@@ -13,7 +13,7 @@ use Rattle.records.specs.Records.{hub_at as hubRecordAt, hubs_at, ready_at, tabl
 use Rattle.records.specs.declared.TaskRecord.{TaskRecord}
 use Rattle.rows.proofs.Turns.{row_few}
 use Rattle.rows.proofs.Words.{Differing, marked_by, marked-shown, none-differs, once, row_of_place, self_no_mark, some-differ, some-differs, times, unmarked, unmarked_all}
-use Rattle.rows.specs.Rows.{apart, covers, differs, lies, marked, more_differs, rows, shown, used}
+use Rattle.rows.specs.Rows.{apart, covers, differs, lies, marked, more_differs, rows, used}
 use Rattle.rows.specs.declared.Row.TheVariants.{Answer, Contents, Holds, Kind, Priority, ReadyList, State, Waiting}
 use Rattle.rows.specs.declared.Row.{Row}
 use Rattle.rowtexts.proofs.Cells.{Few, Same, cell_same, one-run, part_same}

@@ -2,6 +2,7 @@
 // line for each. The lines are specs/RowLines.antt.
 // The rows are written into a buffer of our own first, so that a refusal leaves the caller's alone.
 #![tactic(auto)]
+
 ghost use Rattle.std.specs.Prelude.{◌<◌, ◌≤◌, length, ◌≡◌};
 ghost use Rattle.rows.specs.Rows.{KeysOf, marked_in, row_number, rows};
 ghost use Rattle.sidebyside.specs.RowLines.{line_text, row_text, rows_text};

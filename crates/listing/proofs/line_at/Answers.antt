@@ -1,7 +1,6 @@
 -- `listing::line_at` meets its contract: by the line's number. Assumes nothing.
 use Rattle.listing.specs.Listing.{line_at}
 use Rattle.records.specs.Records.{hub_at}
-use borrow.Author.Rules.{rules}
 use borrow.Author.Tests.{le-leb, lt-leb, ne_eqb}
 use Rattle.listing.proofs.line_at.Goals as goal
 

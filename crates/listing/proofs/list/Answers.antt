@@ -1,7 +1,6 @@
 -- `listing::list` meets its contract: `list_in`, in the edition that fits the length. Assumes nothing.
 use Rattle.rules.specs.Table.{edition_of}
 use Rattle.wellformed.proofs.Editions.{edition_laid_of}
-use borrow.Author.Rules.{rules}
 use Rattle.listing.proofs.list.Goals as goal
 
 pub returns : goal.returns

@@ -1,10 +1,9 @@
 -- `listing::measure` meets its contract: what is measured and what is left is the whole. Assumes nothing.
-use Prim.Native.Nat.{◌*◌, ◌+◌, ◌-◌, ◌≤◌}
-use Rattle.listing.proofs.Passes.{measured, rest, rest_all, rest_none, whole}
+use Prim.Native.Nat.{◌+◌}
+use Rattle.listing.proofs.Passes.{measured, rest_all, rest_none}
 use Rattle.listing.specs.Listing.{line_at}
-use borrow.Author.Rules.{rules}
 use lib.ListN.{length}
-use mathlib.Core.Path.{◌∙◌, ◌≡◌, ap}
+use mathlib.Core.Path.{◌∙◌, ap}
 use native.Mathlib.Nat.{zero-add}
 use native.Mathlib.Omega.{arith}
 use Rattle.listing.proofs.measure.Goals as goal
@@ -25,4 +24,4 @@ loop-k-preserved c =
 pub returns : goal.returns
 returns c =
     let a = c.args in
-    let l = c.loop-k in record { value = omega (arith, l.invariant.2, ap length (rest_none (line_at a.ts a.t.now a.n) (1 + a.n + a.m) l.k c.loop-k-test.false)); upper_bound = omega (arith, l.invariant.0, l.invariant.1, c.requires.n_bound, c.requires.m_bound); }
+    let l = c.loop-k in record { value = omega (arith, l.invariant.2, ap length (rest_none (line_at a.ts a.t.now a.n) (1 + a.n + a.m) l.k c.loop-k-test.false)); upper_bound = omega (arith, l.invariant.0, l.invariant.1, c.requires.n_bound, c.requires.m_bound) }

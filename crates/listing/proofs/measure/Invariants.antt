@@ -1,12 +1,9 @@
 -- `listing::measure` meets its contract: what is measured and what is left is the whole. Assumes nothing.
 use Prim.Native.Nat.{◌*◌, ◌+◌, ◌-◌, ◌≤◌}
-use Rattle.listing.proofs.Passes.{measured, rest, rest_all, rest_none, whole}
+use Rattle.listing.proofs.Passes.{rest, whole}
 use Rattle.listing.specs.Listing.{line_at}
-use borrow.Author.Rules.{rules}
 use lib.ListN.{length}
-use mathlib.Core.Path.{◌∙◌, ◌≡◌, ap}
-use native.Mathlib.Nat.{zero-add}
-use native.Mathlib.Omega.{arith}
+use mathlib.Core.Path.{◌≡◌}
 use Rattle.listing.proofs.measure.Given as goal
 
 abbrev pub invariant-loop-k : goal.invariant-loop-k

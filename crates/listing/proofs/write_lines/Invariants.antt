@@ -1,9 +1,7 @@
 -- `listing::write_lines` meets its contract: the text so far and what is left is the whole. Assumes nothing.
 use Prim.Native.Nat.{◌+◌, ◌-◌, ◌≤◌}
-use Rattle.listing.proofs.Passes.{Filling, filling_begin, filling_end, filling_room, filling_turn}
+use Rattle.listing.proofs.Passes.{Filling}
 use Rattle.listing.specs.Listing.{line_at}
-use borrow.Author.Rules.{rules}
-use native.Mathlib.Omega.{arith}
 use Rattle.listing.proofs.write_lines.Given as goal
 
 abbrev pub invariant-loop-done : goal.invariant-loop-done

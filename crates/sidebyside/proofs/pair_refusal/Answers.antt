@@ -1,7 +1,6 @@
 -- `sidebyside::pair_refusal` meets its contract: each way out by its tests. Assumes nothing.
 use Rattle.differences.proofs.Ways.{table-formed}
 use Rattle.sidebyside.proofs.Ways.{pair_0, pair_13, pair-first, pair_second}
-use borrow.Author.Rules.{rules}
 use mathlib.Core.Path.{◌∙◌, sym}
 use Rattle.sidebyside.proofs.pair_refusal.Goals as goal
 

@@ -1,14 +1,13 @@
 -- `sidebyside::put_line` meets its contract: six texts, one behind the other. Assumes nothing.
 use Rattle.sidebyside.specs.RowLines.{line_text}
 use Rattle.texts.proofs.Putting.{put_append}
-use borrow.Author.Rules.{rules}
 use Rattle.sidebyside.proofs.put_line.Goals as goal
 
 pub put_cell-tab-requires : goal.put_cell-tab-requires
-put_cell-tab-requires c = let pre = c.requires in record { le_ts = pre.0; ts_bound = pre.1.0; row_bound = pre.1.1.0; keys_of = pre.1.1.1.0; }
+put_cell-tab-requires c = let pre = c.requires in record { le_ts = pre.le_ts; ts_bound = pre.ts_bound; row_bound = pre.row_bound; keys_of = pre.keys_of }
 
 pub put_cell-end-requires : goal.put_cell-end-requires
-put_cell-end-requires c = let pre = c.requires in record { le_ts = pre.0; ts_bound = pre.1.0; row_bound = pre.1.1.0; keys_of = pre.1.1.1.1; }
+put_cell-end-requires c = let pre = c.requires in record { le_ts = pre.le_ts; ts_bound = pre.ts_bound; row_bound = pre.row_bound; keys_of = pre.keys_of_2 }
 
 pub returns : goal.returns
 unfolding line_text

@@ -1,7 +1,6 @@
 -- `sidebyside::put_row` meets its contract: shown, or not. Assumes nothing.
 use Rattle.sidebyside.specs.RowLines.{row_text}
 use Rattle.texts.proofs.Putting.{put_nothing}
-use borrow.Author.Rules.{rules}
 use mathlib.Core.Path.{◌∙◌, sym}
 use Rattle.sidebyside.proofs.put_row.Goals as goal
 

@@ -1,10 +1,7 @@
 -- `sidebyside::put_rows` meets its contract: the rows so far, and what is left of them. Assumes nothing.
 use Prim.Native.Nat.{◌-◌, ◌≤◌}
-use Rattle.rows.proofs.Turns.{row_low}
-use Rattle.sidebyside.proofs.Turns.{text_begin, text_end, text_turn, text_all, text_left}
-use Rattle.texts.proofs.Putting.{Joining, joining_begin, joining_end, joining_long, joining_turn}
-use borrow.Author.Rules.{rules}
-use native.Mathlib.Omega.{arith}
+use Rattle.sidebyside.proofs.Turns.{text_all, text_left}
+use Rattle.texts.proofs.Putting.{Joining}
 use Rattle.sidebyside.proofs.put_rows.Given as goal
 
 abbrev pub invariant-loop-k : goal.invariant-loop-k

@@ -2,7 +2,6 @@
 use Prim.Native.Nat.{ℕ}
 use Rattle.sidebyside.proofs.Ways.{held, refused_8, shown-all}
 use Rattle.texts.proofs.Putting.{length-put}
-use borrow.Author.Rules.{rules}
 use lib.ListN.{length-replicate}
 use lib.Seq.{length-take-le}
 use mathlib.Core.Path.{sym}
