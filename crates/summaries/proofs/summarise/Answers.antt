@@ -24,6 +24,7 @@ returns-in_default c L y =
     c.refused-in_default.ensures
     ∙ sym (not_in_use L _ _ (sym (c.well_formed-2.ensures L y) ∙ c.if-not-well_formed.false) (hub_unused _ _ (sym c.in_default.is ∙ c.find_hub-found.ensures)))
 
+-- the hub is the one looked up, in use, and its list stands within the table, which is well formed: in every layout, and so in one
 pub waits_at-at-requires : goal.waits_at-at-requires
 waits_at-at-requires c =
     let e = edition_of_lem c.args.ts c.requires.le_ts c.requires.ts_bound in
