@@ -22,7 +22,7 @@ use Rattle.tablebytes.specs.TableBytes.{InFront, bytes_in, fits}
 use borrow.Author.Tests.{eq-eqb, ne_eqb}
 use lib.Dec.{eqb}
 use lib.ListN.{length, take}
-use mathlib.Core.Bool.{and-false, false, false≢true, true}
+use mathlib.Core.Bool.{and-false, false≢true, true}
 use mathlib.Core.List.{List}
 use mathlib.Core.Path.{◌∙◌, ◌≡◌, ap, refl, sym}
 

@@ -1,6 +1,7 @@
 // The C edge: "A host program in C hands the table as 2,400 bytes, words little-endian, and the call's numbers"; a table of edition 2
 // has 2,976 (M-105). Thin over the word kernel. include/hub_kernel.h has the same six functions for C.
 #![tactic(auto)]
+
 ghost use Rattle.bytes4.specs.Bytes.{bytes_of, words_from};
 ghost use Rattle.panel.specs.Edge.{Called, ComparedBytes, ListedBytes, call_of, edge_down, edge_summary, edge_up, listing_numbers_of, numbers_of, summary_numbers_of};
 ghost use Rattle.rules.specs.Editions.{Moved, moved_down, moved_up};

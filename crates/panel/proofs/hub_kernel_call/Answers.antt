@@ -1,18 +1,17 @@
 -- In each edition two ways out, a refused call and an accepted one; and another length. Assumes nothing.
 use Rattle.panel.proofs.Laws.{called-accepted, called-length, called_refused}
 use Rattle.tablebytes.proofs.Laws.{fits_one, fits-two}
-use borrow.Author.Rules.{rules}
 use Rattle.panel.proofs.hub_kernel_call.Goals as goal
 
 pub returns-then-numbers-ne0 : goal.returns-then-numbers-ne0
 returns-then-numbers-ne0 c =
     let k = c.call.ensures in
-    called_refused _ _ (fits_one _ c.if-table-eq-BYTES.true) c.unpack.ensures k.reply c.Numbers-of.ensures c.if-numbers-ne0.true
+    called_refused _ _ (fits_one _ c.if-table-eq-BYTES.true) c.unpack.ensures k.reply c.numbers_of-numbers.ensures c.if-numbers-ne0.true
 
 pub returns-then-table-eq-BYTES : goal.returns-then-table-eq-BYTES
 returns-then-table-eq-BYTES c =
     let k = c.call.ensures in
-    called-accepted _ _ (fits_one _ c.if-table-eq-BYTES.true) c.unpack.ensures k.reply c.Numbers-of.ensures k.table c.pack.ensures
+    called-accepted _ _ (fits_one _ c.if-table-eq-BYTES.true) c.unpack.ensures k.reply c.numbers_of-numbers.ensures k.table c.pack.ensures
 
 pub returns-then-reply-ne0 : goal.returns-then-reply-ne0
 returns-then-reply-ne0 c =

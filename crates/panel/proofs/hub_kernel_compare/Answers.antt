@@ -1,6 +1,5 @@
 -- The words of both tables, of either edition or none, are what is compared. Assumes nothing.
 use Rattle.panel.proofs.Laws.{compared}
-use borrow.Author.Rules.{rules}
 use lib.Seq.{length-take-le}
 use mathlib.Core.Path.{sym}
 use Rattle.panel.proofs.hub_kernel_compare.Goals as goal
@@ -12,4 +11,4 @@ pub slice_bounds-compare-end-2 : goal.slice_bounds-compare-end-2
 slice_bounds-compare-end-2 c = sym (length-take-le _ _ c.table_words-m.ensures.room)
 
 pub returns : goal.returns
-returns c =     compared _ _ _ c.table_words-n.ensures c.table_words-m.ensures c.compare-r.ensures
+returns c = compared _ _ _ c.table_words-n.ensures c.table_words-m.ensures c.compare-r.ensures

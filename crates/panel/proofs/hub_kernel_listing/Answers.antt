@@ -1,7 +1,6 @@
 -- The words of a table of either edition are what is listed; another length. Assumes nothing.
 use Rattle.panel.proofs.Laws.{listed, listed-length}
 use Rattle.tablebytes.proofs.Laws.{fits_one, fits-two}
-use borrow.Author.Rules.{rules}
 use Rattle.panel.proofs.hub_kernel_listing.Goals as goal
 
 pub returns-then-table-eq-BYTES : goal.returns-then-table-eq-BYTES

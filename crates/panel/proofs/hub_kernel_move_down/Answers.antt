@@ -3,7 +3,6 @@
 use Rattle.panel.proofs.Laws.{moved_done, moved_refused, moved-room, moved_source}
 use Rattle.rules.specs.Editions.{down_refusal, moved_down}
 use Rattle.rules.specs.Table.{one, size, two}
-use borrow.Author.Rules.{rules}
 use Rattle.panel.proofs.hub_kernel_move_down.Goals as goal
 
 pub returns-then-from-ne-BYTES_TWO : goal.returns-then-from-ne-BYTES_TWO

@@ -1,5 +1,4 @@
 -- The two functions of `rules` give the numbers of the answer. Assumes nothing.
-use borrow.Author.Rules.{rules}
 use Rattle.panel.proofs.numbers_of.Goals as goal
 
 pub returns : goal.returns
