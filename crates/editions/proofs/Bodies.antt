@@ -9,7 +9,7 @@ use Rattle.lists.proofs.Laws.{bool_case, length-entries}
 use Rattle.lists.specs.Lists.{entries}
 use Rattle.messages.proofs.Laws.{length-message}
 use Rattle.messages.specs.Messages.{message_at, message_words, messages}
-use Rattle.records.specs.Records.{hubs_at as hubsFor, ready_at as readyFor, stores_at as storesFor, task_at, task_words as recordWords, waits_at as waits_for, width}
+use Rattle.records.specs.Records.{hubs_at as hubs_for, ready_at as ready_for, stores_at as stores_for, task_at, task_words as record_words, waits_at as waits_for, width}
 use Rattle.records.specs.declared.TaskRecord.{TaskRecord}
 use Rattle.rules.proofs.Layouts.{Laid, answer_at, message-at, message-word, message-written, message-zero, sized, wide}
 use Rattle.rules.proofs.Places.{hubs-word, length-words, tasks-word}
@@ -121,13 +121,13 @@ module _ {ts : ℕ} (L : Layout) (y : Laid ts L) (s : State) where
 
 -- ---- the same state in another edition
 
-pub contents_are : (ts : ℕ) (from : List ℕ) {v n m h r w p : ℕ} → v ≡ width ts → n ≡ get_or from 1 0 → m ≡ get_or from 2 0 → h ≡ hubsFor ts → r ≡ readyFor ts → w ≡ waits_for ts → p ≡ storesFor ts
+pub contents_are : (ts : ℕ) (from : List ℕ) {v n m h r w p : ℕ} → v ≡ width ts → n ≡ get_or from 1 0 → m ≡ get_or from 2 0 → h ≡ hubs_for ts → r ≡ ready_for ts → w ≡ waits_for ts → p ≡ stores_for ts
     → v ∷ n ∷ m ∷ 8 ∷ h ∷ r ∷ w ∷ p ∷ [] ≡ contents_from ts from
 unfolding contents_from
 contents_are ts from ev en em eh er ew ep = rw (ev, en, em, eh, er, ew, ep)
 
-pub length_record : (ts : ℕ) → 8 ≤ ts → ts ≤ 9 → (x : TaskRecord) → length (recordWords ts x) ≡ ts
-unfolding recordWords
+pub length_record : (ts : ℕ) → 8 ≤ ts → ts ≤ 9 → (x : TaskRecord) → length (record_words ts x) ≡ ts
+unfolding record_words
 length_record ts low high x =
     rw (length-append (message_words (width ts) x.word) (x.answer ∷ []), length-message (width ts) x.word (omega arith) (omega arith))
     (omega arith)
@@ -139,8 +139,8 @@ module _ {fs ts : ℕ} (L M : Layout) (y : Laid fs L) (z : Laid ts M) (s : State
 
   module _ (low : 8 ≤ ts) (high : ts ≤ 9) (b : Below (messages (width ts)) s) where
     -- a record of the source, read and written in the destination's words
-    task-moved : (i : ℕ) → i < 16 → recordWords ts (task_at fs (words L s) i) ≡ task_part M s i
-    unfolding recordWords task_at
+    task-moved : (i : ℕ) → i < 16 → record_words ts (task_at fs (words L s) i) ≡ task_part M s i
+    unfolding record_words task_at
     task-moved i h =
         let x = placed s i in
         let word : (k : ℕ) → k < fs → get_or (words L s) (8 + i * fs + k) 0 ≡ get_or (task_part L s i) k 0 =
@@ -168,12 +168,12 @@ module _ {fs ts : ℕ} (L M : Layout) (y : Laid fs L) (z : Laid ts M) (s : State
         )
 
     -- and a message of a store
-    store_moved : (k : ℕ) → k < 128 → message_words (width ts) (message_at (width fs) (words L s) (storesFor fs + k * width fs)) ≡ store_part M s k
+    store_moved : (k : ℕ) → k < 128 → message_words (width ts) (message_at (width fs) (words L s) (stores_for fs + k * width fs)) ≡ store_part M s k
     store_moved k h =
         let m = get_or (stored s) k 0 in
-        let p : storesFor fs + k * width fs ≡ stores_at L + k * L.width = rw (wide y) (omega (arith, y.size)) in
-        let message : message_at (width fs) (words L s) (storesFor fs + k * width fs) ≡ m =
-        message-at L y (words L s) (storesFor fs + k * width fs) m
+        let p : stores_for fs + k * width fs ≡ stores_at L + k * L.width = rw (wide y) (omega (arith, y.size)) in
+        let message : message_at (width fs) (words L s) (stores_for fs + k * width fs) ≡ m =
+        message-at L y (words L s) (stores_for fs + k * width fs) m
         (λ j hj. ap (λ (q : ℕ). get_or (words L s) (q + j) 0) p ∙ message-place L y s k j h hj) in
         rw message (message-written z low high m (b.stores k h))
 
@@ -181,15 +181,15 @@ module _ {fs ts : ℕ} (L M : Layout) (y : Laid fs L) (z : Laid ts M) (s : State
     -- task records and the stores
     pub words-moved : (from t t₁ t₂ t₃ t₄ mid : List ℕ) (a n p : ℕ) → from ≡ words L s → length t ≡ size M
         → t₁ ≡ sets t 0 (contents_from ts from) → t₂ ≡ sets t₁ 8 (tasks_from fs ts from)
-        → a ≡ hubsFor fs → n ≡ 336 → mid ≡ part a n from → p ≡ hubsFor ts → t₃ ≡ sets t₂ p mid
-        → t₄ ≡ sets t₃ (storesFor ts) (stores_from fs ts from) → t₄ ≡ words M s
+        → a ≡ hubs_for fs → n ≡ 336 → mid ≡ part a n from → p ≡ hubs_for ts → t₃ ≡ sets t₂ p mid
+        → t₄ ≡ sets t₃ (stores_for ts) (stores_from fs ts from) → t₄ ≡ words M s
     words-moved from t t₁ t₂ t₃ t₄ mid a n p ef long e₁ e₂ ea en em ep e₃ e₄ =
         let tasks : tasks_from fs ts (words L s) ≡ joined 16 (task_part M s) = joined_same 16 _ (task_part M s) task-moved in
         let stores : stores_from fs ts (words L s) ≡ joined 128 (store_part M s) = joined_same 128 _ (store_part M s) store_moved in
         let hubs : a ≡ hubs_at L = omega (arith, y.size) in
         let lists : mid ≡ middle s = em ∙ rw (hubs, en, ef) (middle_part L y s) in
-        let front : 0 + length (contents M s ++ joined 16 (task_part M s)) ≡ hubsFor ts = omega (arith, z.size, length_front M z s) in
-        let most : 0 + length (contents M s ++ joined 16 (task_part M s) ++ middle s) ≡ storesFor ts =
+        let front : 0 + length (contents M s ++ joined 16 (task_part M s)) ≡ hubs_for ts = omega (arith, z.size, length_front M z s) in
+        let most : 0 + length (contents M s ++ joined 16 (task_part M s) ++ middle s) ≡ stores_for ts =
         omega (arith, front, length_middle s, length-append (contents M s ++ joined 16 (task_part M s)) (middle s)) in
         let all : contents M s ++ joined 16 (task_part M s) ++ middle s ++ joined 128 (store_part M s) ≡ words M s = simp append_assoc (sym (bodies M z s)) in
         e₄
@@ -204,8 +204,8 @@ module _ {fs ts : ℕ} (L M : Layout) (y : Laid fs L) (z : Laid ts M) (s : State
           stores,
           lists,
           sets_then t 0 8 (contents M s) (joined 16 (task_part M s)) (unfold contents in refl),
-          sets_then t 0 (hubsFor ts) (contents M s ++ joined 16 (task_part M s)) (middle s) front,
-          sets_then t 0 (storesFor ts) (contents M s ++ joined 16 (task_part M s) ++ middle s) (joined 128 (store_part M s)) most,
+          sets_then t 0 (hubs_for ts) (contents M s ++ joined 16 (task_part M s)) (middle s) front,
+          sets_then t 0 (stores_for ts) (contents M s ++ joined 16 (task_part M s) ++ middle s) (joined 128 (store_part M s)) most,
           all,
         )
         (sets-all t (words M s) (length-words M (sized z) s ∙ sym long))

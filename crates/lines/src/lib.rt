@@ -6,7 +6,7 @@
 ghost use Rattle.std.specs.Prelude.{◌*◌, ◌+◌, ◌<◌, ◌≤◌, drop, length, [], ◌++◌, ◌∷◌, ◌≡◌};
 ghost use Rattle.lines.specs.Lines.{Put, bad_text, decimal, print_room, printed};
 ghost use Rattle.lines.specs.Scan.{byte_step, digit_step, is_fresh, line_of_scan, next_of, progress_of, push, space_step, start_of};
-ghost use Rattle.lines.specs.Scan.{spoilt as Scan·spoilt};
+ghost use Rattle.lines.specs.Scan.{spoilt};
 
 // The room that a printed line may take, as specs/Lines.antt has it.
 pub const PRINT_ROOM: usize = 64;
@@ -109,7 +109,7 @@ impl Scan {
 
     // The line is bad, whatever follows.
     fn spoilt(mut self) -> Scan
-        ensures { result ≡ Scan·spoilt self }
+        ensures { result ≡ spoilt self }
     {
         self.bad = true;
         self

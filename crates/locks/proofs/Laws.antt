@@ -2,7 +2,7 @@
 use Prim.Native.Nat.{◌*◌, ◌+◌, ◌-◌, ◌<◌, ◌≤◌, pred, suc, zero, ℕ}
 use Rattle.moves.proofs.Laws.{hub-number, waiter_in}
 use Rattle.records.proofs.Laws.{first_some}
-use Rattle.records.specs.Records.{first, hub_at, hubs_at as hubsFrom}
+use Rattle.records.specs.Records.{first, hub_at, hubs_at as hubs_from}
 use Rattle.rules.proofs.Changes.{length-set_hub}
 use Rattle.rules.proofs.Handed.{one_none, one-some}
 use Rattle.rules.proofs.Hubs.{many_pass}
@@ -26,10 +26,10 @@ use native.Mathlib.Numerals.{add-one}
 use native.Mathlib.Omega.{arith}
 
 pub owner-read : {ts : ℕ} (L : Layout) (s : State) → Laid ts L → length s.hubs ≤ 16 → (i h : ℕ) → h < length s.hubs
-    → (eqb (hub_at (hubsFrom ts) (words L s) h).kind 5 && eqb (hub_at (hubsFrom ts) (words L s) h).count (i + 1)) ≡ owns i (hub s h)
+    → (eqb (hub_at (hubs_from ts) (words L s) h).kind 5 && eqb (hub_at (hubs_from ts) (words L s) h).count (i + 1)) ≡ owns i (hub s h)
 unfolding hub_at owns
 owner-read {ts} L s y fits i h used =
-    let kind : get_or (words L s) (hubsFrom ts + h * 4) 0 ≡ (hub s h).kind = rw add-zero at (hub-number L s y fits h used 0 (omega arith)) in
+    let kind : get_or (words L s) (hubs_from ts + h * 4) 0 ≡ (hub s h).kind = rw add-zero at (hub-number L s y fits h used 0 (omega arith)) in
     rw (kind, hub-number L s y fits h used 1 (omega arith), add-one, resource-number (hub s h).kind)
 
 -- the hub's count, n, is its new owner plus 1, or 0

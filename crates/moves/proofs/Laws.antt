@@ -7,7 +7,7 @@ use Rattle.lists.proofs.Laws.{bool_case, join_entries, leave-entries, length-ent
 use Rattle.lists.specs.Lists.{entries, index_of, insert_at, occ, place_in, place_of, remove_at, without}
 use Rattle.messages.specs.Messages.{message_at, messages}
 use Rattle.moves.specs.Moves.{key_of, task_of}
-use Rattle.records.specs.Records.{first, hubs_at as hubsFrom, task_at, task_words as recordWords, waits_at as waitsFrom, width}
+use Rattle.records.specs.Records.{first, hubs_at as hubs_from, task_at, task_words as record_words, waits_at as waits_from, width}
 use Rattle.records.specs.declared.TaskRecord.{TaskRecord}
 use Rattle.rules.proofs.Changes.{in_use}
 use Rattle.rules.proofs.Cut.{Cut, cut_part, cut_paste, cut_sets}
@@ -121,10 +121,10 @@ module _ {ts : ℕ} (L : Layout) (s : State) (y : Laid ts L) (fits : length s.ta
           answer = answer-read j;
         }
 
-    pub record_written : (x : TaskRecord) → x.word < messages (width ts) → sets (words L s) (8 + i * ts) (recordWords ts x) ≡ words L (set_task i (task_of x) s)
-    unfolding recordWords
+    pub record_written : (x : TaskRecord) → x.word < messages (width ts) → sets (words L s) (8 + i * ts) (record_words ts x) ≡ words L (set_task i (task_of x) s)
+    unfolding record_words
     record_written x low =
-        let alike : recordWords ts x ≡ task_words L (task_of x) = rw (message-written y some few x.word low) in
+        let alike : record_words ts x ≡ task_words L (task_of x) = rw (message-written y some few x.word low) in
         rw (alike, y.size)
         (ap (λ (r : State). sets (words L r) (8 + i * task_size L) (task_words L (task_of x))) (sym (same_task s i))
         ∙ cut_sets (cut_task L (sized y) s i (omega arith) used) (task s i) (task_of x) ((sized y).task (task s i) ∙ sym ((sized y).task (task_of x))))
@@ -203,11 +203,11 @@ module _ (L : Layout) (i : ℕ) (s : State) (g : Stands i s) (x : TaskRecord) (e
 -- ---- a hub's record and the first entry of its list, read
 
 pub hub-number : {ts : ℕ} (L : Layout) (s : State) → Laid ts L → length s.hubs ≤ 16 → (h : ℕ) → h < length s.hubs → (k : ℕ) → k < 4
-    → get_or (words L s) (hubsFrom ts + h * 4 + k) 0 ≡ get_or (hub_words (hub s h)) k 0
+    → get_or (words L s) (hubs_from ts + h * 4 + k) 0 ≡ get_or (hub_words (hub s h)) k 0
 hub-number L s y fits h used k l = rw y.size (hub-word L (sized y) s h (omega arith) used k l)
 
 pub entry_read : {ts : ℕ} (L : Layout) (s : State) → Laid ts L → length s.hubs ≤ 16 → (h : ℕ) → h < length s.hubs
-    → get_or (words L s) (waitsFrom ts + h * 16) 0 ≡ get_or (entries 16 (hub s h).waiters) 0 0
+    → get_or (words L s) (waits_from ts + h * 16) 0 ≡ get_or (entries 16 (hub s h).waiters) 0 0
 entry_read L s y fits h used = rw y.size (rw add-zero at (wait-word L (sized y) s h (omega arith) used 0 (omega arith)))
 
 -- ---- the first waiter of a side, by the first entry e of the list

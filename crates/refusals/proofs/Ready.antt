@@ -5,7 +5,7 @@ use Prim.Native.Nat.{◌*◌, ◌+◌, ◌<◌, ◌≤◌, suc, ℕ}
 use Rattle.lists.proofs.Counting.{occ-drop}
 use Rattle.lists.proofs.Laws.{entries_none, entries-some}
 use Rattle.lists.specs.Lists.{entries, occ}
-use Rattle.records.specs.Records.{ready_at as readyFrom, task_at}
+use Rattle.records.specs.Records.{ready_at as ready_from, task_at}
 use Rattle.rules.proofs.Changes.{in_use}
 use Rattle.rules.proofs.Layouts.{Laid, sized}
 use Rattle.rules.proofs.Places.{ready-word, task-word}
@@ -23,15 +23,15 @@ use native.Mathlib.Omega.{arith}
 
 module _ {ts : ℕ} (L : Layout) (y : Laid ts L) (s : State) (listed : Listed s) where
   module _ (room : Room s) (k : ℕ) (h : k < 16) where
-    ready : get_or (words L s) (readyFrom ts + k) 0 ≡ get_or (entries 16 s.ready) k 0
+    ready : get_or (words L s) (ready_from ts + k) 0 ≡ get_or (entries 16 s.ready) k 0
     ready = rw y.size (ready-word L (sized y) s k h)
 
-    pub running_none : get_or (words L s) (readyFrom ts + k) 0 ≡ 0 → first_free s (drop k s.ready) ≡ 0
+    pub running_none : get_or (words L s) (ready_from ts + k) 0 ≡ 0 → first_free s (drop k s.ready) ≡ 0
     unfolding first_free
     running_none e = rw (entries_none 16 s.ready k h (sym ready ∙ e))
 
     -- one entry: the flag of its task in the words, and by it the entry or what the rest has
-    pub running_some : (i : ℕ) → get_or (words L s) (readyFrom ts + k) 0 ≡ suc i
+    pub running_some : (i : ℕ) → get_or (words L s) (ready_from ts + k) 0 ≡ suc i
         → first_free s (drop k s.ready) ≡ cond (not (eqb (task_at ts (words L s) i).suspended 0)) (first_free s (drop (suc k) s.ready)) (suc i)
     unfolding first_free occ task_at
     running_some i e =

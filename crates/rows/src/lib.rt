@@ -6,7 +6,7 @@
 ghost use Rattle.std.specs.Prelude.{◌*◌, ◌+◌, ◌≤◌, ◌≡◌};
 ghost use Rattle.lists.specs.Lists.{bit};
 ghost use Rattle.rows.specs.Rows.{KeysOf, hub_row, marked_in, row_at, rows, task_row};
-ghost use Rattle.rows.specs.Rows.{apart as Rows·apart, differ as Rows·differ, marked as Rows·marked, shown as Rows·shown, used as Rows·used};
+ghost use Rattle.rows.specs.Rows.{apart, differ, marked, shown, used};
 
 use records::HubNo;
 
@@ -73,7 +73,7 @@ fn hub_row(h: u32, j: u32) -> Row
 
 // Whether the table uses what the row is about.
 pub fn used(t: &[u32], row: Row) -> bool
-    ensures { result ≡ Rows·used t.now row }
+    ensures { result ≡ used t.now row }
 {
     match row {
         Row::Contents => true,
@@ -92,7 +92,7 @@ fn differ(a: &[u32], b: &[u32], at: usize, size: usize, i: u32, f: usize, n: usi
     requires at_bound { at ≤ 65535 }
     requires size_bound { size ≤ 65535 }
     requires n_bound { f + n ≤ 65535 }
-    ensures { result ≡ Rows·differ a.now b.now (at + i * size + f) n }
+    ensures { result ≡ differ a.now b.now (at + i * size + f) n }
 {
     let mut j = 0;
     while j < n {
@@ -110,7 +110,7 @@ fn differ(a: &[u32], b: &[u32], at: usize, size: usize, i: u32, f: usize, n: usi
 fn holds_apart(a: &[u32], b: &[u32], ts: usize, h: u32) -> bool
     requires le_ts { 8 ≤ ts }
     requires ts_bound { ts ≤ 9 }
-    ensures { result ≡ Rows·apart ts a.now b.now 0 0 (Row.Holds h) }
+    ensures { result ≡ apart ts a.now b.now 0 0 (Row.Holds h) }
 {
     if differ(
         a,
@@ -151,7 +151,7 @@ fn priority_apart(a: &[u32], b: &[u32], ts: usize, ka: &[u32], kb: &[u32], i: u3
     requires ts_bound { ts ≤ 9 }
     requires keys_of { KeysOf a.now ka.now }
     requires keys_of_2 { KeysOf b.now kb.now }
-    ensures { result ≡ Rows·apart ts a.now b.now 0 0 (Row.Priority i) }
+    ensures { result ≡ apart ts a.now b.now 0 0 (Row.Priority i) }
 {
     if differ(a, b, records::TASKS_AT, ts, i, records::PRIORITY, 1) {
         return true;
@@ -177,7 +177,7 @@ fn apart(
     requires ts_bound { ts ≤ 9 }
     requires keys_of { KeysOf a.now ka.now }
     requires keys_of_2 { KeysOf b.now kb.now }
-    ensures { result ≡ Rows·apart ts a.now b.now ra rb row }
+    ensures { result ≡ apart ts a.now b.now ra rb row }
 {
     match row {
         Row::Contents => differ(a, b, 0, 0, 0, 0, records::TASKS_AT),
@@ -244,7 +244,7 @@ pub fn marked(
     requires ts_bound { ts ≤ 9 }
     requires keys_of { KeysOf a.now ka.now }
     requires keys_of_2 { KeysOf b.now kb.now }
-    ensures { result ≡ Rows·marked ts a.now b.now ra rb row }
+    ensures { result ≡ marked ts a.now b.now ra rb row }
 {
     if used(a, row) {
         if !used(b, row) {
@@ -273,7 +273,7 @@ pub fn is_shown(
     requires ts_bound { ts ≤ 9 }
     requires keys_of { KeysOf a.now ka.now }
     requires keys_of_2 { KeysOf b.now kb.now }
-    ensures { result ≡ Rows·shown ts a.now b.now ra rb row }
+    ensures { result ≡ shown ts a.now b.now ra rb row }
 {
     if used(a, row) {
         return true;

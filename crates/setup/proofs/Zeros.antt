@@ -2,7 +2,7 @@
 -- nothing.
 use Prim.Native.Nat.{◌*◌, ◌+◌, suc, ℕ}
 use Rattle.lists.specs.Lists.{entries}
-use Rattle.records.specs.Records.{Table, hubs_at as hubsFrom, ready_at as readyFrom, stores_at as stores_from, waits_at as waitsFrom, width}
+use Rattle.records.specs.Records.{Table, hubs_at as hubs_from, ready_at as ready_from, stores_at as stores_from, waits_at as waits_from, width}
 use Rattle.rules.proofs.Layouts.{Laid}
 use Rattle.rules.proofs.Rows.{rows_none}
 use Rattle.rules.specs.Calls.{blank}
@@ -38,7 +38,7 @@ module _ {ts : ℕ} {L : Layout} (y : Laid ts L) where
         let many : length t ≡ suc (suc (suc (suc (suc (suc (suc (suc behind))))))) = omega (arith, y.size, fits.long) in
         clear ∙ ap (λ (n : ℕ). replicate {A = ℕ} n 0) many
 
-    pub blank-words : (e a b c d : ℕ) → e ≡ width ts → a ≡ hubsFrom ts → b ≡ readyFrom ts → c ≡ waitsFrom ts + 0 * 16 → d ≡ stores_from ts
+    pub blank-words : (e a b c d : ℕ) → e ≡ width ts → a ≡ hubs_from ts → b ≡ ready_from ts → c ≡ waits_from ts + 0 * 16 → d ≡ stores_from ts
         → set (set (set (set (set (set z 0 e) 3 8) 4 a) 5 b) 6 c) 7 d ≡ words L blank
     blank-words e a b c d pe pa pb pc pd =
         let e1 : e ≡ L.edition = omega (arith, y.size, y.edition) in

@@ -9,7 +9,7 @@ use Rattle.differences.specs.Differences.{Entry, entries}
 use Rattle.lists.proofs.Laws.{bool_case}
 use Rattle.lists.proofs.Padding.{zero-at}
 use Rattle.lists.specs.Lists.{numbers}
-use Rattle.records.specs.Records.{hub_at as hubRecordAt, hubs_at, ready_at, table_size, task_at as taskRecordAt, task_size_of, waits_at}
+use Rattle.records.specs.Records.{hub_at as hub_record_at, hubs_at, ready_at, table_size, task_at as task_record_at, task_size_of, waits_at}
 use Rattle.records.specs.declared.TaskRecord.{TaskRecord}
 use Rattle.rows.proofs.Turns.{row_few}
 use Rattle.rows.proofs.Words.{Differing, marked_by, marked-shown, none-differs, once, row_of_place, self_no_mark, some-differ, some-differs, times, unmarked, unmarked_all}
@@ -179,7 +179,7 @@ module _ (a b : List ℕ) (w : OneEdition a b) where
   -- both use it, its words are equal, and what its text says beside them differs
   more_apart : (r : Row) → used a r ≡ true → used b r ≡ true → differs a b (covers (size_of a) r) ≡ false → more_differs (size_of a) a b (runs_in a) (runs_in b) r ≡ true
       → used_text (size_of a) a (runs_in a) r ≡ used_text (size_of a) b (runs_in b) r → ⊥
-  unfolding Same covers hubRecordAt more_differs next taskRecordAt used used_text
+  unfolding Same covers hub_record_at more_differs next task_record_at used used_text
   more_apart Contents p q d m e = false≢true m
   more_apart ReadyList p q d m e =
       let l = numbers (part (ready_at (size_of a)) 16 a) in
@@ -324,8 +324,8 @@ pub record SameTask (x : TaskRecord) (y : Task) : Type 0 where
   pub side : x.side ≡ y.side
 
 module _ (t : List ℕ) where
-  pub task_of-state : (i : ℕ) → i < get_or t 1 0 → SameTask (taskRecordAt (size_of t) t i) (task (state_of t) i)
-  unfolding RulesTable.task_at taskRecordAt
+  pub task_of-state : (i : ℕ) → i < get_or t 1 0 → SameTask (task_record_at (size_of t) t i) (task (state_of t) i)
+  unfolding RulesTable.task_at task_record_at
   task_of-state i h =
       let L = edition_of t in
       let word : (k : ℕ) → get_or t (8 + i * size_of t + k) 0 ≡ get_or t (tasks_at + i * task_size L + k) 0 = λ k. ap (λ (n : ℕ). get_or t (8 + i * n + k) 0) (laid t).size in

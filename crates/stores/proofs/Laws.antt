@@ -5,7 +5,7 @@ use Rattle.hubtable.specs.Says.{RecordOf, store_after}
 use Rattle.hubtable.specs.declared.Store.TheVariants.{Append, Back, Keep, Out, Take, TakeAppend}
 use Rattle.hubtable.specs.declared.Store.{Store}
 use Rattle.moves.proofs.Laws.{hub-number}
-use Rattle.records.specs.Records.{hub_at, hubs_at as hubsFrom}
+use Rattle.records.specs.Records.{hub_at, hubs_at as hubs_from}
 use Rattle.rules.proofs.Layouts.{Laid}
 use Rattle.rules.proofs.Room.{store_le}
 use Rattle.rules.proofs.Valid.{Held, Range}
@@ -19,10 +19,10 @@ use native.Mathlib.Nat.{add-zero}
 use native.Mathlib.Omega.{arith}
 
 module _ {ts : ℕ} (L : Layout) (s : State) (y : Laid ts L) (fits : length s.hubs ≤ 16) (h : ℕ) (used : h < length s.hubs) where
-  word : (k : ℕ) → k < 4 → get_or (words L s) (hubsFrom ts + h * 4 + k) 0 ≡ get_or (hub_words (hub s h)) k 0
+  word : (k : ℕ) → k < 4 → get_or (words L s) (hubs_from ts + h * 4 + k) 0 ≡ get_or (hub_words (hub s h)) k 0
   word = hub-number L s y fits h used
 
-  pub hub-read : RecordOf (hub_at (hubsFrom ts) (words L s) h) (hub s h)
+  pub hub-read : RecordOf (hub_at (hubs_from ts) (words L s) h) (hub s h)
   unfolding hub_at
   hub-read = record {
     kind = rw add-zero at (word 0 (omega arith));

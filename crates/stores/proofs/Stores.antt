@@ -6,7 +6,7 @@ use Rattle.hubtable.specs.Says.{StoreBelow, store_after}
 use Rattle.hubtable.specs.declared.Store.{Store}
 use Rattle.lists.specs.Lists.{remove_first}
 use Rattle.messages.specs.Messages.{message_at, message_words, messages}
-use Rattle.records.specs.Records.{store_size as storeWide, stores_at as stores_from, width}
+use Rattle.records.specs.Records.{store_size as store_wide, stores_at as stores_from, width}
 use Rattle.stores.specs.Fits.{StoreFits}
 use Rattle.rules.proofs.Changes.{length-set_hub}
 use Rattle.rules.proofs.Cut.{Cut, cut_part, cut_paste, cut_sets, cut_within}
@@ -35,7 +35,7 @@ as_held L s h = ap (words L) (sym (same_hub s h))
 
 -- ---- the store's words
 
-module _ {ts : ℕ} {L : Layout} (y : Laid ts L) (some_words : 8 ≤ ts) (few : ts ≤ 9) (s : State) (h : ℕ) (low : h < 16) (used : h < length s.hubs) (t : List ℕ) (e : t ≡ words L s) (a : ℕ) (at : a ≡ stores_from ts + h * storeWide ts) where
+module _ {ts : ℕ} {L : Layout} (y : Laid ts L) (some_words : 8 ≤ ts) (few : ts ≤ 9) (s : State) (h : ℕ) (low : h < 16) (used : h < length s.hubs) (t : List ℕ) (e : t ≡ words L s) (a : ℕ) (at : a ≡ stores_from ts + h * store_wide ts) where
   pub held-read : (i : ℕ) → i < 8 → message_at (width ts) t (a + i * width ts) ≡ get_or (hub s h).held i 0
   held-read i lt =
       message-at L y t (a + i * width ts) (get_or (hub s h).held i 0)
@@ -54,7 +54,7 @@ module _ {ts : ℕ} {L : Layout} (y : Laid ts L) (some_words : 8 ≤ ts) (few : 
   held_now = e ∙ as_held L s h
 
   -- the oldest message goes
-  pub store_taken : (ys : List ℕ) (n : ℕ) → n ≡ storeWide ts → length (hub s h).held ≤ 8 → ys ≡ remove_first (width ts) (mid_of a n t) → put_mid a n t ys ≡ After L s h (drop 1 (hub s h).held)
+  pub store_taken : (ys : List ℕ) (n : ℕ) → n ≡ store_wide ts → length (hub s h).held ≤ 8 → ys ≡ remove_first (width ts) (mid_of a n t) → put_mid a n t ys ≡ After L s h (drop 1 (hub s h).held)
   store_taken ys n many room q =
       let place : a ≡ stores_at L + h * store_size L = at ∙ store_place y h in
       let size : n ≡ store_size L = many ∙ rw (wide y) in
