@@ -3,7 +3,7 @@
 -- row; the tasks; the hubs. Not here: how the lines are read (Reading.antt). Assumes nothing.
 use Prim.Native.Nat.{◌+◌, ◌<◌, ◌≤◌, suc, zero, ℕ}
 use Rattle.lines.specs.Lines.{numbers_of, printed}
-use Rattle.listing.specs.Listing.{HubSetUp, hub_line, new_hub as hubFrom, task_line, text_of_lines}
+use Rattle.listing.specs.Listing.{HubSetUp, hub_line, new_hub as hub_from, task_line, text_of_lines}
 use Rattle.rebuilt.proofs.Reading.{good}
 use Rattle.rebuilt.specs.Rebuilt.{Every, GoodHub, all_accepted}
 use Rattle.rules.proofs.After.{zero-at}
@@ -147,7 +147,7 @@ add_tasks (p ∷ ps) s v e room low =
 -- ---- the hubs
 
 abbrev pub more_hubs : List HubSetUp → State → State
-more_hubs hs s = record { tasks = s.tasks; hubs = s.hubs ++ map hubFrom hs; ready = s.ready }
+more_hubs hs s = record { tasks = s.tasks; hubs = s.hubs ++ map hub_from hs; ready = s.ready }
 
 module _ (s : State) (room : length s.hubs < 16) (h : HubSetUp) (fine : GoodHub h) where
   hub-accepted : refusal s (call_of (numbers_of (hub_line h))) ≡ 0
@@ -155,28 +155,28 @@ module _ (s : State) (room : length s.hubs < 16) (h : HubSetUp) (fine : GoodHub 
   hub-accepted = rw (fine, lt-ltb (length s.hubs) 16 room)
 
   module _ (e : Idle s) where
-    hub_idle : Idle (add_hub (hubFrom h) s)
+    hub_idle : Idle (add_hub (hub_from h) s)
     hub_idle = record {
       ready = unfold add_hub in e.ready;
       waiters = λ k. same_or k (length s.hubs)
-          (λ z. ap (λ (n : ℕ). (hub (add_hub (hubFrom h) s) n).waiters) z ∙ ap (λ (x : Hub). x.waiters) (hub-added_same (hubFrom h) s))
-          (λ n. ap (λ (x : Hub). x.waiters) (hub-added_other (hubFrom h) s k n) ∙ e.waiters k);
+          (λ z. ap (λ (n : ℕ). (hub (add_hub (hub_from h) s) n).waiters) z ∙ ap (λ (x : Hub). x.waiters) (hub-added_same (hub_from h) s))
+          (λ n. ap (λ (x : Hub). x.waiters) (hub-added_other (hub_from h) s k n) ∙ e.waiters k);
     }
 
-    hub-served : served s (call_of (numbers_of (hub_line h))) ≡ add_hub (hubFrom h) s
+    hub-served : served s (call_of (numbers_of (hub_line h))) ≡ add_hub (hub_from h) s
     unfolding new_hub numbers_of serve served service_of
-    hub-served = idle_still s (add_hub (hubFrom h) s) e.waiters hub_idle.waiters (λ j u. unfold add_hub in refl)
+    hub-served = idle_still s (add_hub (hub_from h) s) e.waiters hub_idle.waiters (λ j u. unfold add_hub in refl)
 
 pub add_hubs : (hs : List HubSetUp) (s : State) → Valid s → Idle s → length s.hubs + length hs ≤ 16 → Every GoodHub hs → Steps s (map hub_line hs) (more_hubs hs s)
 unfolding Every add_hub ahead ahead_for bears_answer numbers_of service_of
 add_hubs [] s v e room fine = subst (Steps s []) (rw (append-nil s.hubs)) (steps_none s v e)
 add_hubs (h ∷ hs) s v e room fine =
     let here : length s.hubs < 16 = omega arith in
-    let s₁ = add_hub (hubFrom h) s in
+    let s₁ = add_hub (hub_from h) s in
     let a = hub-accepted s here h fine.0 in
     let d = hub-served s here h fine.0 e in
     let i = hub_idle s here h fine.0 e in
     let w = step-valid s v (hub_line h) s₁ a d refl refl i.ready in
-    let rest = add_hubs hs s₁ w i (omega (arith, length-append s.hubs (hubFrom h ∷ []))) fine.1 in
-    subst (Steps s (map hub_line (h ∷ hs))) (rw (append_assoc s.hubs (hubFrom h ∷ []) (map hubFrom hs)))
+    let rest = add_hubs hs s₁ w i (omega (arith, length-append s.hubs (hub_from h ∷ []))) fine.1 in
+    subst (Steps s (map hub_line (h ∷ hs))) (rw (append_assoc s.hubs (hub_from h ∷ []) (map hub_from hs)))
     (steps_cons s v (hub_line h) s₁ a d refl refl i.ready (map hub_line hs) (more_hubs hs s₁) rest)

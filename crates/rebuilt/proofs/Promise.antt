@@ -91,17 +91,17 @@ both a b = (and-eq-true_iff a b).0
 low_by : (k : Kind) (l s : ℕ) → good_hub k l s ≡ true → (l ≤ 65535) × (s ≤ 65535)
 unfolding good_hub
 low_by NoKind l s e = absurd (false≢true e)
-low_by Event l s e = let q = both _ _ e in (omega (arith, eqb-true l 1 q.0), omega (arith, eqb-true s 0 q.1))
+low_by Event l s e = let q = both (eqb l 1) (eqb s 0) e in (omega (arith, eqb-true l 1 q.0), omega (arith, eqb-true s 0 q.1))
 low_by Semaphore l s e =
     let q = both (between 1 65535 l) (leb s l) e in
     let m = leb-true l 65535 (both (leb 1 l) (leb l 65535) q.0).1 in
     (m, omega (arith, leb-true s l q.1))
-low_by Port l s e = let q = both _ _ e in (omega (arith, eqb-true l 0 q.0), omega (arith, eqb-true s 0 q.1))
+low_by Port l s e = let q = both (eqb l 0) (eqb s 0) e in (omega (arith, eqb-true l 0 q.0), omega (arith, eqb-true s 0 q.1))
 low_by Fifo l s e =
     let q = both (between 1 8 l) (eqb s 0) e in
     (omega (arith, leb-true l 8 (both (leb 1 l) (leb l 8) q.0).1), omega (arith, eqb-true s 0 q.1))
-low_by Resource l s e = let q = both _ _ e in (omega (arith, eqb-true l 1 q.0), omega (arith, eqb-true s 0 q.1))
-low_by Board l s e = let q = both _ _ e in (omega (arith, eqb-true l 1 q.0), omega (arith, eqb-true s 0 q.1))
+low_by Resource l s e = let q = both (eqb l 1) (eqb s 0) e in (omega (arith, eqb-true l 1 q.0), omega (arith, eqb-true s 0 q.1))
+low_by Board l s e = let q = both (eqb l 1) (eqb s 0) e in (omega (arith, eqb-true l 1 q.0), omega (arith, eqb-true s 0 q.1))
 low_by Memory l s e =
     let q = both (between 1 8 l) (eqb s l) e in
     let m = leb-true l 8 (both (leb 1 l) (leb l 8) q.0).1 in

@@ -2,6 +2,7 @@
 // on the kernel's and the line reader's promises alone. specs/Runner.antt says what is printed; reading and writing are the
 // program's (crate drill).
 #![tactic(auto)]
+
 ghost use Rattle.std.specs.Prelude.{◌+◌, ◌≤◌, length, [], ◌∷◌, ◌≡◌};
 ghost use Rattle.lines.specs.Lines.{print_room};
 ghost use Rattle.lines.specs.Scan.{last_of};

@@ -1,11 +1,7 @@
 -- `runner::answer_lines` meets its contract. The loop's invariant is `Going`; each turn ends a line, so what is left of the chunk falls.
 use Prim.Native.Nat.{◌-◌}
-use Rattle.lines.proofs.Chunks.{turn}
-use Rattle.runner.proofs.Runs.{Going, drained, goes_on, going, one_more}
-use borrow.Author.Rules.{rules}
+use Rattle.runner.proofs.Runs.{Going}
 use lib.ListN.{length}
-use mathlib.Core.Path.{◌∙◌, sym}
-use native.Mathlib.Omega.{arith}
 use Rattle.runner.proofs.answer_lines.Given as goal
 
 abbrev pub invariant-loop-line : goal.invariant-loop-line
