@@ -1,6 +1,7 @@
 // Two tables as bytes: their rows, for a host in C. Thin: what is shown is crate sidebyside's, a table's words crate tablebytes'. The
 // header for C is include/hub_kernel_rows.h.
 #![tactic(auto)]
+
 ghost use Rattle.pairs.specs.Pairs.{RowsOfBytes};
 
 #[repr(C)]

@@ -1,6 +1,5 @@
 -- The words of both tables, of either edition or none, are what is shown. Assumes nothing.
 use Rattle.pairs.proofs.Laws.{rows-shown}
-use borrow.Author.Rules.{rules}
 use lib.Seq.{length-take-le}
 use mathlib.Core.Path.{sym}
 use Rattle.pairs.proofs.hub_kernel_rows.Goals as goal
@@ -12,4 +11,4 @@ pub slice_bounds-show-end-2 : goal.slice_bounds-show-end-2
 slice_bounds-show-end-2 c = sym (length-take-le _ _ c.table_words-m.ensures.room)
 
 pub returns : goal.returns
-returns c =     rows-shown _ _ _ c.table_words-n.ensures c.table_words-m.ensures c.show-r.ensures
+returns c = rows-shown _ _ _ c.table_words-n.ensures c.table_words-m.ensures c.show-r.ensures
