@@ -2,12 +2,14 @@
 // M-106's entries, a line each. A program has no exit status to set: the refusals and the counts go to a descriptor that the
 // launcher reads, behind all of that, and nothing goes there where a write has failed.
 #![tactic(auto)]
+
 ghost use Rattle.comparer.specs.Comparer.{entry_lines};
 ghost use Rattle.lines.specs.Lines.{printed};
 ghost use Rattle.texts.specs.Texts.{Put};
 ghost use Rattle.std.specs.Prelude.{[], ◌∷◌};
 
-use libc::{STDIN_FILENO, STDOUT_FILENO};
+use std::fs::File;
+use std::io::Write;
 
 // "2,976 bytes" of edition 2, and one byte more, which shows that there are too many.
 const INPUT: usize = 4 * records::TABLE_SIZE_TWO + 1;
@@ -18,10 +20,10 @@ const PLACES: usize = 3 * records::TABLE_SIZE_TWO;
 // More room than the rows take, or the entries.
 const TEXT: usize = 65536;
 
-// The launcher's descriptors: the verdict, and the second table.
-const VERDICT: i32 = 3;
+// The launcher's descriptors, by the names that they are opened by: the verdict, and the second table.
+const VERDICT: &str = "/dev/fd/3";
 
-const SECOND: i32 = 4;
+const SECOND: &str = "/dev/fd/4";
 
 // A line of three numbers.
 fn put_entry(out: &mut [u8], at: usize, place: u32, old: u32, new: u32) -> usize
@@ -51,64 +53,82 @@ fn put_entries(out: &mut [u8], places: &[u32], count: u32) -> usize
 }
 
 // A number of the verdict and the byte behind it.
-fn tell(number: u64, after: &[u8]) {
-    io::print_decimal(VERDICT, number);
-    io::write_all(VERDICT, after);
+fn tell(told: &mut File, number: u64, after: &str) {
+    let _ = write!(told, "{number}{after}");
 }
 
-// The verdict: each table's own refusal, the comparison's, how many words differ, how many bytes came of each table.
-fn verdict(first: u32, second: u32, refusal: u32, count: u32, came: usize, other: usize) {
-    tell(first as u64, b" ");
-    tell(second as u64, b" ");
-    tell(refusal as u64, b" ");
-    tell(count as u64, b" ");
-    tell(came as u64, b" ");
-    tell(other as u64, b"\n");
+// The verdict: each table's own refusal, the comparison's, how many words differ, how many bytes came of each table. Nothing waits
+// for it where the descriptor is closed.
+fn verdict(
+    rt: &HostRuntime,
+    first: u32,
+    second: u32,
+    refusal: u32,
+    count: u32,
+    came: usize,
+    other: usize,
+) {
+    if let Some(mut told) = streams::to_write(rt, VERDICT) {
+        tell(&mut told, first as u64, " ");
+        tell(&mut told, second as u64, " ");
+        tell(&mut told, refusal as u64, " ");
+        tell(&mut told, count as u64, " ");
+        tell(&mut told, came as u64, " ");
+        tell(&mut told, other as u64, "\n");
+    }
 }
 
 // The rows on standard output. False where the write has failed.
-fn write_rows(a: &[u32], b: &[u32], text: &mut [u8]) -> bool {
+fn write_rows(rt: &HostRuntime, a: &[u32], b: &[u32], text: &mut [u8]) -> bool {
     let shown = sidebyside::show(a, b, text);
     let length = shown.length as usize;
     if text.len() < length {
         return false;
     }
-    io::write_all(STDOUT_FILENO, &text[..length])
+    rt.write_all(&text[..length]).is_ok()
 }
 
 // The entries behind them, likewise.
-fn write_entries(places: &[u32], count: u32, text: &mut [u8]) -> bool {
+fn write_entries(rt: &HostRuntime, places: &[u32], count: u32, text: &mut [u8]) -> bool {
     let end = put_entries(text, places, count);
     if text.len() < end {
         return false;
     }
-    io::write_all(STDOUT_FILENO, &text[..end])
+    rt.write_all(&text[..end]).is_ok()
 }
 
 // What is to be said of two tables, of which so many bytes stood on the descriptors.
-fn compare(a: &[u32], b: &[u32], came: usize, other: usize) {
+fn compare(rt: &HostRuntime, a: &[u32], b: &[u32], came: usize, other: usize) {
     let mut text = [0u8; TEXT];
     let mut places = [0u32; PLACES];
-    if !write_rows(a, b, &mut text) {
+    if !write_rows(rt, a, b, &mut text) {
         return;
     }
     let compared = differences::compare(a, b, &mut places);
-    if !write_entries(&places, compared.count, &mut text) {
+    if !write_entries(rt, &places, compared.count, &mut text) {
         return;
     }
     let first = differences::refusal_of(a);
     let second = differences::refusal_of(b);
-    verdict(first, second, compared.refusal, compared.count, came, other);
+    verdict(
+        rt,
+        first,
+        second,
+        compared.refusal,
+        compared.count,
+        came,
+        other,
+    );
 }
 
-fn main() {
+fn main(rt: HostRuntime) {
     let mut first = [0u8; INPUT];
     let mut second = [0u8; INPUT];
-    let came = io::read_full(STDIN_FILENO, &mut first);
-    let other = io::read_full(SECOND, &mut second);
+    let came = streams::read_full(&mut rt.stdin(), &mut first);
+    let other = streams::read_named(&rt, SECOND, &mut second);
     let mut old = [0u32; records::TABLE_SIZE_TWO];
     let mut new = [0u32; records::TABLE_SIZE_TWO];
     let n = tablebytes::table_words(&first[..came], &mut old);
     let m = tablebytes::table_words(&second[..other], &mut new);
-    compare(&old[..n], &new[..m], came, other);
+    compare(&rt, &old[..n], &new[..m], came, other);
 }

@@ -2,6 +2,7 @@
 // that stand on a descriptor of their own. What is printed is the crate runner's to say; here are the reading and the writing, in
 // large blocks. A write that fails ends the program; behind the last line the table's bytes are left on another descriptor.
 #![tactic(auto)]
+
 ghost use Rattle.std.specs.Prelude.{◌*◌, ◌+◌, ◌≤◌, length, ◌≡◌};
 ghost use Rattle.bytes4.specs.Bytes.{Packed};
 ghost use Rattle.drill.specs.Tables.{Begun};
@@ -10,18 +11,21 @@ ghost use Rattle.lines.specs.Lines.{print_room};
 ghost use Rattle.lines.specs.Scan.{last_of};
 ghost use Rattle.runner.specs.Runner.{table_through, zeros};
 
-use libc::{STDIN_FILENO, STDOUT_FILENO};
 use lines::Scan;
 use runner::Answered;
+use std::io::Write;
 
 // "744 words in all, 2,976 bytes": a table of edition 2
 const BYTES: usize = 4 * records::TABLE_SIZE_TWO;
 
-// The launcher's descriptors: the table to leave, and the table to begin with. It closes what is not asked for, and a read or a
-// write there fails.
-const LEAVE: i32 = 3;
+// The launcher's descriptors, by the names that they are opened by: the table to leave, and the table to begin with. It closes what
+// is not asked for, and then there is nothing to open.
+const LEAVE: &str = "/dev/fd/3";
 
-const BEGIN: i32 = 4;
+const BEGIN: &str = "/dev/fd/4";
+
+// What is read or written at once.
+const BLOCK: usize = 65536;
 
 // The state behind a chunk and the place behind the text that waits to be written; or a write has failed.
 #[derive(Clone, Copy)]
@@ -31,7 +35,14 @@ enum Turn {
 }
 
 // Answers a chunk, and writes the buffer out each time that it is full.
-fn answer_chunk(t: &mut [u32], out: &mut [u8], at: usize, chunk: &[u8], scan: Scan) -> Turn
+fn answer_chunk(
+    rt: &HostRuntime,
+    t: &mut [u32],
+    out: &mut [u8],
+    at: usize,
+    chunk: &[u8],
+    scan: Scan,
+) -> Turn
     requires { at + print_room ≤ length out.old }
     ensures { Turned scan chunk.now t.old result t.new out.new }
 {
@@ -42,7 +53,7 @@ fn answer_chunk(t: &mut [u32], out: &mut [u8], at: usize, chunk: &[u8], scan: Sc
         match runner::answer_lines(t, out, end, chunk, i, s) {
             Answered::Drained(next, place) => return Turn::On(next, place),
             Answered::Full(next, place, from) => {
-                if !io::write_all(STDOUT_FILENO, &out[..place]) {
+                if rt.write_all(&out[..place]).is_err() {
                     return Turn::Stop;
                 }
                 s = next;
@@ -54,30 +65,27 @@ fn answer_chunk(t: &mut [u32], out: &mut [u8], at: usize, chunk: &[u8], scan: Sc
 }
 
 // The last line, where no newline ends it, and what waits to be written. False where a write has failed.
-fn finish(t: &mut [u32], out: &mut [u8], at: usize, scan: Scan) -> bool
+fn finish(rt: &HostRuntime, t: &mut [u32], out: &mut [u8], at: usize, scan: Scan) -> bool
     requires { at + print_room ≤ length out.old }
     ensures { t.new ≡ table_through t.old (last_of scan) }
 {
     let end = runner::answer_last(t, out, at, scan);
-    io::write_all(STDOUT_FILENO, &out[..end])
+    rt.write_all(&out[..end]).is_ok()
 }
 
-// A proved loop has to end, and nothing says that the input does: the turns are counted down from a number that no run uses up.
+// A proved loop has to end, and nothing says that the input does: there are more turns than any run takes.
 // True behind the last line; false where a write has failed.
-fn run(t: &mut [u32], input: &mut [u8], out: &mut [u8]) -> bool
+fn run(rt: &HostRuntime, t: &mut [u32], input: &mut [u8], out: &mut [u8]) -> bool
     requires { print_room ≤ length out.old }
 {
     let mut scan = Scan::start(1);
     let mut at = 0;
-    let mut turns = u64::MAX;
-    while turns > 0 {
-        turns -= 1;
-        let got = libc::read(STDIN_FILENO, input);
-        let n = io::count(got, input);
+    for _ in 0..u64::MAX {
+        let n = streams::read_some(&mut rt.stdin(), input);
         if n == 0 {
-            return finish(t, out, at, scan);
+            return finish(rt, t, out, at, scan);
         }
-        match answer_chunk(t, out, at, &input[..n], scan) {
+        match answer_chunk(rt, t, out, at, &input[..n], scan) {
             Turn::On(next, end) => {
                 scan = next;
                 at = end;
@@ -100,22 +108,24 @@ fn begin(t: &mut [u32], bytes: &[u8], came: usize)
 }
 
 // Leaves the table as bytes. Nothing waits for them where the descriptor is closed.
-fn leave(t: &[u32], bytes: &mut [u8])
+fn leave(rt: &HostRuntime, t: &[u32], bytes: &mut [u8])
     requires { length bytes.old ≡ 4 * length t.now }
     ensures { Packed t.now bytes.new }
 {
     bytes4::pack(t, bytes);
-    io::write_all(LEAVE, &*bytes);
+    if let Some(mut left) = streams::to_write(rt, LEAVE) {
+        let _ = left.write_all(&*bytes);
+    }
 }
 
-fn main() {
+fn main(rt: HostRuntime) {
     let mut table = [0u32; records::TABLE_SIZE_TWO];
     let mut bytes = [0u8; BYTES];
-    let mut input = io::large_buffer();
-    let mut out = io::large_buffer();
-    let came = io::read_full(BEGIN, &mut bytes);
+    let mut input = [0u8; BLOCK];
+    let mut out = [0u8; BLOCK];
+    let came = streams::read_named(&rt, BEGIN, &mut bytes);
     begin(&mut table, &bytes, came);
-    if run(&mut table, &mut input, &mut out) {
-        leave(&table, &mut bytes);
+    if run(&rt, &mut table, &mut input, &mut out) {
+        leave(&rt, &table, &mut bytes);
     }
 }

@@ -2,13 +2,14 @@
 // refusal and a length go to a descriptor that the launcher reads, behind the listing, and nothing goes there where a write of
 // the listing has failed.
 #![tactic(auto)]
+
 ghost use Rattle.std.specs.Prelude.{◌*◌, length, ◌≡◌};
 ghost use Rattle.bytes4.specs.Bytes.{words_from};
 ghost use Rattle.lister.specs.Lister.{BytesListed, table_length};
 ghost use Rattle.listing.specs.Listing.{ListedFrom};
 
-use libc::{STDIN_FILENO, STDOUT_FILENO};
 use listing::Listed;
+use std::io::Write;
 
 // "the table as 2,400 bytes", and of edition 2 "2,976 bytes"
 const BYTES: usize = 4 * records::TABLE_SIZE;
@@ -21,7 +22,8 @@ const INPUT: usize = BYTES_TWO + 1;
 // The longest listing: a Blank line, 16 tasks and 16 hubs.
 const TEXT: usize = 704;
 
-const VERDICT: i32 = 3;
+// The launcher's descriptor, by the name that it is opened by.
+const VERDICT: &str = "/dev/fd/3";
 
 // Whether so many bytes are a table's, of either edition.
 fn is_table(n: usize) -> bool
@@ -53,30 +55,29 @@ fn list_bytes(bytes: &[u8], text: &mut [u8]) -> Listed
     list_words(bytes, &mut words[..bytes.len() / 4], text)
 }
 
-// A line of two numbers.
-fn tell(refusal: u32, length: usize) {
-    io::print_decimal(VERDICT, refusal as u64);
-    io::write_all(VERDICT, b" ");
-    io::print_decimal(VERDICT, length as u64);
-    io::write_all(VERDICT, b"\n");
-}
-
-// The refusal, and of how many bytes: a listing's, or, where their number is refused, those that came.
-fn verdict(listed: Listed, came: usize) {
-    if listed.refusal == rules::WRONG_LENGTH {
-        tell(listed.refusal, came);
-    } else {
-        tell(listed.refusal, listed.length as usize);
+// A line of two numbers. Nothing waits for it where the descriptor is closed.
+fn tell(rt: &HostRuntime, refusal: u32, length: usize) {
+    if let Some(mut told) = streams::to_write(rt, VERDICT) {
+        let _ = writeln!(told, "{refusal} {length}");
     }
 }
 
-fn main() {
+// The refusal, and of how many bytes: a listing's, or, where their number is refused, those that came.
+fn verdict(rt: &HostRuntime, listed: Listed, came: usize) {
+    if listed.refusal == rules::WRONG_LENGTH {
+        tell(rt, listed.refusal, came);
+    } else {
+        tell(rt, listed.refusal, listed.length as usize);
+    }
+}
+
+fn main(rt: HostRuntime) {
     let mut input = [0u8; INPUT];
     let mut text = [0u8; TEXT];
-    let came = io::read_full(STDIN_FILENO, &mut input);
+    let came = streams::read_full(&mut rt.stdin(), &mut input);
     let listed = list_bytes(&input[..came], &mut text);
     let length = listed.length as usize;
-    if io::write_all(STDOUT_FILENO, &text[..length]) {
-        verdict(listed, came);
+    if rt.write_all(&text[..length]).is_ok() {
+        verdict(&rt, listed, came);
     }
 }

@@ -2,9 +2,9 @@
 // a line. The expected lines, the file `stdout`, are the second program's: tests/others/run makes the same calls through
 // second_call and compares.
 #![tactic(auto)]
+
 ghost use Rattle.std.specs.Prelude.{◌<◌, ◌≤◌, length};
 
-use libc::STDOUT_FILENO;
 use rules::Call;
 
 // A word more than the longer table has.
@@ -12,6 +12,7 @@ const LONGER: usize = records::TABLE_SIZE_TWO + 1;
 
 // One call, and its refusal, answer, next and ahead.
 fn say(
+    rt: &HostRuntime,
     t: &mut [u32],
     service: u32,
     caller: u32,
@@ -45,112 +46,112 @@ fn say(
         reply.next,
         reply.ahead,
     );
-    io::write_all(STDOUT_FILENO, &line[..end]);
+    let _ = rt.write_all(&line[..end]);
 }
 
 // Two ready tasks of one priority, and an empty Semaphore.
-fn two_equals(t: &mut [u32]) {
-    say(t, 0, 0, 0, 0, 0, 0, 0, 0);
-    say(t, 9, 0, 5, 1, 0, 0, 0, 0);
-    say(t, 9, 0, 5, 1, 0, 0, 0, 0);
-    say(t, 10, 0, 2, 0, 0, 1, 0, 0);
+fn two_equals(rt: &HostRuntime, t: &mut [u32]) {
+    say(rt, t, 0, 0, 0, 0, 0, 0, 0, 0);
+    say(rt, t, 9, 0, 5, 1, 0, 0, 0, 0);
+    say(rt, t, 9, 0, 5, 1, 0, 0, 0, 0);
+    say(rt, t, 10, 0, 2, 0, 0, 1, 0, 0);
 }
 
 // "ticks 0, 1, 1,000,000 and 1,000,001 under WT": gets of an empty Semaphore; the one of 1 is timed out by a Tick.
-fn ticks_under_wt(t: &mut [u32]) {
-    two_equals(t);
-    say(t, 1, 0, 0, 2, 3, 0, 0, 0);
-    say(t, 1, 0, 0, 2, 3, 1000001, 0, 0);
-    say(t, 1, 0, 0, 2, 3, 1, 0, 0);
-    say(t, 8, 0, 0, 0, 0, 0, 0, 0);
-    say(t, 1, 1, 0, 2, 3, 1000000, 0, 0);
+fn ticks_under_wt(rt: &HostRuntime, t: &mut [u32]) {
+    two_equals(rt, t);
+    say(rt, t, 1, 0, 0, 2, 3, 0, 0, 0);
+    say(rt, t, 1, 0, 0, 2, 3, 1000001, 0, 0);
+    say(rt, t, 1, 0, 0, 2, 3, 1, 0, 0);
+    say(rt, t, 8, 0, 0, 0, 0, 0, 0, 0);
+    say(rt, t, 1, 1, 0, 2, 3, 1000000, 0, 0);
 }
 
 // "priority 255 and 256"
-fn priorities(t: &mut [u32]) {
-    say(t, 0, 0, 0, 0, 0, 0, 0, 0);
-    say(t, 9, 0, 255, 1, 0, 0, 0, 0);
-    say(t, 9, 0, 256, 1, 0, 0, 0, 0);
-    say(t, 9, 0, 0, 1, 0, 0, 0, 0);
+fn priorities(rt: &HostRuntime, t: &mut [u32]) {
+    say(rt, t, 0, 0, 0, 0, 0, 0, 0, 0);
+    say(rt, t, 9, 0, 255, 1, 0, 0, 0, 0);
+    say(rt, t, 9, 0, 256, 1, 0, 0, 0, 0);
+    say(rt, t, 9, 0, 0, 1, 0, 0, 0, 0);
 }
 
 // "the 16th and 17th task": each more urgent than those before it, so that it runs.
-fn seventeen_tasks(t: &mut [u32]) {
-    say(t, 0, 0, 0, 0, 0, 0, 0, 0);
+fn seventeen_tasks(rt: &HostRuntime, t: &mut [u32]) {
+    say(rt, t, 0, 0, 0, 0, 0, 0, 0, 0);
     let mut priority = 17;
     while 0 < priority {
         priority -= 1;
-        say(t, 9, 0, priority, 1, 0, 0, 0, 0);
+        say(rt, t, 9, 0, priority, 1, 0, 0, 0, 0);
     }
-    say(t, 9, 0, 256, 1, 0, 0, 0, 0);
+    say(rt, t, 9, 0, 256, 1, 0, 0, 0, 0);
 }
 
 // A call on the first n words.
-fn say_on(t: &mut [u32], n: usize, service: u32)
+fn say_on(rt: &HostRuntime, t: &mut [u32], n: usize, service: u32)
     requires { n ≤ length t.old }
 {
-    say(&mut t[..n], service, 0, 0, 0, 0, 0, 0, 0);
+    say(rt, &mut t[..n], service, 0, 0, 0, 0, 0, 0, 0);
 }
 
 // "599 and 601 words", and likewise 743 and 745, where a table has n: Blank and Tick, between the same on n.
-fn lengths(t: &mut [u32], n: usize)
+fn lengths(rt: &HostRuntime, t: &mut [u32], n: usize)
     requires le_n { 1 ≤ n }
     requires n_in_bounds { n < length t.old }
 {
-    say_on(t, n, 0);
-    say_on(t, n - 1, 0);
-    say_on(t, n - 1, 8);
-    say_on(t, n + 1, 0);
-    say_on(t, n + 1, 8);
-    say_on(t, n, 8);
+    say_on(rt, t, n, 0);
+    say_on(rt, t, n - 1, 0);
+    say_on(rt, t, n - 1, 8);
+    say_on(rt, t, n + 1, 0);
+    say_on(rt, t, n + 1, 8);
+    say_on(rt, t, n, 8);
 }
 
 // A task that owns a Resource.
-fn locked(t: &mut [u32]) {
-    say(t, 0, 0, 0, 0, 0, 0, 0, 0);
-    say(t, 9, 0, 5, 1, 0, 0, 0, 0);
-    say(t, 10, 0, 5, 0, 0, 1, 0, 0);
-    say(t, 1, 0, 0, 2, 1, 0, 0, 0);
+fn locked(rt: &HostRuntime, t: &mut [u32]) {
+    say(rt, t, 0, 0, 0, 0, 0, 0, 0, 0);
+    say(rt, t, 9, 0, 5, 1, 0, 0, 0, 0);
+    say(rt, t, 10, 0, 5, 0, 0, 1, 0, 0);
+    say(rt, t, 1, 0, 0, 2, 1, 0, 0, 0);
 }
 
 // "a second lock by the owner": FAIL in every mode, and the Resource is still its own.
-fn second_lock(t: &mut [u32]) {
-    locked(t);
-    say(t, 1, 0, 0, 2, 1, 0, 0, 0);
-    say(t, 1, 0, 0, 2, 2, 0, 0, 0);
-    say(t, 1, 0, 0, 2, 3, 5, 0, 0);
-    say(t, 1, 0, 0, 1, 1, 0, 0, 0);
-    say(t, 1, 0, 0, 1, 1, 0, 0, 0);
+fn second_lock(rt: &HostRuntime, t: &mut [u32]) {
+    locked(rt, t);
+    say(rt, t, 1, 0, 0, 2, 1, 0, 0, 0);
+    say(rt, t, 1, 0, 0, 2, 2, 0, 0, 0);
+    say(rt, t, 1, 0, 0, 2, 3, 5, 0, 0);
+    say(rt, t, 1, 0, 0, 1, 1, 0, 0, 0);
+    say(rt, t, 1, 0, 0, 1, 1, 0, 0, 0);
 }
 
 // A task that slept and was stopped by the other.
-fn stopped(t: &mut [u32]) {
-    two_equals(t);
-    say(t, 7, 0, 0, 0, 0, 1, 0, 0);
-    say(t, 3, 1, 0, 0, 0, 0, 0, 0);
+fn stopped(rt: &HostRuntime, t: &mut [u32]) {
+    two_equals(rt, t);
+    say(rt, t, 7, 0, 0, 0, 0, 1, 0, 0);
+    say(rt, t, 3, 1, 0, 0, 0, 0, 0, 0);
 }
 
 // "Stop of a sleeper": no Tick wakes it, and it can be started again.
-fn stop_of_a_sleeper(t: &mut [u32]) {
-    stopped(t);
-    say(t, 8, 0, 0, 0, 0, 0, 0, 0);
-    say(t, 6, 1, 0, 0, 0, 0, 0, 0);
-    say(t, 2, 1, 0, 0, 0, 0, 0, 0);
-    say(t, 6, 1, 0, 0, 0, 0, 0, 0);
+fn stop_of_a_sleeper(rt: &HostRuntime, t: &mut [u32]) {
+    stopped(rt, t);
+    say(rt, t, 8, 0, 0, 0, 0, 0, 0, 0);
+    say(rt, t, 6, 1, 0, 0, 0, 0, 0, 0);
+    say(rt, t, 2, 1, 0, 0, 0, 0, 0, 0);
+    say(rt, t, 6, 1, 0, 0, 0, 0, 0, 0);
 }
 
-fn on_one_table(t: &mut [u32]) {
-    ticks_under_wt(t);
-    priorities(t);
-    seventeen_tasks(t);
-    second_lock(t);
-    stop_of_a_sleeper(t);
+fn on_one_table(rt: &HostRuntime, t: &mut [u32]) {
+    ticks_under_wt(rt, t);
+    priorities(rt, t);
+    seventeen_tasks(rt, t);
+    second_lock(rt, t);
+    stop_of_a_sleeper(rt, t);
 }
 
-fn main() {
+fn main(rt: HostRuntime) {
     let mut table = [0u32; records::TABLE_SIZE_TWO];
-    on_one_table(&mut table);
+    on_one_table(&rt, &mut table);
     let mut longer = [0u32; LONGER];
-    lengths(&mut longer, records::TABLE_SIZE);
-    lengths(&mut longer, records::TABLE_SIZE_TWO);
+    lengths(&rt, &mut longer, records::TABLE_SIZE);
+    lengths(&rt, &mut longer, records::TABLE_SIZE_TWO);
 }
