@@ -71,3 +71,63 @@ pub fn to_write(rt: &HostRuntime, name: &str) -> Option<File> {
     }
     OpenOptions::new().append(true).open(rt, name).ok()
 }
+
+#[cfg(test)]
+mod tests {
+    use super::{read_full, read_named, to_write};
+    use std::io;
+    use std::io::{ErrorKind, Read, Write};
+
+    // Gives one byte a read, counting down, and then fails.
+    #[derive(Drop)]
+    struct Countdown {
+        left: u8,
+    }
+
+    impl Read for Countdown {
+        fn read(&mut self, buf: &mut [u8]) -> io::Result<usize> {
+            if self.left == 0 {
+                return Err(io::Error::from(ErrorKind::Other));
+            }
+            if buf.is_empty() {
+                return Ok(0);
+            }
+            buf[0] = self.left;
+            self.left -= 1;
+            Ok(1)
+        }
+    }
+
+    #[test]
+    fn fills_over_several_reads(rt: HostRuntime) {
+        let mut buf = [0u8; 3];
+        assert_eq!(rt; read_full(&mut Countdown { left: 5 }, &mut buf), 3);
+        assert_eq!(rt; buf, [5, 4, 3]);
+    }
+
+    #[test]
+    fn keeps_what_came_before_a_failed_read(rt: HostRuntime) {
+        let mut buf = [0u8; 4];
+        assert_eq!(rt; read_full(&mut Countdown { left: 2 }, &mut buf), 2);
+        assert_eq!(rt; buf, [2, 1, 0, 0]);
+    }
+
+    // A file stands in for a descriptor: both are opened by a name.
+    #[test]
+    fn appends_and_reads_by_name(rt: HostRuntime) -> io::Result<()> {
+        std::fs::write(&rt, "handed", "ab")?;
+        let mut file = to_write(&rt, "handed").expect(&rt, "the file is there");
+        file.write_all(b"c")?;
+        let mut buf = [0u8; 4];
+        assert_eq!(rt; read_named(&rt, "handed", &mut buf), 3);
+        assert_eq!(rt; buf, [97, 98, 99, 0]);
+        std::fs::remove_file(&rt, "handed")
+    }
+
+    #[test]
+    fn finds_nothing_where_nothing_is_open(rt: HostRuntime) {
+        let mut buf = [0u8; 4];
+        assert_eq!(rt; read_named(&rt, "/dev/fd/99", &mut buf), 0);
+        assert!(rt; to_write(&rt, "/dev/fd/99").is_none());
+    }
+}
