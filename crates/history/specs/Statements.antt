@@ -1,5 +1,5 @@
 -- Demand 3: what holds of every run. `Demand3` is the whole of it, a field for each sentence; `EachMet`, `EachRead`, `OneEach` and
--- `Blocks` are consequences, said by themselves. The proofs are elsewhere: `demand3`, `each-met`, `Each-read`, `one_each`, `blocks` of
+-- `Blocks` are consequences, said by themselves. The proofs are elsewhere: `demand3`, `each-met`, `each_read`, `one_each`, `blocks` of
 -- proofs/Promise.antt.
 -- A run: a Blank, accepted, on the words of either edition (`Begins`), and then any steps, refused ones included: calls, any eight
 -- numbers each, and moves to the other edition (M-105); x is its history (History.antt), and x.table the table as it stands.
