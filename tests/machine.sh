@@ -25,9 +25,10 @@ command -v "$CC" >/dev/null || { echo "$CC is missing (Debian: gcc, or gcc-x86-6
 # say WORDS..: what is being done, on standard error
 say() { echo "$*" >&2; }
 
-# newer_sources FILE: the files of crates/, and crates.txt, that are newer; what rt keeps in out/ is none
+# newer_sources FILE: what of crates/, and crates.txt, is newer, folders too, from which something may have gone; what rt keeps in out/,
+# and a crate's own folder, in which out/ comes and goes, don't count
 newer_sources() {
-    find "$root/crates" "$root/crates.txt" -name out -prune -o -type f -newer "$1" -print
+    find "$root/crates" "$root/crates.txt" -name out -prune -o \( -type f -o -path "$root/crates/*/*" \) -newer "$1" -print
 }
 
 # make_archive: proves crate panel, with what it stands on, and writes the archive, unless it is newer than all of crates/
