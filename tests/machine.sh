@@ -1,6 +1,6 @@
 # Sourced by the scripts that build C against the proved archive; needs $root, the repository.
 # tools/archive writes an archive for x86-64. On x86-64 C is built with plain gcc and run as it is; on aarch64 it is built with
-# Debian's gcc-x86-64-linux-gnu (and its C library, libc6-dev-amd64-cross), linked -static, and run under the kit's own emulator.
+# Debian's gcc-x86-64-linux-gnu (and its C library, libc6-dev-amd64-cross), linked -static, and run under the kit's own emulator, where the kit has one (today's hasn't).
 
 archive=$root/target/staticlib/libpanel.a
 flags="-std=c11 -Wall -Wextra -Werror"
