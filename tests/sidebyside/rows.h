@@ -1,4 +1,4 @@
-/* The rows that ./compare shows of two tables (issue 18), written a second time in C from the
+/* The rows that ./compare shows of two tables, written a second time in C from the
  * description of the rows alone. The proved text (crate sidebyside) is compared with it; it
  * shares neither code nor structure with crates/. Refusals and places are the second
  * program's (second/).

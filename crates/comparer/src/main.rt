@@ -1,5 +1,5 @@
 // Two tables side by side: one on standard input, the other on a descriptor of its own. On standard output the rows, and behind them
-// M-106's entries, a line each. A program has no exit status to set: the refusals and the counts go to a descriptor that the
+// M-106's entries, a line each. It sets no exit status: the refusals and the counts go to a descriptor that the
 // launcher reads, behind all of that, and nothing goes there where a write has failed.
 #![tactic(auto)]
 

@@ -1,4 +1,4 @@
-// The listing of the table whose bytes stand on standard input, on standard output. A program has no exit status to set: the
+// The listing of the table whose bytes stand on standard input, on standard output. It sets no exit status: the
 // refusal and a length go to a descriptor that the launcher reads, behind the listing, and nothing goes there where a write of
 // the listing has failed.
 #![tactic(auto)]
