@@ -1,20 +1,24 @@
--- Laws of the definitions of specs/Lists.antt. In order: a turn of each loop of this crate, and its end; what a find says;
--- lengths; numbers in words and back (`numbers-entries`, `entries-numbers`); a number joins (`join_entries`); a number leaves
+-- Laws of the definitions of specs/Lists.antt. In order: a turn of a loop that looks for a word; words moved, and past the end none;
+-- what a find says; lengths; numbers in words and back (`numbers-entries`, `entries-numbers`); a number joins (`join_entries`); a number leaves
 -- (`leave-entries`).
 -- Not here: how often a number stands in a list (Counting.antt), the zeros behind a list (Padding.antt), and laws of `take`,
 -- `drop`, `set`, `get_or` and `length` alone (`lib.Seq`, `lib.ListN`).
 -- Lists and counts are explicit arguments, since each stands under a function that is stuck on it. Assumes nothing.
-use Prim.Native.Nat.{◌<◌, ◌≤◌, pred, suc, suc-le-suc, zero, zero-le, ℕ}
+use Prim.Native.Nat.{◌+◌, ◌-◌, ◌<◌, ◌≤◌, min, pred, suc, suc-le-suc, zero, zero-le, ℕ}
 use Rattle.lists.specs.Lists.{all_zero, entries, found_at, index_of, insert, insert_at, numbers, occ, packed, padded, place_in, place_of, remove_at, remove_first, shift_in, without}
-use Rattle.lists.specs.declared.Found.TheVariants.{At, Nothing}
-use borrow.Author.Tests.{eq-eqb, le-ltb, lt-ltb, ltb-false, ne_eqb}
+use Rattle.std.proofs.Common.{None, Some, length-take-le}
+use Rattle.std.proofs.lemmas.List.Recursion.{is_position_or_len}
+use Rattle.std.specs.List.{position, position_or_len}
+use Rattle.std.specs.Option.{unwrap_or}
+use borrow.Author.Tests.{eq-eqb, ltb-false, ltb-true, ne_eqb}
 use lib.Dec.{eqb, eqb-suc-suc, eqb-suc-zero, eqb-zero-suc, ltb}
-use lib.ListN.{drop, get_or, length, length-map, replicate, set, take}
-use lib.Seq.{drop-cons, drop-nil, take_all}
-use mathlib.Core.Bool.{Bool, false, false≢true, true}
+use lib.ListN.{drop, get_or, length, length-map, replicate, set, take, take-append-drop}
+use lib.Seq.{drop-cons, drop-length, drop-nil, take-length, take_all}
+use mathlib.Core.Bool.{Bool, ◌||◌, cond, false, false≢true, true}
 use mathlib.Core.List.{List, [], ◌++◌, ◌∷◌, append_assoc, append-nil, map}
 use mathlib.Core.Path.{◌∙◌, ◌≡◌, ap, refl, sym}
-use native.Mathlib.Nat.{le_of_suc-le-suc, not-suc-le-zero}
+use native.Mathlib.Nat.{le_of_suc-le-suc, not-suc-le-zero, suc-add, zero-add}
+use native.Mathlib.Numerals.{one-add, sub-one}
 use native.Mathlib.Omega.{arith}
 
 -- ---- two steps of the proofs below: by cases on a test, with how it came out; and past an entry that both sides begin with
@@ -37,28 +41,21 @@ module _ (l : List ℕ) (i : ℕ) (h : i < length l) where
   unfolding index_of
   index_of_miss v n = rw (drop-cons l i 0 h, ne_eqb (get_or l i 0) v n)
 
-  -- the place of a key: at the first word that is no entry or whose key is less urgent
-  module _ (ks : List ℕ) (p : ℕ) where
-    pub place_in-none : get_or l i 0 ≡ 0 → place_in ks p (drop i l) ≡ 0
-    unfolding place_in
-    place_in-none e = rw (drop-cons l i 0 h, eq-eqb (get_or l i 0) 0 e)
+-- ---- words moved by a place or more, as `copy_within` moves them, and past the end none
 
-    pub place_in_hit : (get_or l i 0 ≡ 0 → ⊥) → p < get_or ks (pred (get_or l i 0)) 0 → place_in ks p (drop i l) ≡ 0
-    unfolding place_in
-    place_in_hit n t = rw (drop-cons l i 0 h, ne_eqb (get_or l i 0) 0 n, lt-ltb p (get_or ks (pred (get_or l i 0)) 0) t)
+shift_in-take : (x : ℕ) (xs : List ℕ) → shift_in x xs ≡ take (length xs) (x ∷ xs)
+unfolding shift_in
+shift_in-take x [] = refl
+shift_in-take x (y ∷ ys) = cons x (shift_in-take y ys)
 
-    pub place_in_miss : (get_or l i 0 ≡ 0 → ⊥) → get_or ks (pred (get_or l i 0)) 0 ≤ p
-        → place_in ks p (drop i l) ≡ suc (place_in ks p (drop (suc i) l))
-    unfolding place_in
-    place_in_miss n t = rw (drop-cons l i 0 h, ne_eqb (get_or l i 0) 0 n, le-ltb p (get_or ks (pred (get_or l i 0)) 0) t)
-
--- ---- a turn of a loop that moves entries, and its end: what is left to do from place i on
-
-pub insert_at-step : (l : List ℕ) (i v : ℕ) → i < length l → insert_at (suc i) (get_or l i 0) (set l i v) ≡ insert_at i v l
+-- the words from `at` on, one place further, and v at `at`
+pub insert_at-moved : (l : List ℕ) (at m v : ℕ) → suc (at + m) ≡ length l → set (take (suc at) l ++ take m (drop at l)) at v ≡ insert_at at v l
 unfolding insert_at shift_in
-insert_at-step [] i v h = absurd (not-suc-le-zero h)
-insert_at-step (x ∷ xs) zero v h = refl
-insert_at-step (x ∷ xs) (suc i) v h = cons x (insert_at-step xs i v (le_of_suc-le-suc h))
+insert_at-moved [] at m v h = absurd (omega (arith, h))
+insert_at-moved (x ∷ xs) zero m v h =
+    let e : m ≡ length xs = omega (arith, h) in
+    rw e (cons v (sym (shift_in-take x xs)))
+insert_at-moved (x ∷ xs) (suc at) m v h = cons x (insert_at-moved xs at m v (omega (arith, h)))
 
 pub insert_at-out : (l : List ℕ) (i v : ℕ) → length l ≤ i → insert_at i v l ≡ l
 unfolding insert_at shift_in
@@ -67,26 +64,18 @@ insert_at-out [] (suc i) v h = refl
 insert_at-out (x ∷ xs) zero v h = absurd (not-suc-le-zero h)
 insert_at-out (x ∷ xs) (suc i) v h = cons x (insert_at-out xs i v (le_of_suc-le-suc h))
 
-pub remove_at-step : (l : List ℕ) (i : ℕ) → remove_at (suc i) (set l i (get_or l (suc i) 0)) ≡ remove_at i l
+-- the words behind `at`, one place up, and a 0 last
+pub remove_at-moved : (l : List ℕ) (at : ℕ) → at < length l → remove_at at l ≡ take at l ++ drop (suc at) l ++ 0 ∷ []
 unfolding remove_at
-remove_at-step [] i = refl
-remove_at-step (x ∷ []) zero = refl
-remove_at-step (x ∷ []) (suc i) = refl
-remove_at-step (x ∷ y ∷ ys) zero = refl
-remove_at-step (x ∷ y ∷ ys) (suc i) = cons x (remove_at-step (y ∷ ys) i)
+remove_at-moved [] at h = absurd (omega (arith, h))
+remove_at-moved (x ∷ xs) zero h = refl
+remove_at-moved (x ∷ xs) (suc at) h = cons x (remove_at-moved xs at (omega (arith, h)))
 
 pub remove_at-out : (l : List ℕ) (i : ℕ) → length l ≤ i → remove_at i l ≡ l
 unfolding remove_at
 remove_at-out [] i h = refl
 remove_at-out (x ∷ xs) zero h = absurd (not-suc-le-zero h)
 remove_at-out (x ∷ xs) (suc i) h = cons x (remove_at-out xs i (le_of_suc-le-suc h))
-
-pub remove_at_last : (l : List ℕ) (i : ℕ) → suc i ≡ length l → remove_at i l ≡ set l i 0
-unfolding remove_at
-remove_at_last [] i h = absurd (omega (arith, h))
-remove_at_last (x ∷ []) zero h = refl
-remove_at_last (x ∷ y ∷ ys) zero h = absurd (omega (arith, h))
-remove_at_last (x ∷ xs) (suc i) h = cons x (remove_at_last xs i (omega (arith, h)))
 
 -- the words of a first part go, and as many zeros come behind the rest
 pub remove_first-row : (n : ℕ) (xs ys : List ℕ) → length xs ≡ n → remove_first n (xs ++ ys) ≡ ys ++ replicate n 0
@@ -99,28 +88,56 @@ remove_first-row (suc n) (x ∷ xs) ys h =
     ∙ remove_first-row n xs (ys ++ 0 ∷ []) (omega (arith, h))
     ∙ append_assoc ys (0 ∷ []) (replicate n 0)
 
--- ---- what a find says: the first two for `find` itself, the others for whoever takes its answer apart
+-- of zeros, any number of words may go: they stay zeros
+remove_first-past : (m n : ℕ) → remove_first m (replicate n 0) ≡ replicate n 0
+unfolding remove_at remove_first
+remove_first-past zero n = refl
+remove_first-past (suc m) zero = remove_first-past m zero
+remove_first-past (suc m) (suc n) = rw (snoc n) (remove_first-past m (suc n))
+  where
+    snoc : (n : ℕ) → replicate n 0 ++ 0 ∷ [] ≡ replicate {A = ℕ} (suc n) 0
+    snoc zero = refl
+    snoc (suc n) = cons 0 (snoc n)
 
-pub found_at_lem : (v : ℕ) (l : List ℕ) (k : ℕ) → k < length l → index_of v l ≡ k → At k ≡ found_at v l
-unfolding found_at
-found_at_lem v l k h e = rw (e, lt-ltb k (length l) h)
+remove_first-again : (m n : ℕ) (l : List ℕ) → remove_first (m + n) l ≡ remove_first n (remove_first m l)
+unfolding remove_first
+remove_first-again zero n l = rw (zero-add n)
+remove_first-again (suc m) n l = rw (suc-add m n) (remove_first-again m n (remove_at 0 l))
 
-pub found_none : (v : ℕ) (l : List ℕ) → length l ≤ index_of v l → Nothing ≡ found_at v l
-unfolding found_at
-found_none v l h = rw (le-ltb _ _ h)
+pub remove_first-is : (n k : ℕ) (l : List ℕ) → k ≡ min n (length l) → remove_first n l ≡ drop k l ++ replicate k 0
+remove_first-is n k l e =
+    bool_case (ltb n (length l))
+    (λ b. let same : k ≡ n = omega (arith, ltb-true n (length l) b) in rw same (within n (omega (arith, ltb-true n (length l) b))))
+    (λ b. let all : k ≡ length l = omega (arith, ltb-false n (length l) b) in rw all (past (omega (arith, ltb-false n (length l) b))))
+  where
+    within : (n : ℕ) → n ≤ length l → remove_first n l ≡ drop n l ++ replicate n 0
+    within n h = rw (take-append-drop n l) at (remove_first-row n (take n l) (drop n l) (length-take-le n l h))
 
-pub found_here : (v : ℕ) (l : List ℕ) (k : ℕ) → At k ≡ found_at v l → k ≡ index_of v l
-unfolding found_at
+    past : length l ≤ n → remove_first n l ≡ drop (length l) l ++ replicate (length l) 0
+    past h =
+        let split : n ≡ length l + (n - length l) = omega arith in
+        let none = drop-length l in
+        rw none (ap (λ (m : ℕ). remove_first m l) split
+        ∙ remove_first-again (length l) (n - length l) l
+        ∙ ap (remove_first (n - length l)) (rw none at (within (length l) (omega arith)))
+        ∙ remove_first-past (n - length l) (length l))
+
+-- ---- what a find says, for whoever takes its answer apart
+
+found_at-is : (v : ℕ) (l : List ℕ) → found_at v l ≡ cond (ltb (index_of v l) (length l)) (Some (index_of v l)) None
+unfolding index_of
+found_at-is v l = rw (is_position_or_len (index_of v) (λ x. eqb x v) refl (λ x xs. simp one-add) l)
+
+pub found_here : (v : ℕ) (l : List ℕ) (k : ℕ) → Some k ≡ found_at v l → k ≡ index_of v l
 found_here v l k q =
     bool_case (ltb (index_of v l) (length l))
-    (λ b. let r : At k ≡ At (index_of v l) = rw b at q in cc)
-    (λ b. let r : At k ≡ Nothing = rw b at q in cc)
+    (λ b. let r : Some k ≡ Some (index_of v l) = rw b at (q ∙ found_at-is v l) in cc)
+    (λ b. let r : Some k ≡ None = rw b at (q ∙ found_at-is v l) in cc)
 
-pub found_nowhere : (v : ℕ) (l : List ℕ) → Nothing ≡ found_at v l → length l ≤ index_of v l
-unfolding found_at
+pub found_nowhere : (v : ℕ) (l : List ℕ) → None ≡ found_at v l → length l ≤ index_of v l
 found_nowhere v l q =
     bool_case (ltb (index_of v l) (length l))
-    (λ b. let r : Nothing ≡ At (index_of v l) = rw b at q in let z : ◌≡◌ {A = ℕ} 0 1 = cc in absurd (omega arith))
+    (λ b. let r : None ≡ Some (index_of v l) = rw b at (q ∙ found_at-is v l) in let z : ◌≡◌ {A = ℕ} 0 1 = cc in absurd (omega arith))
     (ltb-false (index_of v l) (length l))
 
 -- ---- lengths: what a caller owes of a part of the table that it lends, and what the limits of the paper ask of a list
@@ -197,6 +214,21 @@ place_most ks p (suc n) (e ∷ es) =
     bool_case (eqb e 0)
     (λ b. rw b zero-le)
     (λ b. bool_case (ltb p (get_or ks (pred e) 0)) (λ d. rw (b, d) zero-le) (λ d. rw (b, d) (suc-le-suc (place_most ks p n es))))
+
+-- what a search for the first word that is no entry, or whose key is less urgent, comes to
+pub place_in-position : (ks : List ℕ) (p : ℕ) (l : List ℕ)
+    → unwrap_or (position (λ e. eqb e 0 || ltb p (get_or ks (e - 1) 0)) l) (length l) ≡ place_in ks p l
+unfolding place_in
+place_in-position ks p l =
+    let test : ℕ → Bool = λ e. eqb e 0 || ltb p (get_or ks (e - 1) 0) in
+    let first : place_in ks p l ≡ position_or_len test l = is_position_or_len (place_in ks p) test refl step l in
+    bool_case (ltb (position_or_len test l) (length l))
+    (λ b. rw (b, first))
+    (λ b. rw b (omega (arith, first, ltb-false (position_or_len test l) (length l) b, rw take-length at (place_most ks p (length l) l))))
+  where
+    step : (e : ℕ) (es : List ℕ) → place_in ks p (e ∷ es) ≡ cond (eqb e 0 || ltb p (get_or ks (e - 1) 0)) 0 (1 + place_in ks p es)
+    step e es =
+        rw (sub-one, one-add) (bool_case (eqb e 0) (λ b. rw b) (λ b. rw b))
 
 -- ---- a number joins: what `place` and `join` say of a list of words is `place_of` and `insert` of its numbers
 

@@ -2,9 +2,7 @@
 -- In order: a list of words (a place of it goes in, goes out, is looked for; its tests; the place of a key); a list of
 -- numbers in words (`entries`, `padded`, and back, `numbers`); a list of numbers by itself (`insert`, `without`, `only`, `occ`).
 -- Not here: the laws (proofs/Laws.antt), and where a list stands in the table.
-use Rattle.std.specs.Prelude.{◌+◌, pred, suc, zero, ℕ, eqb, ltb, get_or, length, Bool, cond, false, not, true, List, [], ◌++◌, ◌∷◌, ◌≡◌}
-use Rattle.lists.specs.declared.Found.TheVariants.{At, Nothing}
-use Rattle.lists.specs.declared.Found.{Found}
+use Rattle.std.specs.Prelude.{◌+◌, pred, suc, zero, ℕ, eqb, ltb, get_or, Bool, cond, false, not, true, List, [], ◌++◌, ◌∷◌, ◌≡◌, ◌==◌, Option, position}
 
 -- ---- a list of words
 
@@ -35,9 +33,9 @@ unfoldable pub index_of : ℕ → List ℕ → ℕ
 index_of v [] = 0
 index_of v (x ∷ xs) = cond (eqb x v) 0 (suc (index_of v xs))
 
--- the same as an answer
-unfoldable pub found_at : ℕ → List ℕ → Found
-found_at v l = cond (ltb (index_of v l) (length l)) (At (index_of v l)) Nothing
+-- the same as an answer: that place, or that there is none
+abbrev pub found_at : ℕ → List ℕ → Option ℕ
+found_at v l = position (λ x. x == v) l
 
 -- nothing but zeros
 unfoldable pub all_zero : List ℕ → Bool

@@ -1,18 +1,16 @@
--- `lists::zeros` meets its contract. The loop's invariant: the whole list is zeros if the words so far, put together, are 0
--- and what is left is zeros. Assumes nothing.
-use Prim.Native.Nat.{◌≤◌, suc, ℕ}
+-- `lists::zeros` meets its contract: words put together are 0 exactly if each of them is. Assumes nothing.
+use Prim.Native.Nat.{ℕ}
 use Rattle.lists.proofs.Laws.{bool_case}
 use Rattle.lists.specs.Lists.{all_zero}
+use Rattle.std.proofs.iter.runs.Made.{chains}
+use Rattle.std.specs.List.{fold}
 use borrow.Author.Rules.{rules}
 use borrow.Author.Tests.{eqb-false, eqb-true, ne_eqb}
 use lib.Bits.{and_le_r, bit_or, or_add_and, or_zero_l}
 use lib.Dec.{eqb}
-use lib.ListN.{drop, drop_of_length-le, get_or, length}
-use lib.Seq.{drop-cons}
 use mathlib.Core.Bool.{◌&&◌, and-true}
-use mathlib.Core.List.{List}
-use mathlib.Core.Path.{◌∙◌, ◌≡◌, refl, sym}
-use native.Mathlib.Numerals.{add-one}
+use mathlib.Core.List.{List, [], ◌∷◌}
+use mathlib.Core.Path.{◌∙◌, ◌≡◌, ap}
 use native.Mathlib.Omega.{arith}
 use Rattle.lists.proofs.zeros.Goals as goal
 
@@ -22,23 +20,14 @@ or-none a b =
     (λ q. rw (q, eqb-true a 0 q, or_zero_l b))
     (λ q. rw (q, ne_eqb (bit_or a b) 0 (λ z. eqb-false a 0 q (omega (arith, z, or_add_and a b, and_le_r a b)))))
 
-turn : (s : List ℕ) (any i : ℕ) → suc i ≤ length s → (eqb any 0 && all_zero (drop i s)) ≡ (eqb (bit_or any (get_or s i 0)) 0 && all_zero (drop (suc i) s))
+fold-none : (a : ℕ) (s : List ℕ) → eqb (fold (λ any x. bit_or any x) a s) 0 ≡ (eqb a 0 && all_zero s)
 unfolding all_zero
-turn s any i h =
-    rw (drop-cons s i 0 h, or-none any (get_or s i 0)) (bool_case (eqb any 0) (λ q. rw q (bool_case (eqb (get_or s i 0) 0) (λ z. rw z) (λ z. rw z))) (λ q. rw q))
-
-pub loop-i-init : goal.loop-i-init
-loop-i-init c = (omega arith, refl)
-
-pub loop-i-preserved : goal.loop-i-preserved
-loop-i-preserved c =
-    let l = c.loop-i in
-    let a = c.args in
-    (search rules, l.invariant.1 ∙ rw add-one (turn a.s.now l.any l.i (search rules)))
+fold-none a [] = rw and-true
+fold-none a (x ∷ xs) =
+    fold-none (bit_or a x) xs ∙ rw (or-none a x) (bool_case (eqb a 0) (λ q. rw q (bool_case (eqb x 0) (λ z. rw z) (λ z. rw z))) (λ q. rw q))
 
 pub returns : goal.returns
-unfolding all_zero
 returns c =
-    let a = c.args in
-    let l = c.loop-i in
-    sym (l.invariant.1 ∙ rw (drop_of_length-le a.s.now {i = l.i} c.loop-i-test.false, and-true))
+    let s = c.args.s.now in
+    let all : c.fold.result ≡ fold (λ any x. bit_or any x) 0 s = search (rules, chains) in
+    ap (λ n. eqb n 0) all ∙ fold-none 0 s
