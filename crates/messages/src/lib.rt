@@ -14,7 +14,7 @@ const WORDS: u64 = 4294967296;
 pub fn joined(low: u32, high: u32) -> u64
     ensures { result ≡ low + 4294967296 * high }
 {
-    low as u64 + WORDS * (high as u64)
+    u64::from(low) + WORDS * u64::from(high)
 }
 
 // The message of w words at word p.
@@ -22,11 +22,12 @@ pub fn message(t: &[u32], p: usize, w: usize) -> u64
     requires { p < 18446744073709551615 }
     ensures { Message w t.now p result }
 {
-    let low = lists::word(t, p) as u64;
-    if w <= 1 {
-        return low;
+    let low = lists::word(t, p);
+    if 1 < w {
+        joined(low, lists::word(t, p + 1))
+    } else {
+        u64::from(low)
     }
-    low + WORDS * (lists::word(t, p + 1) as u64)
 }
 
 // A message in w words from word p on.
