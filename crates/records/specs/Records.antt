@@ -41,12 +41,7 @@ pub record Table (ts : ℕ) (t : List ℕ) : Type 0 where
   pub high : ts ≤ 9
   pub long : length t ≡ table_size ts
 
--- the i-th record of `size` words starts at word p, if the first starts at word `at`; and p leaves room for a field's number
-pub record RecordAt (at size i p : ℕ) : Type 0 where
-  pub place : p ≡ at + i * size
-  pub low : p ≤ 281474976710655
-
--- the same of 16 records: it lies inside them
+-- the i-th of 16 records of `size` words starts at word p, if the first starts at word `at`, and lies inside them
 pub record RowAt (at size i p : ℕ) : Type 0 where
   pub place : p ≡ at + i * size
   pub inside : p + size ≤ at + 16 * size

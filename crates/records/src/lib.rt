@@ -5,7 +5,7 @@
 #![tactic(auto)]
 
 ghost use Rattle.std.specs.Prelude.{◌*◌, ◌+◌, ◌-◌, ◌<◌, ◌≤◌, get_or, length, set, ◌≡◌};
-ghost use Rattle.records.specs.Records.{RecordAt, RowAt, TaskRead, hub_at, hub_words, hubs_at, ready_at, store_size, stores_at, table_size, task_size_of, task_words, waits_at, width};
+ghost use Rattle.records.specs.Records.{RowAt, TaskRead, hub_at, hub_words, hubs_at, ready_at, store_size, stores_at, table_size, task_size_of, task_words, waits_at, width};
 ghost use Rattle.std.proofs.lemmas.List.Edits.{sets};
 
 // "The table is a lent slice of exactly 600 words", and its task records have 8: edition 1
@@ -61,14 +61,14 @@ pub const LIMIT: usize = 2;
 pub const START: usize = 3;
 
 // "A task number and a hub number are two kinds of number and are never taken for each other."
-#[derive(Clone, Copy)]
+#[derive(Clone, Copy, Debug, PartialEq, Eq)]
 pub struct TaskNo(pub usize);
 
-#[derive(Clone, Copy)]
+#[derive(Clone, Copy, Debug, PartialEq, Eq)]
 pub struct HubNo(pub usize);
 
 // The "Task record", in the paper's order: a word for each field but the message, which is one number whatever the edition.
-#[derive(Clone, Copy)]
+#[derive(Clone, Copy, Debug, PartialEq, Eq)]
 pub struct TaskRecord {
     pub state: u32,
     pub suspended: u32,
@@ -81,7 +81,7 @@ pub struct TaskRecord {
 }
 
 // The "Hub record", likewise.
-#[derive(Clone, Copy)]
+#[derive(Clone, Copy, Debug, PartialEq, Eq)]
 pub struct HubRecord {
     pub kind: u32,
     pub count: u32,
@@ -89,48 +89,29 @@ pub struct HubRecord {
     pub start: u32,
 }
 
-// The words from word p on, where they end inside t.
-fn set_inside(t: &mut [u32], p: usize, words: &[u32])
-    requires { p + length words.now ≤ length t.old }
-    ensures { t.new ≡ sets t.old p words.now }
-{
-    let mut k = 0;
-    while k < words.len() {
-        t[p + k] = words[k];
-        k += 1;
-    }
-}
-
-// The words from word p on, as many as t has room for.
-fn set_across(t: &mut [u32], p: usize, words: &[u32])
-    requires { p ≤ 281474976710655 }
-    ensures { t.new ≡ sets t.old p words.now }
-{
-    let mut k = 0;
-    while k < words.len() {
-        lists::set_word(t, p + k, words[k]);
-        k += 1;
-    }
-}
-
-// The words from word p on. In a table they end inside it: one test then, none for each word.
+// The words from word p on, as many as t has room for. In a table they end inside it: one test then, and one move of all.
 pub fn set_words(t: &mut [u32], p: usize, words: &[u32])
     requires { p ≤ 281474976710655 }
     ensures { t.new ≡ sets t.old p words.now }
 {
-    if p + words.len() <= t.len() {
-        set_inside(t, p, words);
-    } else {
-        set_across(t, p, words);
+    let end = p + words.len();
+    if end <= t.len() {
+        t[p..end].copy_from_slice(words);
+    } else if p < t.len() {
+        let room = t.len() - p;
+        t[p..].copy_from_slice(&words[..room]);
     }
 }
 
-// Where the i-th record of `size` words starts, if the first starts at word `at`. The bounds keep the product from wrapping.
+// Where the i-th record of `size` words starts, if the first starts at word `at`. The bounds keep the product from wrapping, and
+// leave room for a field's number; the first 16 records lie inside 16.
 fn record_at(at: usize, size: usize, i: usize) -> usize
     requires at_bound { at ≤ 65535 }
     requires size_bound { size ≤ 65535 }
     requires i_bound { i ≤ 4294967295 }
-    ensures { RecordAt at size i result }
+    ensures place { result ≡ at + i * size }
+    ensures low { result ≤ 281474976710655 }
+    ensures inside { i < 16 → result + size ≤ at + 16 * size }
 {
     at + i * size
 }
@@ -208,23 +189,13 @@ pub fn task_size(n: usize) -> usize
     }
 }
 
-// Where the i-th of 16 records of `size` words starts, if the first starts at word `at`.
-fn row_at(at: usize, size: usize, i: usize) -> usize
-    requires at_bound { at ≤ 65535 }
-    requires size_bound { size ≤ 65535 }
-    requires i_bound { i < 16 }
-    ensures { RowAt at size i result }
-{
-    record_at(at, size, i)
-}
-
 // Where the record of task i starts.
 pub fn task_at(ts: usize, i: TaskNo) -> usize
     requires ts_bound { ts ≤ 9 }
     requires i_bound { i.0 < 16 }
     ensures { RowAt 8 ts i.0 result }
 {
-    row_at(TASKS_AT, ts, i.0)
+    record_at(TASKS_AT, ts, i.0)
 }
 
 // Where hub h's store starts.
@@ -234,7 +205,7 @@ pub fn store_at(ts: usize, h: HubNo) -> usize
     requires h_bound { h.0 < 16 }
     ensures { RowAt (stores_at ts) (store_size ts) h.0 result }
 {
-    row_at(stores_at(ts), store_size(ts), h.0)
+    record_at(stores_at(ts), store_size(ts), h.0)
 }
 
 // Word f of the i-th record of `size` words, where the records start at word `at`.

@@ -2,4 +2,9 @@
 use Rattle.records.proofs.store_at.Goals as goal
 
 pub returns : goal.returns
-returns c = rw (c.store_size.ensures, c.stores_at.ensures) at c.row_at.ensures
+returns c =
+    let at = c.record_at.ensures in
+    record {
+      place = rw (c.store_size.ensures, c.stores_at.ensures) at at.place;
+      inside = rw (c.store_size.ensures, c.stores_at.ensures) at (at.inside c.requires.h_bound);
+    }
