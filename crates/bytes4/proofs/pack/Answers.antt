@@ -1,33 +1,33 @@
--- The bytes before k are those of the words before i; what is left of the words makes the rest. A word is below 2 ^ 32. Assumes nothing.
-use Rattle.bytes4.proofs.Laws.{pack_more, packed}
-use lib.ListN.{length-set}
-use mathlib.Core.Path.{refl}
+-- One word more is its four bytes more. A word is below 2 ^ 32. Assumes nothing.
+use Prim.Native.Nat.{◌*◌, ◌+◌}
+use Rattle.bytes4.proofs.Laws.{bytes_more, words-bytes}
+use Rattle.bytes4.specs.Bytes.{bytes_of}
+use Rattle.std.proofs.lemmas.List.{take_all}
+use Rattle.std.proofs.lemmas.Slice.{take-put_mid}
+use Rattle.std.specs.Int.{to_le_bytes, w32}
+use lib.ListN.{get_or, length}
+use mathlib.Core.Path.{◌∙◌, ◌≡◌, ap, refl, sym}
 use native.Mathlib.Omega.{arith}
 use Rattle.bytes4.proofs.pack.Goals as goal
 
 pub loop-i-init : goal.loop-i-init
-loop-i-init c = (omega arith, omega arith, refl, refl, λ j h. absurd (omega arith))
-
-pub bounds-b-k-in-loop-i : goal.bounds-b-k-in-loop-i
-bounds-b-k-in-loop-i c = simp length-set (omega arith)
-
-pub bounds-b-k-in-loop-i-2 : goal.bounds-b-k-in-loop-i-2
-bounds-b-k-in-loop-i-2 c = simp length-set (omega arith)
-
-pub bounds-b-k-in-loop-i-3 : goal.bounds-b-k-in-loop-i-3
-bounds-b-k-in-loop-i-3 c = simp length-set (omega arith)
+unfolding bytes_of
+loop-i-init c = refl
 
 pub loop-i-preserved : goal.loop-i-preserved
 loop-i-preserved c =
-    let l = c.loop-i in (
-      omega arith,
-      omega arith,
-      simp length-set l.invariant.2,
-      pack_more _ l.b l.i l.k (omega arith) (omega arith) refl l.invariant.3,
-      λ j h. omega (arith, c.shared_slice_known-1.given j),
-    )
+    let l = c.loop-i in
+    let t = c.args.t.now in
+    let four : c.copy_from_slice.new.self ≡ to_le_bytes w32 (get_or t l.i 0) = c.copy_from_slice.ensures.after ∙ c.to_le_bytes.ensures in
+    let long : length c.copy_from_slice.new.self ≡ 4 = ap length four in
+    take-put_mid (4 * l.i) _ l.b c.copy_from_slice.new.self (4 * (l.i + 1)) (omega (arith, long)) (omega arith)
+    ∙ rw (l.invariant, four) (sym (bytes_more t l.i c.loop-i-test.true))
 
 pub returns : goal.returns
 returns c =
-    let l = c.loop-i in
-    packed _ l.b l.i l.k (omega arith) (omega arith) l.invariant.3 l.invariant.4
+    let t = c.args.t.now in
+    let b = c.loop-i.b in
+    let bytes : b ≡ bytes_of t =
+    rw (take_all (4 * c.loop-i.i) b (omega arith), take_all c.loop-i.i t c.loop-i-test.false) at c.loop-i.invariant
+    in
+    record { bytes = bytes; back = rw bytes (words-bytes t (λ i h. omega (arith, c.type_inv.t i))) }
