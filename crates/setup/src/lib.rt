@@ -10,22 +10,12 @@ ghost use Rattle.rules.specs.Table.{Layout, State, kind_of, stored, words};
 
 use records::{HubNo, HubRecord, TaskNo, TaskRecord};
 
-fn clear(t: &mut [u32])
-    ensures { t.new ≡ replicate (length t.old) 0 }
-{
-    let mut i = 0;
-    while i < t.len() {
-        t[i] = 0;
-        i += 1;
-    }
-}
-
 // "contents 1, 0, 0, 8, 136, 200, 216, 472 and the other words 0"; an edition's number is how many words a message has
 pub fn blank(t: &mut [u32], ts: usize)
     requires { Table ts t.old }
     ensures { (L : Layout) → Laid ts L → t.new ≡ words L blank }
 {
-    clear(t);
+    t.fill(0);
     t[0] = records::width_of(ts) as u32;
     t[3] = records::TASKS_AT as u32;
     t[4] = records::hubs_at(ts) as u32;

@@ -22,5 +22,5 @@ bounds-t-7 c = simp length-set (omega arith)
 pub returns : goal.returns
 returns c =
     λ L y.
-    blank-words y c.args.t.now _ c.requires c.clear.ensures _ _ _ _ _
+    blank-words y c.args.t.now _ c.requires (c.fill.ensures.after (λ y e. e)) _ _ _ _ _
     c.width_of.ensures c.hubs_at.ensures c.ready_at.ensures c.waits_at.ensures c.stores_at.ensures
