@@ -111,7 +111,7 @@ pub fn leave_list(t: &mut [u32], ts: usize, i: TaskNo)
         → t.old ≡ words L s
         → t.new ≡ words L (leave i.0 s) }
 {
-    let x = task_at(&*t, ts, i);
+    let x = task_at(t, ts, i);
     let state = x.state;
     let hub = x.hub;
     if state == rules::READY {
@@ -136,20 +136,15 @@ pub fn give_answer(t: &mut [u32], ts: usize, i: TaskNo, a: u32, w: u64)
         → t.old ≡ words L s
         → t.new ≡ words L (answer i.0 a w s) }
 {
-    let x = task_at(&*t, ts, i);
+    let x = task_at(t, ts, i);
     set_task(
         t,
         ts,
         i,
         TaskRecord {
-            state: x.state,
-            suspended: x.suspended,
-            priority: x.priority,
-            hub: x.hub,
-            ticks: x.ticks,
-            side: x.side,
             word: w,
             answer: a,
+            ..x
         },
     );
 }
@@ -163,20 +158,19 @@ pub fn make_ready(t: &mut [u32], ts: usize, i: TaskNo, a: u32, w: u64)
         → t.old ≡ words L s
         → t.new ≡ words L (set_task i.0 (readied a w (task s i.0)) s) }
 {
-    let x = task_at(&*t, ts, i);
+    let x = task_at(t, ts, i);
     set_task(
         t,
         ts,
         i,
         TaskRecord {
             state: rules::READY,
-            suspended: x.suspended,
-            priority: x.priority,
             hub: 0,
             ticks: 0,
             side: 0,
             word: w,
             answer: a,
+            ..x
         },
     );
 }
