@@ -21,29 +21,15 @@ fn set_ticks(t: &mut [u32], ts: usize, i: TaskNo, n: u32)
         → t.old ≡ words L s
         → t.new ≡ words L (set_task i.0 (counted n (task s i.0)) s) }
 {
-    let x = moves::task_at(&*t, ts, i);
-    moves::set_task(
-        t,
-        ts,
-        i,
-        TaskRecord {
-            state: x.state,
-            suspended: x.suspended,
-            priority: x.priority,
-            hub: x.hub,
-            ticks: n,
-            side: x.side,
-            word: x.word,
-            answer: x.answer,
-        },
-    );
+    let x = moves::task_at(t, ts, i);
+    moves::set_task(t, ts, i, TaskRecord { ticks: n, ..x });
 }
 
 // "each task in state 3 or 4 ... suspended or not"
 fn counts_down(x: TaskRecord) -> bool
     ensures { result ≡ within 3 4 x.state }
 {
-    (rules::WAITING <= x.state) & (x.state <= rules::SLEEPING)
+    rules::WAITING <= x.state && x.state <= rules::SLEEPING
 }
 
 // "with ticks above 0 loses one. At 0 it leaves its list and becomes ready behind its equals, answer 3, hub, side and word 0."
@@ -54,18 +40,14 @@ fn tick_one(t: &mut [u32], ts: usize, keys: &[u32], i: TaskNo)
         → t.old ≡ words L s
         → t.new ≡ words L (tick_one (key_of keys.now) i.0 s) }
 {
-    let x = moves::task_at(&*t, ts, i);
-    let ticks = x.ticks;
+    let x = moves::task_at(t, ts, i);
     if !counts_down(x) {
         return;
     }
-    if ticks == 0 {
-        return;
-    }
-    if ticks == 1 {
-        moves::wake_task(t, ts, keys, i, rules::TIMED_OUT, 0);
-    } else {
-        set_ticks(t, ts, i, ticks - 1);
+    match x.ticks {
+        0 => {}
+        1 => moves::wake_task(t, ts, keys, i, rules::TIMED_OUT, 0),
+        n => set_ticks(t, ts, i, n - 1),
     }
 }
 
@@ -77,9 +59,7 @@ pub fn tick(t: &mut [u32], ts: usize, keys: &[u32])
         → t.new ≡ words L (tick_all (key_of keys.now) (length s.tasks) s) }
 {
     let n = t[records::TASKS] as usize;
-    let mut i = 0;
-    while i < n {
+    for i in 0..n {
         tick_one(t, ts, keys, TaskNo(i));
-        i += 1;
     }
 }

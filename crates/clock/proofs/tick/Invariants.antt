@@ -1,5 +1,4 @@
 -- `clock::tick` meets its contract. Assumes nothing.
-use Prim.Native.Nat.{◌-◌, ◌≤◌}
 use Rattle.moves.specs.Moves.{key_of}
 use Rattle.rules.proofs.Layouts.{Laid}
 use Rattle.rules.proofs.Valid.{Sound}
@@ -11,10 +10,4 @@ use Rattle.clock.proofs.tick.Given as goal
 
 abbrev pub invariant-loop-i : goal.invariant-loop-i
 invariant-loop-i l =
-    (length l.t ≡ length l.initial.t)
-    × (l.n ≤ 16)
-    × (l.i ≤ l.n)
-    × ((L : Layout) (s : State) → Laid l.ts L → Sound s → l.initial.t ≡ words L s → (l.n ≡ length s.tasks) × (l.t ≡ words L (tick_all (key_of l.keys) l.i s)))
-
-abbrev pub decreases-loop-i : goal.decreases-loop-i
-decreases-loop-i l = l.n - l.i
+    (L : Layout) (s : State) → Laid l.ts L → Sound s → l.initial.t ≡ words L s → (l.n ≡ length s.tasks) × (l.t ≡ words L (tick_all (key_of l.keys) l.i s))
