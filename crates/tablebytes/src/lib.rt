@@ -16,13 +16,15 @@ pub fn table_words(table: &[u8], words: &mut [u32]) -> usize
     requires { length words.old ≡ size two }
     ensures { InFront table.now words.new result }
 {
-    if table.len() == BYTES {
-        bytes4::unpack(table, &mut words[..records::TABLE_SIZE]);
-        return records::TABLE_SIZE;
+    match table.len() {
+        BYTES => {
+            bytes4::unpack(table, &mut words[..records::TABLE_SIZE]);
+            records::TABLE_SIZE
+        }
+        BYTES_TWO => {
+            bytes4::unpack(table, words);
+            records::TABLE_SIZE_TWO
+        }
+        _ => 0,
     }
-    if table.len() == BYTES_TWO {
-        bytes4::unpack(table, words);
-        return records::TABLE_SIZE_TWO;
-    }
-    0
 }
