@@ -23,8 +23,8 @@ fn is_owner(t: &[u32], ts: usize, i: TaskNo, h: HubNo) -> bool
         → t.now ≡ words L s → result ≡ owns i.0 (hub s h.0) }
 {
     let x = records::hub(t, records::hubs_at(ts), h);
-    let n = i.0;
-    (x.kind == rules::RESOURCE) & (x.count == (n + 1) as u32)
+    let is_lock = x.kind == rules::RESOURCE;
+    is_lock && x.count as usize == i.0 + 1
 }
 
 // Hub h, where task i owns it: "passes ... to that hub's first waiter, who is met, or becomes free" (M-101). The count is the
@@ -37,15 +37,13 @@ fn pass_one(t: &mut [u32], ts: usize, keys: &[u32], i: TaskNo, h: HubNo)
         → t.old ≡ words L s
         → t.new ≡ words L (pass_one (key_of keys.now) i.0 h.0 s) }
 {
-    if !is_owner(&*t, ts, i, h) {
+    if !is_owner(t, ts, i, h) {
         return;
     }
-    let waiter = moves::first_waiter(&*t, ts, h, rules::GET);
+    let waiter = moves::first_waiter(t, ts, h, rules::GET);
     records::set_count(t, records::hubs_at(ts), h, waiter);
-    if 1 <= waiter {
-        if waiter <= 16 {
-            moves::wake_task(t, ts, keys, TaskNo((waiter - 1) as usize), rules::OK, 0);
-        }
+    if 1 <= waiter && waiter <= 16 {
+        moves::wake_task(t, ts, keys, TaskNo(waiter as usize - 1), rules::OK, 0);
     }
 }
 
@@ -58,9 +56,7 @@ pub fn pass_all(t: &mut [u32], ts: usize, keys: &[u32], i: TaskNo, n: usize)
         → t.old ≡ words L s
         → t.new ≡ words L (pass_all (key_of keys.now) i.0 n s) }
 {
-    let mut h = 0;
-    while h < n {
+    for h in 0..n {
         pass_one(t, ts, keys, i, HubNo(h));
-        h += 1;
     }
 }

@@ -1,5 +1,4 @@
 -- `locks::pass_all` meets its contract. Assumes nothing.
-use Prim.Native.Nat.{◌-◌, ◌≤◌}
 use Rattle.moves.specs.Moves.{key_of}
 use Rattle.rules.proofs.Layouts.{Laid}
 use Rattle.rules.proofs.Valid.{Sound}
@@ -12,9 +11,4 @@ use Rattle.locks.proofs.pass_all.Given as goal
 
 abbrev pub invariant-loop-h : goal.invariant-loop-h
 invariant-loop-h l =
-    (length l.t ≡ length l.initial.t)
-    × (l.h ≤ l.n)
-    × ((L : Layout) (s : State) → Laid l.ts L → Sound s → Good s → l.n ≡ length s.hubs → l.initial.t ≡ words L s → l.t ≡ words L (pass_all (key_of l.keys) l.i.0 l.h s))
-
-abbrev pub decreases-loop-h : goal.decreases-loop-h
-decreases-loop-h l = l.n - l.h
+    (L : Layout) (s : State) → Laid l.ts L → Sound s → Good s → l.n ≡ length s.hubs → l.initial.t ≡ words L s → l.t ≡ words L (pass_all (key_of l.keys) l.i.0 l.h s)
