@@ -1,5 +1,5 @@
 -- A turn of each loop of the reordering, and its end. In order: those below i taken out, and one more (`leave-out`); what a task
--- that is still in rests on; the loops (`Same`, `Taking`, `Putting`); the whole (`reorder_none`, `reorder_all`).
+-- that is still in rests on; keys that are the same; the loops (`Taking`, `Putting`); the whole (`reorder_none`, `reorder_all`).
 -- Not here: one task put back (Back.antt), what the reordering comes to (rules, Reordered.antt). Assumes nothing.
 use Prim.Native.Nat.{◌+◌, ◌<◌, ◌≤◌, suc, zero-le, ℕ}
 use Rattle.lists.proofs.Laws.{bool_case}
@@ -20,7 +20,8 @@ use Rattle.rules.specs.Reorder.{changed, put_back, rejoin, reordered, taken_out,
 use Rattle.rules.specs.Table.{Hub, Layout, State, hub, words}
 use borrow.Author.Tests.{eq-eqb, le-ltb, lt-ltb, ltb-false, ltb-true, ne_eqb}
 use lib.Dec.{eqb, ltb}
-use lib.ListN.{get_or, length, length-map}
+use lib.ListN.{get_or, length, length-map, take}
+use lib.Seq.{get_or-take}
 use mathlib.Core.Bool.{Bool, ◌&&◌, and-false, false, not, true}
 use mathlib.Core.List.{List, [], ◌∷◌, map}
 use mathlib.Core.Path.{◌∙◌, ◌≡◌, ap, refl, sym}
@@ -94,11 +95,6 @@ used-kept s s' k u = record {
 
 -- ---- the loops, at task i
 
--- none below i differs
-pub record Same (ks ls : List ℕ) (n i : ℕ) : Type 0 where
-  pub inside : i ≤ n
-  pub rest : (j : ℕ) → j < i → not (eqb (get_or ks j 0) (get_or ls j 0)) ≡ false
-
 -- those below i are out
 pub record Taking (ts : ℕ) (t₀ t ks ls : List ℕ) (n i : ℕ) : Type 0 where
   pub inside : i ≤ n
@@ -113,19 +109,15 @@ pub record Putting (ts : ℕ) (t₀ t ks ls : List ℕ) (n i : ℕ) : Type 0 whe
   pub rest : (L : Layout) (s : State) → Laid ts L → HubsUsed s → n ≤ length s.tasks → t₀ ≡ words L s
       → t ≡ words L (put_back (key_of ls) (differs n ks ls) i s)
 
-module _ (ks ls : List ℕ) (n : ℕ) where
-  pub same_begin : Same ks ls n 0
-  same_begin = record { inside = zero-le; rest = λ j l. absurd (omega (arith, l)) }
-
-  module _ (i : ℕ) (k : Same ks ls n i) where
-    pub same_step : i < n → (b : Bool) → b ≡ not (eqb (get_or ks i 0) (get_or ls i 0)) → b ≡ false → Same ks ls n (i + 1)
-    same_step l b is e = record {
-      inside = omega arith;
-      rest = λ j m. same_or j i (λ d. rw d (sym is ∙ e)) (λ d. k.rest j (omega (arith, m, d)));
-    }
-
-    pub same_end : n ≤ i → (j : ℕ) → differs n ks ls j ≡ false
-    same_end l j = bool_case (ltb j n) (λ b. rw b (k.rest j (omega (arith, l, ltb-true j n b)))) (λ b. rw b)
+-- the first n keys are the same, so nobody differs
+pub same_keys : (ks ls : List ℕ) (n : ℕ) → take n ks ≡ take n ls → (j : ℕ) → differs n ks ls j ≡ false
+same_keys ks ls n e j =
+    bool_case (ltb j n)
+    (λ b.
+    let l : j < n = ltb-true j n b in
+    let same : get_or ks j 0 ≡ get_or ls j 0 = sym (get_or-take n ks j 0 l) ∙ ap (λ (xs : List ℕ). get_or xs j 0) e ∙ get_or-take n ls j 0 l in
+    rw (b, eq-eqb (get_or ks j 0) (get_or ls j 0) same))
+    (λ b. rw b)
 
 module _ (ts : ℕ) (t₀ ks ls : List ℕ) (n : ℕ) where
   pub taking_begin : Taking ts t₀ t₀ ks ls n 0

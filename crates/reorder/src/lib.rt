@@ -24,21 +24,6 @@ fn is_changed(before: &[u32; 16], after: &[u32; 16], i: usize) -> bool
     before[i] != after[i]
 }
 
-// Whether no key of the tasks below n is another than before. Most calls end with that.
-fn all_same(before: &[u32; 16], after: &[u32; 16], n: usize) -> bool
-    requires { n ≤ 16 }
-    ensures { result ≡ true → (j : ℕ) → differs n before.now after.now j ≡ false }
-{
-    let mut i = 0;
-    while i < n {
-        if is_changed(before, after, i) {
-            return false;
-        }
-        i += 1;
-    }
-    true
-}
-
 // "taken out of their lists": of the tasks below n those whose key is another than before.
 fn take_changed(t: &mut [u32], ts: usize, before: &[u32; 16], after: &[u32; 16], n: usize)
     requires table { Table ts t.old }
@@ -46,12 +31,10 @@ fn take_changed(t: &mut [u32], ts: usize, before: &[u32; 16], after: &[u32; 16],
     ensures { (L : Layout) (s : State) → Laid ts L → Sound s → n ≤ length s.tasks → t.old ≡ words L s
         → t.new ≡ words L (taken_out (differs n before.now after.now) s) }
 {
-    let mut i = 0;
-    while i < n {
+    for i in 0..n {
         if is_changed(before, after, i) {
             moves::leave_list(t, ts, TaskNo(i));
         }
-        i += 1;
     }
 }
 
@@ -62,7 +45,7 @@ fn put_back(t: &mut [u32], ts: usize, keys: &[u32; 16], i: usize)
     ensures { (L : Layout) (s : State) → Laid ts L → HubsUsed s → i < length s.tasks → t.old ≡ words L s
         → t.new ≡ words L (rejoin (key_of keys.now) i s) }
 {
-    let x = moves::task_at(&*t, ts, TaskNo(i));
+    let x = moves::task_at(t, ts, TaskNo(i));
     let state = x.state;
     let hub = x.hub;
     if state == rules::READY {
@@ -78,7 +61,8 @@ fn put_back(t: &mut [u32], ts: usize, keys: &[u32; 16], i: usize)
     }
 }
 
-// "then put back .. in task number order": the same tasks.
+// "then put back .. in task number order": the same tasks. A loop of its own: over a closure that writes the table, the one loop
+// for both would say nothing of what the table holds then.
 fn put_changed(t: &mut [u32], ts: usize, before: &[u32; 16], after: &[u32; 16], n: usize)
     requires table { Table ts t.old }
     requires n_bound { n ≤ 16 }
@@ -86,12 +70,10 @@ fn put_changed(t: &mut [u32], ts: usize, before: &[u32; 16], after: &[u32; 16], 
         → t.new ≡ words L (put_back (key_of after.now)
         (differs n before.now after.now) n s) }
 {
-    let mut i = 0;
-    while i < n {
+    for i in 0..n {
         if is_changed(before, after, i) {
             put_back(t, ts, after, i);
         }
-        i += 1;
     }
 }
 
@@ -104,7 +86,8 @@ fn reorder_by(t: &mut [u32], ts: usize, before: &[u32; 16], after: &[u32; 16], n
         → ((j : ℕ) → get_or after.now j 0 ≡ effective s' j)
         → t.old ≡ words L s' → t.new ≡ words L (reordered s s') }
 {
-    if all_same(before, after, n) {
+    // Most calls change no key, and end here.
+    if before[..n] == after[..n] {
         return;
     }
     take_changed(t, ts, before, after, n);
@@ -121,6 +104,6 @@ pub fn reorder(t: &mut [u32], ts: usize, before: &[u32; 16], n: usize)
         → t.old ≡ words L s' → t.new ≡ words L (reordered s s') }
 {
     let mut after = [0u32; 16];
-    inherit::find_keys(&*t, ts, &mut after);
+    inherit::find_keys(t, ts, &mut after);
     reorder_by(t, ts, before, &after, n);
 }

@@ -1,10 +1,6 @@
 -- `reorder::take_changed` meets its contract. The loop's invariant is `Taking`: those below i are out. Assumes nothing.
-use Prim.Native.Nat.{◌-◌}
 use Rattle.reorder.proofs.Loops.{Taking}
 use Rattle.reorder.proofs.take_changed.Given as goal
 
 abbrev pub invariant-loop-i : goal.invariant-loop-i
 invariant-loop-i l = Taking l.ts l.initial.t l.t l.before l.after l.n l.i
-
-abbrev pub decreases-loop-i : goal.decreases-loop-i
-decreases-loop-i l = l.n - l.i
