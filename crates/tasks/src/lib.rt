@@ -7,7 +7,7 @@ ghost use Rattle.moves.specs.Moves.{key_of, task_of};
 ghost use Rattle.records.specs.Records.{Table};
 ghost use Rattle.rules.proofs.Layouts.{Laid};
 ghost use Rattle.rules.proofs.Valid.{Sound, Valid};
-ghost use Rattle.rules.specs.Calls.{Resume, Sleep, Start, Stop, Suspend, Yield, flag, may_stop, may_suspend, serve};
+ghost use Rattle.rules.specs.Calls.{Resume, Sleep, Start, Stop, Suspend, Yield, flag, grant, may_stop, may_suspend, serve};
 ghost use Rattle.rules.specs.Table.{Layout, State, inactive, set_task, words};
 
 use records::{TaskNo, TaskRecord};
@@ -24,9 +24,7 @@ pub fn start_task(t: &mut [u32], ts: usize, keys: &[u32], c: Call)
 {
     let caller = TaskNo(c.caller as usize);
     let i = TaskNo(c.target as usize);
-    let x = moves::task_at(&*t, ts, i);
-    let state = x.state;
-    if state != rules::INACTIVE {
+    if moves::task_at(t, ts, i).state != rules::INACTIVE {
         moves::give_answer(t, ts, caller, rules::FAIL, 0);
         return;
     }
@@ -64,7 +62,7 @@ fn make_inactive(t: &mut [u32], ts: usize, i: TaskNo, priority: u32)
 fn may_stop(x: TaskRecord, c: Call) -> bool
     ensures { result ≡ may_stop (task_of x) c }
 {
-    (x.state != rules::INACTIVE) & (c.target != c.caller)
+    x.state != rules::INACTIVE && c.target != c.caller
 }
 
 // Stop: "taken from any list, made inactive"; "after the task leaves its list, each Resource it owns passes".
@@ -80,7 +78,7 @@ pub fn stop_task(t: &mut [u32], ts: usize, keys: &[u32], c: Call)
     let caller = TaskNo(c.caller as usize);
     let i = TaskNo(c.target as usize);
     let hubs = t[records::HUBS] as usize;
-    let x = moves::task_at(&*t, ts, i);
+    let x = moves::task_at(t, ts, i);
     if !may_stop(x, c) {
         moves::give_answer(t, ts, caller, rules::FAIL, 0);
         return;
@@ -91,37 +89,31 @@ pub fn stop_task(t: &mut [u32], ts: usize, keys: &[u32], c: Call)
     moves::give_answer(t, ts, caller, rules::OK, 0);
 }
 
-// The flag of task i, and nothing else.
-fn set_flag(t: &mut [u32], ts: usize, i: TaskNo, f: u32)
+// The flag of the call's target and nothing else, where its condition holds; the caller's answer says whether it did.
+fn set_flag(t: &mut [u32], ts: usize, c: Call, holds: bool, f: u32)
     requires table { Table ts t.old }
-    requires i_bound { i.0 < 16 }
-    ensures { (L : Layout) (s : State) → Laid ts L → length s.tasks ≤ 16 → i.0 < length s.tasks
-        → t.old ≡ words L s
-        → t.new ≡ words L (flag f i.0 s) }
+    requires caller_bound { c.caller < 16 }
+    requires target_bound { c.target < 16 }
+    ensures { (L : Layout) (s : State) → Laid ts L → length s.tasks ≤ 16 → c.caller < length s.tasks
+        → c.target < length s.tasks → t.old ≡ words L s
+        → t.new ≡ words L (grant holds (flag f c.target s) s c) }
 {
-    let x = moves::task_at(&*t, ts, i);
-    moves::set_task(
-        t,
-        ts,
-        i,
-        TaskRecord {
-            state: x.state,
-            suspended: f,
-            priority: x.priority,
-            hub: x.hub,
-            ticks: x.ticks,
-            side: x.side,
-            word: x.word,
-            answer: x.answer,
-        },
-    );
+    let caller = TaskNo(c.caller as usize);
+    let i = TaskNo(c.target as usize);
+    if !holds {
+        moves::give_answer(t, ts, caller, rules::FAIL, 0);
+        return;
+    }
+    let x = moves::task_at(t, ts, i);
+    moves::set_task(t, ts, i, TaskRecord { suspended: f, ..x });
+    moves::give_answer(t, ts, caller, rules::OK, 0);
 }
 
 // "a task that is neither inactive, suspended nor the caller"
 fn may_suspend(x: TaskRecord, c: Call) -> bool
     ensures { result ≡ may_suspend (task_of x) c }
 {
-    (x.state != rules::INACTIVE) & ((x.suspended == 0) & (c.target != c.caller))
+    x.state != rules::INACTIVE && x.suspended == 0 && c.target != c.caller
 }
 
 // Suspend: "flag set, state and lists kept".
@@ -133,15 +125,8 @@ pub fn suspend_task(t: &mut [u32], ts: usize, c: Call)
         → c.target < length s.tasks → t.old ≡ words L s
         → t.new ≡ words L (serve key Suspend s c) }
 {
-    let caller = TaskNo(c.caller as usize);
-    let i = TaskNo(c.target as usize);
-    let x = moves::task_at(&*t, ts, i);
-    if !may_suspend(x, c) {
-        moves::give_answer(t, ts, caller, rules::FAIL, 0);
-        return;
-    }
-    set_flag(t, ts, i, 1);
-    moves::give_answer(t, ts, caller, rules::OK, 0);
+    let x = moves::task_at(t, ts, TaskNo(c.target as usize));
+    set_flag(t, ts, c, may_suspend(x, c), 1);
 }
 
 // "Resume a suspended task: flag cleared."
@@ -153,16 +138,8 @@ pub fn resume_task(t: &mut [u32], ts: usize, c: Call)
         → c.target < length s.tasks → t.old ≡ words L s
         → t.new ≡ words L (serve key Resume s c) }
 {
-    let caller = TaskNo(c.caller as usize);
-    let i = TaskNo(c.target as usize);
-    let x = moves::task_at(&*t, ts, i);
-    let suspended = x.suspended;
-    if suspended == 0 {
-        moves::give_answer(t, ts, caller, rules::FAIL, 0);
-        return;
-    }
-    set_flag(t, ts, i, 0);
-    moves::give_answer(t, ts, caller, rules::OK, 0);
+    let x = moves::task_at(t, ts, TaskNo(c.target as usize));
+    set_flag(t, ts, c, x.suspended != 0, 0);
 }
 
 // "Yield: caller goes behind its equals, answer 1."
@@ -189,20 +166,19 @@ pub fn sleep_task(t: &mut [u32], ts: usize, c: Call)
 {
     let caller = TaskNo(c.caller as usize);
     moves::leave_list(t, ts, caller);
-    let x = moves::task_at(&*t, ts, caller);
+    let x = moves::task_at(t, ts, caller);
     moves::set_task(
         t,
         ts,
         caller,
         TaskRecord {
             state: rules::SLEEPING,
-            suspended: x.suspended,
-            priority: x.priority,
             hub: 0,
             ticks: c.ticks,
             side: 0,
             word: 0,
             answer: 0,
+            ..x
         },
     );
 }

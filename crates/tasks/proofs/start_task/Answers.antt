@@ -8,20 +8,20 @@ use mathlib.Core.Path.{◌∙◌, ap, sym}
 use native.Mathlib.Omega.{arith}
 use Rattle.tasks.proofs.start_task.Goals as goal
 
-pub returns-then-state-ne-INACTIVE : goal.returns-then-state-ne-INACTIVE
+pub returns-then-task_at-ne-INACTIVE : goal.returns-then-task_at-ne-INACTIVE
 unfolding serve
-returns-then-state-ne-INACTIVE c =
+returns-then-task_at-ne-INACTIVE c =
     λ L s y sound caller target e.
-    let x = c.task_at-x.ensures.value L s y sound.tasks target e in
+    let x = c.task_at.ensures.value L s y sound.tasks target e in
     let state = ap (λ (r : Task). r.state) x in
     c.give_answer.ensures L s y sound.tasks caller e
-    ∙ ap (words L) (failed _ _ s _ (ne_eqb _ 1 (λ q. c.if-state-ne-INACTIVE.true (state ∙ q))))
+    ∙ ap (words L) (failed _ _ s _ (ne_eqb _ 1 (λ q. c.if-task_at-ne-INACTIVE.true (state ∙ q))))
 
 pub returns : goal.returns
 unfolding serve start
 returns c =
     λ L s y sound caller target e.
-    let x = c.task_at-x.ensures.value L s y sound.tasks target e in
+    let x = c.task_at.ensures.value L s y sound.tasks target e in
     let state = ap (λ (r : Task). r.state) x in
     let a = c.args in
     let key = key_of a.keys.now in
@@ -29,4 +29,4 @@ returns c =
     let joined = c.join_ready.ensures.table L _ y made in
     let many = tasks-start key a.c.target s in
     c.give_answer-2.ensures L (start key a.c.target s) y (omega (arith, many, sound.tasks)) (omega (arith, many, caller)) joined
-    ∙ ap (words L) (granted _ _ s a.c (eq-eqb _ 1 (sym state ∙ c.if-state-ne-INACTIVE.false)))
+    ∙ ap (words L) (granted _ _ s a.c (eq-eqb _ 1 (sym state ∙ c.if-task_at-ne-INACTIVE.false)))
