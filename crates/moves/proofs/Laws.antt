@@ -6,7 +6,7 @@ use Rattle.lists.proofs.Counting.{occ_here}
 use Rattle.lists.proofs.Laws.{bool_case, join_entries, leave-entries, length-entries, place-entries, without-none}
 use Rattle.lists.specs.Lists.{entries, index_of, insert_at, occ, place_in, place_of, remove_at, without}
 use Rattle.messages.specs.Messages.{message_at, messages}
-use Rattle.moves.specs.Moves.{key_of, task_of}
+use Rattle.moves.specs.Moves.{ListedBy, key_of, task_of}
 use Rattle.records.specs.Records.{first, hubs_at as hubs_from, task_at, task_words as record_words, waits_at as waits_from, width}
 use Rattle.records.specs.declared.TaskRecord.{TaskRecord}
 use Rattle.rules.proofs.Changes.{in_use}
@@ -17,14 +17,15 @@ use Rattle.rules.proofs.Standing.{listed-waits}
 use Rattle.rules.proofs.Valid.{Listed, Sound, Stands, Valid}
 use Rattle.rules.specs.Lists.{first_waiting, join_hub, join_ready, leave, queued, unqueue}
 use Rattle.rules.specs.Table.{Hub, Layout, State, Task, hub, hub_words, no_hub, ready_at, set_hub, set_ready, set_task, task, task_size, task_words, waits_at, words}
-use borrow.Author.Tests.{eq-eqb, ltb-false, ltb-true, ne_eqb}
+use Rattle.std.proofs.Common.{None, inl, inr}
+use borrow.Author.Tests.{eq-eqb, eqb-false, eqb-true, ltb-false, ltb-true, ne_eqb}
 use borrow.Rule.Slice.PartMut.{mid_of, put_mid}
-use lib.Dec.{ltb}
+use lib.Dec.{eqb, ltb}
 use lib.ListN.{get_or-eq_default, get_or, length, set}
 use lib.Seq.{sets}
 use mathlib.Core.Bool.{and-false}
 use mathlib.Core.List.{List, [], ◌∷◌, map}
-use mathlib.Core.Logic.{◌≢◌}
+use mathlib.Core.Logic.{◌≢◌, ◌⊎◌}
 use mathlib.Core.Option.{none}
 use mathlib.Core.Path.{◌∙◌, ◌≡◌, ap, refl, sym}
 use native.Mathlib.Nat.{add-zero}
@@ -199,6 +200,17 @@ module _ (L : Layout) (i : ℕ) (s : State) (g : Stands i s) (x : TaskRecord) (e
 
   pub by_nowhere : x.hub ≡ 0 → (x.state ≡ 2 → ⊥) → words L s ≡ words L (leave i s)
   by_nowhere z n = ap (words L) (sym (leave_none i s g (λ q. n (state_is ∙ q)) (λ h. not_there i s g h (λ q. omega (arith, z, hub_is_lem, q)))))
+
+  -- no list: neither ready, nor waiting at a hub that there may be
+  pub by_unlisted : ListedBy x None → length s.hubs ≤ 16 → words L s ≡ words L (leave i s)
+  by_unlisted h few =
+      bool_case (eqb x.state 3)
+      (λ b. at (h.1 (eqb-true x.state 3 b)) (eqb-true x.state 3 b))
+      (λ b. by_none h.0 (eqb-false x.state 3 b))
+    where
+      at : ((x.hub ≡ 0) ⊎ (16 < x.hub)) → x.state ≡ 3 → words L s ≡ words L (leave i s)
+      at (inl z) q = by_nowhere z h.0
+      at (inr z) q = absurd (omega (arith, few, z, hub-used q (x.hub - 1) (omega arith)))
 
 -- ---- a hub's record and the first entry of its list, read
 

@@ -1,13 +1,15 @@
 -- What the contracts of the moves name beside the rules: a record as the code holds it, keys as a list, what joining gives.
 -- Not here: what of a state a move rests on (rules, Valid: `Sound`, `Stands`).
-use Rattle.std.specs.Prelude.{◌<◌, ◌≤◌, ℕ, get_or, length, List, ◌≡◌}
 use Rattle.lists.specs.Lists.{place_of}
 use Rattle.messages.specs.Messages.{messages}
+use Rattle.moves.specs.declared.TaskList.TheVariants.{Ready, Waiting}
+use Rattle.moves.specs.declared.TaskList.{TaskList}
 use Rattle.records.specs.Records.{width}
 use Rattle.records.specs.declared.TaskRecord.{TaskRecord}
 use Rattle.rules.proofs.Layouts.{Laid}
 use Rattle.rules.specs.Lists.{join_hub, join_ready}
 use Rattle.rules.specs.Table.{Layout, State, Task, hub, task, words}
+use Rattle.std.specs.Prelude.{◌<◌, ◌≤◌, suc, ℕ, get_or, length, List, None, Option, Some, ◌≡◌, ◌≢◌, ◌⊎◌}
 
 -- a task record of the code, as the rules have it
 abbrev pub task_of : TaskRecord → Task
@@ -26,6 +28,12 @@ task_of x = record {
 pub record TaskHeld (ts i : ℕ) (t : List ℕ) (r : TaskRecord) : Type 0 where
   pub low : r.word < messages (width ts)
   pub value : (L : Layout) (s : State) → Laid ts L → length s.tasks ≤ 16 → i < length s.tasks → t ≡ words L s → task_of r ≡ task s i
+
+-- the list in which a task with this record stands: the ready list, or the list of its hub, or none
+abbrev pub ListedBy : TaskRecord → Option TaskList → Type 0
+ListedBy x (Some Ready) = x.state ≡ 2
+ListedBy x (Some (Waiting h)) = (x.state ≡ 3) × (x.hub ≡ suc h.0) × (h.0 < 16)
+ListedBy x None = (x.state ≢ 2) × (x.state ≡ 3 → (x.hub ≡ 0) ⊎ (16 < x.hub))
 
 -- the key of each task, where a list holds them
 abbrev pub key_of : List ℕ → ℕ → ℕ

@@ -5,7 +5,7 @@
 
 ghost use Rattle.std.specs.Prelude.{◌*◌, ◌+◌, ◌<◌, ◌≤◌, length, ◌≡◌};
 ghost use Rattle.messages.specs.Messages.{messages};
-ghost use Rattle.moves.specs.Moves.{JoinsHub, JoinsReady, TaskHeld, key_of, task_of};
+ghost use Rattle.moves.specs.Moves.{JoinsHub, JoinsReady, ListedBy, TaskHeld, key_of, task_of};
 ghost use Rattle.records.specs.Records.{Table, first, width};
 ghost use Rattle.rules.proofs.Layouts.{Laid};
 ghost use Rattle.rules.proofs.Valid.{Sound, Stands, Waits};
@@ -14,6 +14,13 @@ ghost use Rattle.rules.specs.Table.{Layout, State, hub, set_hub, set_ready, set_
 ghost use Rattle.lists.specs.Lists.{occ, without};
 
 use records::{HubNo, TaskNo, TaskRecord};
+
+// The lists in which tasks stand.
+#[derive(Clone, Copy, Debug, PartialEq, Eq)]
+pub enum TaskList {
+    Ready,
+    Waiting(HubNo),
+}
 
 // Task i joins the ready list by its key, and its place is what comes back; ts is the number of words in a task record.
 pub fn join_ready(t: &mut [u32], ts: usize, keys: &[u32], i: TaskNo) -> usize
@@ -102,7 +109,21 @@ pub fn first_waiter(t: &[u32], ts: usize, h: HubNo, side: u32) -> u32
     if x.side == side { e } else { 0 }
 }
 
-// "taken from any list": a ready task stands in the ready list, a waiting one in the list of its hub, any other in none.
+// The list in which a task with this record stands: a ready task in the ready list, a waiting one in the list of its hub, any
+// other in none.
+pub fn list_of(x: TaskRecord) -> Option<TaskList>
+    ensures { ListedBy x result }
+{
+    if x.state == rules::READY {
+        return Some(TaskList::Ready);
+    }
+    if x.state == rules::WAITING && 1 <= x.hub && x.hub <= 16 {
+        return Some(TaskList::Waiting(HubNo(x.hub as usize - 1)));
+    }
+    None
+}
+
+// "taken from any list": the one in which its record says that the task stands.
 // Of the others nothing is asked, so that tasks can be taken out one after the other (M-108).
 pub fn leave_list(t: &mut [u32], ts: usize, i: TaskNo)
     requires table { Table ts t.old }
@@ -111,19 +132,10 @@ pub fn leave_list(t: &mut [u32], ts: usize, i: TaskNo)
         → t.old ≡ words L s
         → t.new ≡ words L (leave i.0 s) }
 {
-    let x = task_at(t, ts, i);
-    let state = x.state;
-    let hub = x.hub;
-    if state == rules::READY {
-        leave_ready(t, ts, i);
-        return;
-    }
-    if state == rules::WAITING {
-        if 1 <= hub {
-            if hub <= 16 {
-                leave_hub(t, ts, HubNo((hub - 1) as usize), i);
-            }
-        }
+    match list_of(task_at(t, ts, i)) {
+        Some(TaskList::Ready) => leave_ready(t, ts, i),
+        Some(TaskList::Waiting(h)) => leave_hub(t, ts, h, i),
+        None => {}
     }
 }
 

@@ -1,48 +1,27 @@
 -- `moves::leave_list` meets its contract. Assumes nothing.
-use Prim.Native.Nat.{◌-◌, suc}
-use Rattle.moves.proofs.Laws.{by_hub, by_none, by_nowhere, by_ready, hub-used}
+use Rattle.moves.proofs.Laws.{by_hub, by_ready, by_unlisted, hub-used}
 use Rattle.rules.proofs.Room.{stands-ready-once, stands-waits-once}
-use mathlib.Core.Path.{◌∙◌, ◌≡◌}
-use native.Mathlib.Omega.{arith}
+use mathlib.Core.Path.{◌∙◌}
 use Rattle.moves.proofs.leave_list.Goals as goal
 
-pub returns-then-state-eq-READY : goal.returns-then-state-eq-READY
-returns-then-state-eq-READY c =
+pub returns-in-Some-Ready : goal.returns-in-Some-Ready
+returns-in-Some-Ready c =
     λ L s y g used e.
-    let x = c.task_at-x in
-    let r = x.ensures.value L s y g.tasks used e in
+    let r = c.task_at.ensures.value L s y g.tasks used e in
     c.leave_ready.ensures L s y g.ready (stands-ready-once _ s g) e
-    ∙ by_ready L _ s g _ r c.if-state-eq-READY.true
+    ∙ by_ready L _ s g _ r (rw c.in-Some-Ready.field-0-is at c.in-Some-Ready.ensures)
 
-pub returns-then-hub-le16 : goal.returns-then-hub-le16
-returns-then-hub-le16 c =
+pub returns-in-Some-Waiting : goal.returns-in-Some-Waiting
+returns-in-Some-Waiting c =
     λ L s y g used e.
-    let x = c.task_at-x in
-    let r = x.ensures.value L s y g.tasks used e in
-    let q = c.if-state-eq-WAITING.true in
-    let at : x.result.hub ≡ suc (x.result.hub - 1) = omega (arith, c.if-hub-ge1.true) in
-    let k = x.result.hub - 1 in
-    c.leave_hub.ensures L s y (hub-used L _ s g _ r q k at) (g.waiters k) (stands-waits-once _ s g k) e
-    ∙ by_hub L _ s g _ r q k at
+    let r = c.task_at.ensures.value L s y g.tasks used e in
+    let h = c.in-Some-Waiting.h.0 in
+    let there = rw c.in-Some-Waiting.field-0-is at c.in-Some-Waiting.ensures in
+    c.leave_hub.ensures L s y (hub-used L _ s g _ r there.0 h there.1) (g.waiters h) (stands-waits-once _ s g h) e
+    ∙ by_hub L _ s g _ r there.0 h there.1
 
-pub returns-else-hub-le16 : goal.returns-else-hub-le16
-returns-else-hub-le16 c =
+pub returns-in-None : goal.returns-in-None
+returns-in-None c =
     λ L s y g used e.
-    let x = c.task_at-x in
-    let r = x.ensures.value L s y g.tasks used e in
-    let at : x.result.hub ≡ suc (x.result.hub - 1) = omega (arith, c.if-hub-ge1.true) in
-    absurd (omega (arith, hub-used L _ s g _ r c.if-state-eq-WAITING.true _ at, c.if-hub-le16.false, g.hubs))
-
-pub returns-else-hub-ge1 : goal.returns-else-hub-ge1
-returns-else-hub-ge1 c =
-    λ L s y g used e.
-    let x = c.task_at-x in
-    let r = x.ensures.value L s y g.tasks used e in
-    e ∙ by_nowhere L _ s g _ r (omega (arith, c.if-hub-ge1.false)) c.if-state-eq-READY.false
-
-pub returns-else-state-eq-WAITING : goal.returns-else-state-eq-WAITING
-returns-else-state-eq-WAITING c =
-    λ L s y g used e.
-    let x = c.task_at-x in
-    let r = x.ensures.value L s y g.tasks used e in
-    e ∙ by_none L _ s g _ r c.if-state-eq-READY.false c.if-state-eq-WAITING.false
+    let r = c.task_at.ensures.value L s y g.tasks used e in
+    e ∙ by_unlisted L _ s g _ r c.in-None.ensures g.hubs
