@@ -14,7 +14,8 @@ ghost use Rattle.rules.specs.Effective.{effective};
 ghost use Rattle.rules.specs.Reorder.{put_back, rejoin, reordered, taken_out};
 ghost use Rattle.rules.specs.Table.{Layout, State, words};
 
-use records::{HubNo, TaskNo};
+use moves::TaskList;
+use records::TaskNo;
 
 // Whether task i's key is another than before.
 fn is_changed(before: &[u32; 16], after: &[u32; 16], i: usize) -> bool
@@ -45,19 +46,14 @@ fn put_back(t: &mut [u32], ts: usize, keys: &[u32; 16], i: usize)
     ensures { (L : Layout) (s : State) → Laid ts L → HubsUsed s → i < length s.tasks → t.old ≡ words L s
         → t.new ≡ words L (rejoin (key_of keys.now) i s) }
 {
-    let x = moves::task_at(t, ts, TaskNo(i));
-    let state = x.state;
-    let hub = x.hub;
-    if state == rules::READY {
-        moves::join_ready(t, ts, keys, TaskNo(i));
-        return;
-    }
-    if state == rules::WAITING {
-        if 1 <= hub {
-            if hub <= 16 {
-                moves::join_hub(t, ts, keys, HubNo((hub - 1) as usize), TaskNo(i));
-            }
+    match moves::list_of(moves::task_at(t, ts, TaskNo(i))) {
+        Some(TaskList::Ready) => {
+            moves::join_ready(t, ts, keys, TaskNo(i));
         }
+        Some(TaskList::Waiting(h)) => {
+            moves::join_hub(t, ts, keys, h, TaskNo(i));
+        }
+        None => {}
     }
 }
 
