@@ -6,18 +6,21 @@ use Rattle.lists.proofs.Counting.{occ_here}
 use Rattle.lists.proofs.Laws.{bool_case, join_entries, leave-entries, length-entries, place-entries, without-none}
 use Rattle.lists.specs.Lists.{entries, index_of, insert_at, occ, place_in, place_of, remove_at, without}
 use Rattle.messages.specs.Messages.{message_at, messages}
-use Rattle.moves.specs.Moves.{ListedBy, key_of, task_of}
+use Rattle.moves.specs.Moves.{ListedBy, key_of, list_at, task_of}
+use Rattle.moves.specs.declared.TaskList.TheVariants.{Ready, Waiting}
+use Rattle.moves.specs.declared.TaskList.{TaskList}
 use Rattle.records.specs.Records.{first, hubs_at as hubs_from, task_at, task_words as record_words, waits_at as waits_from, width}
 use Rattle.records.specs.declared.TaskRecord.{TaskRecord}
 use Rattle.rules.proofs.Changes.{in_use}
 use Rattle.rules.proofs.Cut.{Cut, cut_part, cut_paste, cut_sets}
 use Rattle.rules.proofs.Layouts.{Laid, answer_at, message-word, message-written, sized, wide}
 use Rattle.rules.proofs.Places.{cut_ready, cut_task, cut_waiters, hub-word, same_hub, same_task, task-word, wait-word}
+use Rattle.rules.proofs.Room.{stands-ready-once, stands-waits-once}
 use Rattle.rules.proofs.Standing.{listed-waits}
 use Rattle.rules.proofs.Valid.{Listed, Sound, Stands, Valid}
 use Rattle.rules.specs.Lists.{first_waiting, join_hub, join_ready, leave, queued, unqueue}
 use Rattle.rules.specs.Table.{Hub, Layout, State, Task, hub, hub_words, no_hub, ready_at, set_hub, set_ready, set_task, task, task_size, task_words, waits_at, words}
-use Rattle.std.proofs.Common.{None, inl, inr}
+use Rattle.std.proofs.Common.{None, Some, inl, inr}
 use borrow.Author.Tests.{eq-eqb, eqb-false, eqb-true, ltb-false, ltb-true, ne_eqb}
 use borrow.Rule.Slice.PartMut.{mid_of, put_mid}
 use lib.Dec.{eqb, ltb}
@@ -200,6 +203,16 @@ module _ (L : Layout) (i : ℕ) (s : State) (g : Stands i s) (x : TaskRecord) (e
 
   pub by_nowhere : x.hub ≡ 0 → (x.state ≡ 2 → ⊥) → words L s ≡ words L (leave i s)
   by_nowhere z n = ap (words L) (sym (leave_none i s g (λ q. n (state_is ∙ q)) (λ h. not_there i s g h (λ q. omega (arith, z, hub_is_lem, q)))))
+
+  -- the one list in which the task stands
+  pub by_listed : {ts : ℕ} → Laid ts L → (t ys : List ℕ) (a n : ℕ) → n ≡ 16 → t ≡ words L s → (list : TaskList) → ListedBy x (Some list)
+      → a ≡ list_at ts list → ys ≡ remove_at (index_of (suc i) (mid_of a n t)) (mid_of a n t) → put_mid a n t ys ≡ words L (leave i s)
+  by_listed y t ys a n many w Ready there at z =
+      leave-ready L s y t ys a n many w (omega (arith, at, y.size)) i g.ready (stands-ready-once i s g) z ∙ by_ready there
+  by_listed y t ys a n many w (Waiting h) there at z =
+      let k = h.0 in
+      leave-hub L s y t ys a n many w k there.2 (hub-used there.0 k there.1) (omega (arith, at, y.size)) i (g.waiters k) (stands-waits-once i s g k) z
+      ∙ by_hub there.0 k there.1
 
   -- no list: neither ready, nor waiting at a hub that there may be
   pub by_unlisted : ListedBy x None → length s.hubs ≤ 16 → words L s ≡ words L (leave i s)

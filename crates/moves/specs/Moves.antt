@@ -4,12 +4,12 @@ use Rattle.lists.specs.Lists.{place_of}
 use Rattle.messages.specs.Messages.{messages}
 use Rattle.moves.specs.declared.TaskList.TheVariants.{Ready, Waiting}
 use Rattle.moves.specs.declared.TaskList.{TaskList}
-use Rattle.records.specs.Records.{width}
+use Rattle.records.specs.Records.{ready_at, waits_at, width}
 use Rattle.records.specs.declared.TaskRecord.{TaskRecord}
 use Rattle.rules.proofs.Layouts.{Laid}
 use Rattle.rules.specs.Lists.{join_hub, join_ready}
 use Rattle.rules.specs.Table.{Layout, State, Task, hub, task, words}
-use Rattle.std.specs.Prelude.{◌<◌, ◌≤◌, suc, ℕ, get_or, length, List, None, Option, Some, ◌≡◌, ◌≢◌, ◌⊎◌}
+use Rattle.std.specs.Prelude.{◌*◌, ◌+◌, ◌<◌, ◌≤◌, suc, ℕ, get_or, length, List, None, Option, Some, ◌≡◌, ◌≢◌, ◌⊎◌}
 
 -- a task record of the code, as the rules have it
 abbrev pub task_of : TaskRecord → Task
@@ -34,6 +34,16 @@ abbrev pub ListedBy : TaskRecord → Option TaskList → Type 0
 ListedBy x (Some Ready) = x.state ≡ 2
 ListedBy x (Some (Waiting h)) = (x.state ≡ 3) × (x.hub ≡ suc h.0) × (h.0 < 16)
 ListedBy x None = (x.state ≢ 2) × (x.state ≡ 3 → (x.hub ≡ 0) ⊎ (16 < x.hub))
+
+-- a list that a table has: there are 16 hubs at most
+abbrev pub IsList : TaskList → Type 0
+IsList Ready = Unit {0}
+IsList (Waiting h) = h.0 < 16
+
+-- where it starts
+abbrev pub list_at : ℕ → TaskList → ℕ
+list_at ts Ready = ready_at ts
+list_at ts (Waiting h) = waits_at ts + h.0 * 16
 
 -- the key of each task, where a list holds them
 abbrev pub key_of : List ℕ → ℕ → ℕ

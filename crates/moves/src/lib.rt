@@ -5,7 +5,7 @@
 
 ghost use Rattle.std.specs.Prelude.{◌*◌, ◌+◌, ◌<◌, ◌≤◌, length, ◌≡◌};
 ghost use Rattle.messages.specs.Messages.{messages};
-ghost use Rattle.moves.specs.Moves.{JoinsHub, JoinsReady, ListedBy, TaskHeld, key_of, task_of};
+ghost use Rattle.moves.specs.Moves.{IsList, JoinsHub, JoinsReady, ListedBy, TaskHeld, key_of, list_at, task_of};
 ghost use Rattle.records.specs.Records.{Table, first, width};
 ghost use Rattle.rules.proofs.Layouts.{Laid};
 ghost use Rattle.rules.proofs.Valid.{Sound, Stands, Waits};
@@ -45,31 +45,16 @@ pub fn join_hub(t: &mut [u32], ts: usize, keys: &[u32], h: HubNo, i: TaskNo) -> 
     lists::join(&mut t[a..a + records::LIST_SIZE], keys, n)
 }
 
-// Task i leaves the ready list, in which it stands at most once.
-fn leave_ready(t: &mut [u32], ts: usize, i: TaskNo)
-    requires table { Table ts t.old }
-    requires i_bound { i.0 < 16 }
-    ensures { (L : Layout) (s : State) → Laid ts L → length s.ready ≤ 16
-        → occ i.0 s.ready ≤ 1 → t.old ≡ words L s
-        → t.new ≡ words L (set_ready (without i.0 s.ready) s) }
+// Where a list starts.
+fn list_at(ts: usize, list: TaskList) -> usize
+    requires ts_bound { ts ≤ 9 }
+    requires hub_bound { IsList list }
+    ensures { result ≡ list_at ts list }
 {
-    let n = i.0;
-    let a = records::ready_at(ts);
-    lists::leave(&mut t[a..a + records::LIST_SIZE], n);
-}
-
-// Task i leaves hub h's list, in which it stands at most once.
-fn leave_hub(t: &mut [u32], ts: usize, h: HubNo, i: TaskNo)
-    requires table { Table ts t.old }
-    requires h_bound { h.0 < 16 }
-    requires i_bound { i.0 < 16 }
-    ensures { (L : Layout) (s : State) → Laid ts L → h.0 < length s.hubs
-        → length (hub s h.0).waiters ≤ 16 → occ i.0 (hub s h.0).waiters ≤ 1 → t.old ≡ words L s
-        → t.new ≡ words L (set_hub h.0 (queued (without i.0 (hub s h.0).waiters) (hub s h.0)) s) }
-{
-    let n = i.0;
-    let a = records::waits_at(ts, h);
-    lists::leave(&mut t[a..a + records::LIST_SIZE], n);
+    match list {
+        TaskList::Ready => records::ready_at(ts),
+        TaskList::Waiting(h) => records::waits_at(ts, h),
+    }
 }
 
 // The record of task i.
@@ -132,10 +117,9 @@ pub fn leave_list(t: &mut [u32], ts: usize, i: TaskNo)
         → t.old ≡ words L s
         → t.new ≡ words L (leave i.0 s) }
 {
-    match list_of(task_at(t, ts, i)) {
-        Some(TaskList::Ready) => leave_ready(t, ts, i),
-        Some(TaskList::Waiting(h)) => leave_hub(t, ts, h, i),
-        None => {}
+    if let Some(list) = list_of(task_at(t, ts, i)) {
+        let a = list_at(ts, list);
+        lists::leave(&mut t[a..a + records::LIST_SIZE], i.0);
     }
 }
 
