@@ -73,17 +73,17 @@ pub struct View<'a> {
     pub words: &'a [u32],
     pub ts: usize,
     pub runs: u32,
-    pub keys: &'a [u32],
+    pub keys: [u32; 16],
     pub ghost le_ts: { 8 ≤ ts },
     pub ghost ts_bound: { ts ≤ 9 },
-    pub ghost keys_of: { KeysOf words.now keys.now },
+    pub ghost keys_of: { KeysOf words.now keys },
 }
 
 // Two tables of one edition.
 #[derive(Clone, Copy)]
-pub struct Pair<'a> {
+pub struct Pair<'a, 'b> {
     pub left: View<'a>,
-    pub right: View<'a>,
+    pub right: View<'b>,
     pub ghost one_edition: { left.ts ≡ right.ts },
 }
 
@@ -105,7 +105,7 @@ impl View<'_> {
     }
 }
 
-impl Pair<'_> {
+impl Pair<'_, '_> {
     ghost use Rattle.rows.specs.Views.{differ_from, how_many_marked, is_apart, is_marked, is_shown};
 
     // Whether some of n words differs: of the i-th record of `size` words from word f on, where the records start at word `at`.
@@ -157,8 +157,8 @@ impl Pair<'_> {
     fn priority_apart(&self, i: u32) -> bool
         ensures { result ≡ is_apart self.now (Row.Priority i) }
     {
-        let old = lists::word(self.left.keys, i as usize);
-        let new = lists::word(self.right.keys, i as usize);
+        let old = lists::word(&self.left.keys, i as usize);
+        let new = lists::word(&self.right.keys, i as usize);
         self.task_differs(i, records::PRIORITY, 1) || old != new
     }
 

@@ -59,7 +59,7 @@ fn put_priorities(out: &mut [u8], at: usize, table: &View, i: u32) -> usize
         i as usize,
         records::PRIORITY,
     );
-    let key = lists::word(table.keys, i as usize);
+    let key = lists::word(&table.keys, i as usize);
     texts::put_priority(out, at, own, key)
 }
 

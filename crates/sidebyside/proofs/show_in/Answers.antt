@@ -12,10 +12,10 @@ pub slice_bounds-put_rows-end : goal.slice_bounds-put_rows-end
 slice_bounds-put_rows-end c = sym (length-replicate {A = ℕ} 65536 0)
 
 pub returns-then-text-end : goal.returns-then-text-end
-returns-then-text-end c = refused_8 _ _ _ _ c.refused.ensures (omega (arith, (held c.put_rows-end.ensures (length-replicate {A = ℕ} 65536 0) c.requires.rows_len_bound).all, c.if-text-end.true))
+returns-then-text-end c = refused_8 _ _ _ _ c.refused.ensures (omega (arith, (held c.put_rows-end.ensures (length-replicate {A = ℕ} 65536 0) c.requires).all, c.if-text-end.true))
 
 pub slice_bounds-put_bytes-end : goal.slice_bounds-put_bytes-end
-slice_bounds-put_bytes-end c = sym (length-take-le _ _ (omega (arith, length-put c.put_rows-end.ensures, (held c.put_rows-end.ensures (length-replicate {A = ℕ} 65536 0) c.requires.rows_len_bound).all, c.requires.rows_len_bound)))
+slice_bounds-put_bytes-end c = sym (length-take-le _ _ (omega (arith, length-put c.put_rows-end.ensures, (held c.put_rows-end.ensures (length-replicate {A = ℕ} 65536 0) c.requires).all, c.requires)))
 
 pub returns : goal.returns
-returns c = let h = held c.put_rows-end.ensures (length-replicate {A = ℕ} 65536 0) c.requires.rows_len_bound in rw (← c.count_marked.ensures) (shown-all _ _ c.args.text.now _ _ h.all (omega (arith, h.all, c.if-text-end.false)) (rw h.text at c.put_bytes.ensures.bytes))
+returns c = let h = held c.put_rows-end.ensures (length-replicate {A = ℕ} 65536 0) c.requires in rw (← c.count_marked.ensures) (shown-all _ _ c.args.text.now _ _ h.all (omega (arith, h.all, c.if-text-end.false)) (rw h.text at c.put_bytes.ensures.bytes))
