@@ -21,6 +21,7 @@ const NUMBER: usize = 11;
 const WORDS: u64 = 4294967296;
 
 // A byte. Where there is no room nothing is written, and the place stays.
+#[tactic(auto, using(crate::proofs::Putting::put_byte, crate::proofs::Putting::put_full))]
 pub fn put_byte(out: &mut [u8], at: usize, b: u8) -> usize
     ensures { Put out.old at (b ∷ []) result out.new }
 {
@@ -37,10 +38,8 @@ pub fn put_bytes(out: &mut [u8], at: usize, text: &[u8]) -> usize
     ensures { Put out.old at text.now result out.new }
 {
     let mut end = at;
-    let mut k = 0;
-    while k < text.len() {
-        end = put_byte(out, end, text[k]);
-        k += 1;
+    for b in text {
+        end = put_byte(out, end, *b);
     }
     end
 }
@@ -68,20 +67,19 @@ pub fn put_between(out: &mut [u8], at: usize, before: &[u8], n: u32, after: &[u8
 pub fn named(entry: u32) -> u32
     ensures { result ≡ pred entry }
 {
-    if entry == 0 { 0 } else { entry - 1 }
+    entry.saturating_sub(1)
 }
 
 // How long a task has left.
+#[tactic(auto, unfolding(crate::specs::Cells::ticks_text))]
 fn put_ticks(out: &mut [u8], at: usize, ticks: u32) -> usize
     ensures { Put out.old at (ticks_text ticks) result out.new }
 {
-    if ticks == 0 {
-        return put_bytes(out, at, b", no limit");
+    match ticks {
+        0 => put_bytes(out, at, b", no limit"),
+        1 => put_bytes(out, at, b", 1 tick left"),
+        _ => put_between(out, at, b", ", ticks, b" ticks left"),
     }
-    if ticks == 1 {
-        return put_bytes(out, at, b", 1 tick left");
-    }
-    put_between(out, at, b", ", ticks, b" ticks left")
 }
 
 // At which hub a task waits, and what for.
@@ -89,27 +87,29 @@ fn put_waits(out: &mut [u8], at: usize, hub: u32, side: u32) -> usize
     ensures { Put out.old at (waits_text hub side) result out.new }
 {
     if side == rules::PUT {
-        return put_between(out, at, b"waits at hub ", named(hub), b" to put");
+        put_between(out, at, b"waits at hub ", named(hub), b" to put")
+    } else {
+        put_between(out, at, b"waits at hub ", named(hub), b" to get")
     }
-    put_between(out, at, b"waits at hub ", named(hub), b" to get")
 }
 
 // What a task does, but for its flag.
+#[tactic(auto, unfolding(crate::specs::Cells::stage_text))]
 fn put_stage(out: &mut [u8], at: usize, x: TaskRecord) -> usize
     ensures { Put out.old at (stage_text x) result out.new }
 {
-    if x.state == rules::INACTIVE {
-        return put_bytes(out, at, b"inactive");
+    match x.state {
+        rules::INACTIVE => put_bytes(out, at, b"inactive"),
+        rules::READY => put_bytes(out, at, b"ready"),
+        rules::WAITING => {
+            let a = put_waits(out, at, x.hub, x.side);
+            put_ticks(out, a, x.ticks)
+        }
+        _ => {
+            let a = put_bytes(out, at, b"sleeps");
+            put_ticks(out, a, x.ticks)
+        }
     }
-    if x.state == rules::READY {
-        return put_bytes(out, at, b"ready");
-    }
-    if x.state == rules::WAITING {
-        let a = put_waits(out, at, x.hub, x.side);
-        return put_ticks(out, a, x.ticks);
-    }
-    let a = put_bytes(out, at, b"sleeps");
-    put_ticks(out, a, x.ticks)
 }
 
 // The state of a task.
@@ -149,22 +149,17 @@ pub fn put_message(out: &mut [u8], at: usize, m: u64) -> usize
 }
 
 // The answer of a task, but for its word.
+#[tactic(auto, unfolding(crate::specs::Cells::outcome_text))]
 fn put_outcome(out: &mut [u8], at: usize, answer: u32, m: u64) -> usize
     ensures { Put out.old at (outcome_text answer m) result out.new }
 {
-    if answer == 0 {
-        return put_bytes(out, at, b"none");
+    match answer {
+        0 => put_bytes(out, at, b"none"),
+        rules::FAIL => put_bytes(out, at, b"failed"),
+        rules::TIMED_OUT => put_bytes(out, at, b"timed out"),
+        _ if m == 0 => put_bytes(out, at, b"OK"),
+        _ => put_bytes(out, at, b"met"),
     }
-    if answer == rules::FAIL {
-        return put_bytes(out, at, b"failed");
-    }
-    if answer == rules::TIMED_OUT {
-        return put_bytes(out, at, b"timed out");
-    }
-    if m == 0 {
-        return put_bytes(out, at, b"OK");
-    }
-    put_bytes(out, at, b"met")
 }
 
 // The answer of a task, and its word where that isn't 0.
@@ -180,13 +175,15 @@ pub fn put_answer(out: &mut [u8], at: usize, x: TaskRecord) -> usize
 }
 
 // The k-th task of a list, from 0.
+#[tactic(auto, using(std::proofs::lemmas::Grind::common_steps), unfolding(crate::specs::Cells::task_text))]
 fn put_task(out: &mut [u8], at: usize, k: usize, i: u32) -> usize
     ensures { Put out.old at (task_text k i) result out.new }
 {
     if k == 0 {
-        return put_between(out, at, b"task ", i, b"");
+        put_between(out, at, b"task ", i, b"")
+    } else {
+        put_between(out, at, b", task ", i, b"")
     }
-    put_between(out, at, b", task ", i, b"")
 }
 
 // The k-th entry of a list, from 0: a task's name, and whether it is the one that runs.
@@ -210,14 +207,12 @@ pub fn put_tasks(out: &mut [u8], at: usize, t: &[u32], from: usize, runs: u32) -
         return put_bytes(out, at, b"nobody");
     }
     let mut end = at;
-    let mut k = 0;
-    while k < records::LIST_SIZE {
+    for k in 0..records::LIST_SIZE {
         let entry = lists::word(t, from + k);
         if entry == 0 {
             return end;
         }
         end = put_entry(out, end, k, entry, runs);
-        k += 1;
     }
     end
 }
