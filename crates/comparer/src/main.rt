@@ -5,11 +5,12 @@
 
 ghost use Rattle.comparer.specs.Comparer.{entry_lines};
 ghost use Rattle.lines.specs.Lines.{printed};
-ghost use Rattle.texts.specs.Texts.{Put};
+ghost use Rattle.texts.specs.Texts.{Wrote};
 ghost use Rattle.std.specs.Prelude.{[], ◌∷◌};
 
 use std::fs::File;
 use std::io::Write;
+use texts::Writer;
 
 // "2,976 bytes" of edition 2, and one byte more, which shows that there are too many.
 const INPUT: usize = 4 * records::TABLE_SIZE_TWO + 1;
@@ -26,30 +27,26 @@ const VERDICT: &str = "/dev/fd/3";
 const SECOND: &str = "/dev/fd/4";
 
 // A line of three numbers.
-fn put_entry(out: &mut [u8], at: usize, place: u32, old: u32, new: u32) -> usize
-    ensures { Put out.old at (printed (place ∷ old ∷ new ∷ [])) result out.new }
+fn put_entry(out: &mut Writer, place: u32, old: u32, new: u32)
+    ensures { Wrote out.old (printed (place ∷ old ∷ new ∷ [])) out.new }
 {
-    let a = texts::put_between(out, at, b"", place, b" ");
-    let b = texts::put_between(out, a, b"", old, b" ");
-    texts::put_between(out, b, b"", new, b"\n")
+    out.number(place);
+    out.between(b" ", old, b" ");
+    out.number(new);
+    out.byte(b'\n');
 }
 
 // The entries, three words each, as lines.
-fn put_entries(out: &mut [u8], places: &[u32], count: u32) -> usize
-    ensures { Put out.old 0 (entry_lines places.now 0 count) result out.new }
+fn put_entries(out: &mut Writer, places: &[u32], count: u32)
+    ensures { Wrote out.old (entry_lines places.now 0 count) out.new }
 {
-    let mut end = 0;
-    let mut p = 0;
-    let mut k = 0;
-    while k < count {
+    for k in 0..count {
+        let p = 3 * k as usize;
         let place = lists::word(places, p);
         let old = lists::word(places, p + 1);
         let new = lists::word(places, p + 2);
-        end = put_entry(out, end, place, old, new);
-        p += 3;
-        k += 1;
+        put_entry(out, place, old, new);
     }
-    end
 }
 
 // A number of the verdict and the byte behind it.
@@ -90,7 +87,9 @@ fn write_rows(rt: &HostRuntime, a: &[u32], b: &[u32], text: &mut [u8]) -> bool {
 
 // The entries behind them, likewise.
 fn write_entries(rt: &HostRuntime, places: &[u32], count: u32, text: &mut [u8]) -> bool {
-    let end = put_entries(text, places, count);
+    let mut out = Writer::new(text);
+    put_entries(&mut out, places, count);
+    let end = out.end;
     if text.len() < end {
         return false;
     }

@@ -9,9 +9,10 @@ ghost use Rattle.rows.specs.Rows.{row_number, rows};
 ghost use Rattle.rows.specs.Views.{how_many_marked};
 ghost use Rattle.sidebyside.specs.RowLines.{line_of, row_of, rows_of};
 ghost use Rattle.sidebyside.specs.Shows.{ShownAs, Shows, pair_refusal, runs_in, size_of};
-ghost use Rattle.texts.specs.Texts.{Put};
+ghost use Rattle.texts.specs.Texts.{Put, Wrote};
 
 use rows::{Pair, Row, View};
+use texts::Writer;
 
 // The refusal, how many bytes were written, and how many rows are marked.
 #[derive(Clone, Copy)]
@@ -24,45 +25,46 @@ pub struct Shown {
 // More room than the rows of two tables take (proofs/Promise, `text_short`).
 const ROOM: usize = 65536;
 
-const TAB: u8 = 9;
-
-const NEWLINE: u8 = 10;
-
 // The line of a row.
-fn put_line(out: &mut [u8], at: usize, tables: &Pair, row: Row) -> usize
+fn put_line(out: &mut Writer, tables: &Pair, row: Row)
     requires { row_number row < 16 }
-    ensures { Put out.old at (line_of tables.now row) result out.new }
+    ensures { Wrote out.old (line_of tables.now row) out.new }
 {
-    let mark = rowtexts::put_mark(out, at, tables.marked(row));
-    let left = rowtexts::put_title(out, mark, row);
-    let tab = rowtexts::put_cell(out, left, &tables.left, row);
-    let right = texts::put_byte(out, tab, TAB);
-    let end = rowtexts::put_cell(out, right, &tables.right, row);
-    texts::put_byte(out, end, NEWLINE)
+    rowtexts::put_mark(out, tables.marked(row));
+    rowtexts::put_title(out, row);
+    rowtexts::put_cell(out, &tables.left, row);
+    out.byte(b'\t');
+    rowtexts::put_cell(out, &tables.right, row);
+    out.byte(b'\n');
 }
 
 // A row, where it is shown.
 #[tactic(auto, unfolding(crate::specs::RowLines::row_text))]
-fn put_row(out: &mut [u8], at: usize, tables: &Pair, row: Row) -> usize
+fn put_row(out: &mut Writer, tables: &Pair, row: Row)
     requires { row_number row < 16 }
-    ensures { Put out.old at (row_of tables.now row) result out.new }
+    ensures { Wrote out.old (row_of tables.now row) out.new }
 {
     if tables.is_shown(row) {
-        put_line(out, at, tables, row)
-    } else {
-        at
+        put_line(out, tables, row);
     }
 }
 
-// All rows, from the buffer's start on.
-fn put_rows(out: &mut [u8], tables: &Pair) -> usize
-    ensures { Put out.old 0 (rows_of tables.now rows) result out.new }
+// All rows.
+fn put_rows(out: &mut Writer, tables: &Pair)
+    ensures { Wrote out.old (rows_of tables.now rows) out.new }
 {
-    let mut end = 0;
     for k in 0..rows::ROWS {
-        end = put_row(out, end, tables, rows::row_at(k));
+        put_row(out, tables, rows::row_at(k));
     }
-    end
+}
+
+// All rows from a buffer's start on, and the place where they end.
+fn rows_into(buffer: &mut [u8], tables: &Pair) -> usize
+    ensures { Put buffer.old 0 (rows_of tables.now rows) result buffer.new }
+{
+    let mut out = Writer::new(buffer);
+    put_rows(&mut out, tables);
+    out.end
 }
 
 // The tables' own refusals: 1 and 2 of the first, then of the second, then 13; else 0.
@@ -100,11 +102,11 @@ fn show_in(tables: &Pair, text: &mut [u8]) -> Shown
     ensures { ShownAs 0 (rows_of tables.now rows) (how_many_marked tables.now rows) text.old result text.new }
 {
     let mut scratch = [0u8; ROOM];
-    let end = put_rows(&mut scratch, tables);
+    let end = rows_into(&mut scratch, tables);
     if text.len() < end {
         return refused(rules::SHORT_BUFFER);
     }
-    texts::put_bytes(text, 0, &scratch[..end]);
+    text[..end].copy_from_slice(&scratch[..end]);
     Shown {
         refusal: 0,
         length: end as u32,

@@ -4,4 +4,4 @@ use Rattle.texts.proofs.Putting.{Joining}
 use Rattle.texts.proofs.put_tasks.Given as goal
 
 abbrev pub invariant-loop-k : goal.invariant-loop-k
-invariant-loop-k l = Joining l.initial.out l.at l.out l.end (tasks_left l.t l.from l.runs l.k) (tasks_all l.t l.from l.runs)
+invariant-loop-k l = Joining l.initial.out l.out (tasks_left l.t l.from l.runs l.k) (tasks_all l.t l.from l.runs)

@@ -1,9 +1,9 @@
--- `texts::put_number` meets its contract: a line of one number, without its newline. Assumes nothing.
-use Rattle.texts.proofs.Putting.{number-room, number-taken, put_as}
+-- `texts::Writer::number` meets its contract: a line of one number, without its newline. Assumes nothing.
+use Rattle.texts.proofs.Putting.{number-room, number-taken, wrote_as}
 use lib.Seq.{length-take-le}
 use mathlib.Core.Path.{sym}
 use native.Mathlib.Omega.{arith}
-use Rattle.texts.proofs.put_number.Goals as goal
+use Rattle.texts.proofs.Writer.number.Goals as goal
 
 pub write_numbers-end-requires : goal.write_numbers-end-requires
 write_numbers-end-requires c = record { in_bounds = omega arith; ns_in_bounds = number-room c.args.n (omega arith) }
@@ -14,8 +14,8 @@ slice_bounds-line-count c = omega (arith, (number-taken c.write_numbers-end.ensu
 pub slice_bounds-line-end : goal.slice_bounds-line-end
 slice_bounds-line-end c = omega (arith, (number-taken c.write_numbers-end.ensures).high)
 
-pub slice_bounds-put_bytes-length : goal.slice_bounds-put_bytes-length
-slice_bounds-put_bytes-length c = sym (length-take-le _ _ (omega (arith, (number-taken c.write_numbers-end.ensures).high)))
+pub slice_bounds-bytes-length : goal.slice_bounds-bytes-length
+slice_bounds-bytes-length c = sym (length-take-le _ _ (omega (arith, (number-taken c.write_numbers-end.ensures).high)))
 
 pub returns : goal.returns
-returns c = put_as c.put_bytes.ensures (number-taken c.write_numbers-end.ensures).text
+returns c = wrote_as c.bytes.ensures (number-taken c.write_numbers-end.ensures).text
