@@ -8,7 +8,7 @@ ghost use Rattle.lines.specs.Lines.{printed};
 ghost use Rattle.texts.specs.Texts.{Wrote};
 ghost use Rattle.std.specs.Prelude.{[], ◌∷◌};
 
-use std::fs::File;
+use std::io;
 use std::io::Write;
 use texts::Writer;
 
@@ -49,11 +49,6 @@ fn put_entries(out: &mut Writer, places: &[u32], count: u32)
     }
 }
 
-// A number of the verdict and the byte behind it.
-fn tell(told: &mut File, number: u64, after: &str) {
-    let _ = write!(told, "{number}{after}");
-}
-
 // The verdict: each table's own refusal, the comparison's, how many words differ, how many bytes came of each table. Nothing waits
 // for it where the descriptor is closed.
 fn verdict(
@@ -66,47 +61,32 @@ fn verdict(
     other: usize,
 ) {
     if let Some(mut told) = streams::to_write(rt, VERDICT) {
-        tell(&mut told, first as u64, " ");
-        tell(&mut told, second as u64, " ");
-        tell(&mut told, refusal as u64, " ");
-        tell(&mut told, count as u64, " ");
-        tell(&mut told, came as u64, " ");
-        tell(&mut told, other as u64, "\n");
+        let _ = writeln!(told, "{first} {second} {refusal} {count} {came} {other}");
     }
 }
 
-// The rows on standard output. False where the write has failed.
-fn write_rows(rt: &HostRuntime, a: &[u32], b: &[u32], text: &mut [u8]) -> bool {
+// The rows on standard output.
+fn write_rows(rt: &HostRuntime, a: &[u32], b: &[u32], text: &mut [u8]) -> io::Result<()> {
     let shown = sidebyside::show(a, b, text);
-    let length = shown.length as usize;
-    if text.len() < length {
-        return false;
-    }
-    rt.write_all(&text[..length]).is_ok()
+    let end = shown.length as usize;
+    rt.write_all(&text[..end.min(text.len())])
 }
 
 // The entries behind them, likewise.
-fn write_entries(rt: &HostRuntime, places: &[u32], count: u32, text: &mut [u8]) -> bool {
+fn write_entries(rt: &HostRuntime, places: &[u32], count: u32, text: &mut [u8]) -> io::Result<()> {
     let mut out = Writer::new(text);
     put_entries(&mut out, places, count);
     let end = out.end;
-    if text.len() < end {
-        return false;
-    }
-    rt.write_all(&text[..end]).is_ok()
+    rt.write_all(&text[..end.min(text.len())])
 }
 
 // What is to be said of two tables, of which so many bytes stood on the descriptors.
-fn compare(rt: &HostRuntime, a: &[u32], b: &[u32], came: usize, other: usize) {
+fn compare(rt: &HostRuntime, a: &[u32], b: &[u32], came: usize, other: usize) -> io::Result<()> {
     let mut text = [0u8; TEXT];
     let mut places = [0u32; PLACES];
-    if !write_rows(rt, a, b, &mut text) {
-        return;
-    }
+    write_rows(rt, a, b, &mut text)?;
     let compared = differences::compare(a, b, &mut places);
-    if !write_entries(rt, &places, compared.count, &mut text) {
-        return;
-    }
+    write_entries(rt, &places, compared.count, &mut text)?;
     let first = differences::refusal_of(a);
     let second = differences::refusal_of(b);
     verdict(
@@ -118,6 +98,7 @@ fn compare(rt: &HostRuntime, a: &[u32], b: &[u32], came: usize, other: usize) {
         came,
         other,
     );
+    Ok(())
 }
 
 fn main(rt: HostRuntime) {
@@ -129,5 +110,5 @@ fn main(rt: HostRuntime) {
     let mut new = [0u32; records::TABLE_SIZE_TWO];
     let n = tablebytes::table_words(&first[..came], &mut old);
     let m = tablebytes::table_words(&second[..other], &mut new);
-    compare(&rt, &old[..n], &new[..m], came, other);
+    let _ = compare(&rt, &old[..n], &new[..m], came, other);
 }
