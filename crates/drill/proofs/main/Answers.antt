@@ -3,6 +3,6 @@ use Rattle.runner.specs.Runner.{zeros}
 use mathlib.Core.Path.{refl}
 use Rattle.drill.proofs.main.Goals as goal
 
-pub begin-requires-clause-t_value : goal.begin-requires-clause-t_value
+pub begin-requires : goal.begin-requires
 unfolding zeros
-begin-requires-clause-t_value c = refl
+begin-requires c = refl
