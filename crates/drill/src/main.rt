@@ -103,6 +103,7 @@ fn leave(rt: &HostRuntime, t: &[u32], bytes: &mut [u8])
     }
 }
 
+#[tactic(auto, unfolding(runner::specs::Runner::zeros))]
 fn main(rt: HostRuntime) {
     let mut table = [0u32; records::TABLE_SIZE_TWO];
     let mut bytes = [0u8; BYTES];
