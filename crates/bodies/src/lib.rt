@@ -67,16 +67,13 @@ fn marks_right(t: &[u32], ts: usize, h: usize, count: u32, limit: u32) -> bool
 {
     let v = records::width_of(ts);
     let at = records::store_at(ts, HubNo(h));
-    let n = limit as usize;
     let mut free = 0;
-    let mut b = 0;
-    while b < n {
+    for b in 0..limit as usize {
         let m = messages::message(t, at + b * v, v);
         if 1 < m {
             return false;
         }
-        free = free + (1 - m);
-        b += 1;
+        free += 1 - m;
     }
     count as u64 == free
 }
@@ -203,13 +200,5 @@ pub fn bodies_right(t: &[u32], ts: usize) -> bool
     ensures { (L : Layout) → Laid ts L
         → result ≡ for_all (get_or t.now 2 0) (body_test L t.now) }
 {
-    let m = t[HUBS] as usize;
-    let mut h = 0;
-    while h < m {
-        if !body_right(t, ts, h) {
-            return false;
-        }
-        h += 1;
-    }
-    true
+    (0..t[HUBS] as usize).all(|h| body_right(t, ts, h))
 }
