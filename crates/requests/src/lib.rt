@@ -69,10 +69,8 @@ fn meet_all(t: &mut [u32], ts: usize, keys: &[u32], h: HubNo, w: u64)
     ensures { (L : Layout) (s : State) → Laid ts L → Sound s → h.0 < length s.hubs → t.old ≡ words L s
         → t.new ≡ words L (meet_all (key_of keys.now) (meetings w (hub s h.0).waiters) s) }
 {
-    let mut k = 0;
-    while k < records::LIST_SIZE {
+    for _ in 0..records::LIST_SIZE {
         meet_first(t, ts, keys, h, w);
-        k += 1;
     }
 }
 
@@ -136,13 +134,12 @@ fn make_waiting(t: &mut [u32], ts: usize, c: Call, word: u64)
         caller,
         TaskRecord {
             state: rules::WAITING,
-            suspended: x.suspended,
-            priority: x.priority,
             hub: c.target + 1,
             ticks: c.ticks,
             side: c.side,
             word,
             answer: 0,
+            ..x
         },
     );
 }
