@@ -31,9 +31,6 @@ pub for_all-step : (p : ℕ → Bool) (k : ℕ) → for_all k p ≡ true → p k
 unfolding for_all
 for_all-step p k a e = rw (add-one, e, a)
 
-pub for_all_end : (p : ℕ → Bool) (n k : ℕ) → k ≤ n → n ≤ k → for_all k p ≡ true → for_all n p ≡ true
-for_all_end p n k a b e = let q : n ≡ k = omega arith in rw (q, e)
-
 pub for_all_both : (p q r : ℕ → Bool) → ((k : ℕ) → r k ≡ (p k && q k)) → (n : ℕ) → for_all n r ≡ (for_all n p && for_all n q)
 unfolding for_all
 for_all_both p q r e zero = refl

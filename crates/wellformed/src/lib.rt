@@ -50,18 +50,14 @@ fn walk(
         → Marked result (walks (read L t.now) hub side owner list.now)
         (λ j. occ j (numbers list.now)) marks.old marks.new }
 {
-    let mut k = 0;
-    while k < LIST_SIZE {
-        let e = list[k];
-        if e == 0 {
+    for (k, e) in list.iter().enumerate() {
+        if *e == 0 {
             return lists::zeros(&list[k..]);
         }
-        if !entry_right(t, ts, e, hub, side, owner) {
+        if !entry_right(t, ts, *e, hub, side, owner) {
             return false;
         }
-        let i = (e - 1) as usize;
-        marks[i] = marks[i] + 1;
-        k += 1;
+        marks[(*e - 1) as usize] += 1;
     }
     true
 }
@@ -127,13 +123,10 @@ fn queues_right(t: &[u32], ts: usize, marks: &mut [u32; 16]) -> bool
         → Marked result (for_all (get_or t.now 2 0) (queue_test L t.now))
         (met_at (read L t.now) (get_or t.now 2 0)) marks.old marks.new }
 {
-    let m = t[HUBS] as usize;
-    let mut h = 0;
-    while h < m {
+    for h in 0..t[HUBS] as usize {
         if !queue_right(t, ts, h, marks) {
             return false;
         }
-        h += 1;
     }
     true
 }
@@ -300,16 +293,10 @@ fn tasks_right(t: &[u32], ts: usize, marks: &[u32; 16]) -> bool
     ensures { (L : Layout) → Laid ts L → result ≡ for_all (get_or t.now 1 0)
         (λ i. task_right (read L t.now) i (get_or marks.now i 0)) }
 {
-    let n = t[TASKS] as usize;
-    let mut i = 0;
-    while i < n {
+    (0..t[TASKS] as usize).all(|i| {
         let b = records::task_at(ts, TaskNo(i));
-        if !task_right(t, ts, &t[b..b + ts], marks[i]) {
-            return false;
-        }
-        i += 1;
-    }
-    true
+        task_right(t, ts, &t[b..b + ts], marks[i])
+    })
 }
 
 // All of "well formed" but the order of lists: the table of words is written as the paper has it, and what is read from it is
