@@ -1,5 +1,5 @@
 -- A test of every number below n, from 0 up: a turn of each loop that makes one. Assumes nothing.
-use Prim.Native.Nat.{◌+◌, ◌<◌, ◌≤◌, suc, zero, zero-le, ℕ}
+use Prim.Native.Nat.{◌+◌, ◌<◌, suc, zero, zero-le, ℕ}
 use Rattle.lists.proofs.Laws.{bool_case}
 use Rattle.rules.proofs.Tests.{t_below_all}
 use Rattle.rules.specs.WellFormed.{for_all}

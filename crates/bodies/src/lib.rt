@@ -15,6 +15,7 @@ ghost use Rattle.rules.specs.WellFormed.{contents_right, for_all, unused_zero, w
 use records::{
     COUNT, HUB_SIZE, HUBS, HubNo, LIMIT, MOST_RECORDS, START, STATE, TASKS, TASKS_AT, TaskNo,
 };
+use rules::Kind;
 
 // "contents: edition 1, tasks T, hubs H, then where each body starts"; the edition is how many words a message has
 pub fn contents_right(t: &[u32], ts: usize) -> bool
@@ -103,17 +104,18 @@ fn kind_right(t: &[u32], ts: usize, h: usize) -> bool
     let count = t[b + COUNT];
     let limit = t[b + LIMIT];
     let start = t[b + START];
-    match t[b] {
-        rules::EVENT => (count <= 1) & ((limit == 1) & (start == 0)),
-        rules::SEMAPHORE => (count <= limit)
+    let Some(kind) = Kind::of(t[b]) else {
+        return false;
+    };
+    match kind {
+        Kind::Event | Kind::Board => (count <= 1) & ((limit == 1) & (start == 0)),
+        Kind::Semaphore => (count <= limit)
             & (((1 <= limit) & (limit <= rules::MOST_COUNT)) & (start <= limit)),
-        rules::PORT => (count == 0) & ((limit == 0) & (start == 0)),
-        rules::FIFO => (count <= limit)
+        Kind::Port => (count == 0) & ((limit == 0) & (start == 0)),
+        Kind::Fifo => (count <= limit)
             & (((1 <= limit) & (limit <= rules::MOST_HELD)) & (start == 0)),
-        rules::RESOURCE => (count <= t[TASKS]) & ((limit == 1) & (start == 0)),
-        rules::BOARD => (count <= 1) & ((limit == 1) & (start == 0)),
-        rules::MEMORY => memory_right(t, ts, h, count, limit, start),
-        _ => false,
+        Kind::Resource => (count <= t[TASKS]) & ((limit == 1) & (start == 0)),
+        Kind::Memory => memory_right(t, ts, h, count, limit, start),
     }
 }
 
@@ -159,7 +161,11 @@ fn store_sound(t: &[u32], ts: usize, h: usize) -> bool
 pub fn owner_of(kind: u32, count: u32) -> u32
     ensures { result ≡ owner_of kind count }
 {
-    if kind == rules::RESOURCE { count } else { 0 }
+    if Kind::of(kind) == Some(Kind::Resource) {
+        count
+    } else {
+        0
+    }
 }
 
 // M-101: hub h is no Resource whose owner is inactive.

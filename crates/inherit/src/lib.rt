@@ -18,6 +18,7 @@ ghost use Rattle.rules.specs.Table.{Layout, State, hub, words};
 ghost use Rattle.rules.specs.WellFormed.{for_all, in_order_by, rising};
 
 use records::{COUNT, HUB_SIZE, HUBS, HubNo, LIST_SIZE, PRIORITY, TaskNo};
+use rules::Kind;
 
 // How many hubs are in use, on any table at most 16.
 fn hubs_in(t: &[u32], ts: usize) -> usize
@@ -37,7 +38,7 @@ fn is_asked(t: &[u32], ts: usize, h: usize) -> bool
         → result ≡ is_asked (hub s h) }
 {
     let b = records::hubs_at(ts) + h * HUB_SIZE;
-    (t[b] == rules::RESOURCE) & (t[records::waits_at(ts, HubNo(h))] != 0)
+    (Kind::of(t[b]) == Some(Kind::Resource)) & (t[records::waits_at(ts, HubNo(h))] != 0)
 }
 
 // Whether no hub in use is a Resource with a waiter: the common case, in which every task has its own priority.

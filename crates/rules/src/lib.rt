@@ -8,7 +8,7 @@ ghost use Rattle.std.specs.Prelude.{◌≡◌};
 
 mod kinds;
 
-pub use kinds::Kind;
+pub use kinds::{Kind, bears_word};
 
 // The services.
 pub const BLANK: u32 = 0;
