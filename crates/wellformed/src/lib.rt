@@ -17,6 +17,7 @@ use records::{
     COUNT, HUB, HUB_SIZE, HUBS, HubNo, LIMIT, LIST_SIZE, PRIORITY, SIDE, STATE, SUSPENDED, TASKS,
     TICKS, TaskNo, WORD,
 };
+use rules::Kind;
 
 // Entry e of a list: a task in use, at this hub and on this side, and not the owner. A task whose record names another hub,
 // or none, is refused here; one in the wrong state by its record.
@@ -67,12 +68,16 @@ fn walk(
 fn may_wait(side: u32, kind: u32, count: u32, limit: u32) -> bool
     ensures { result ≡ may side kind count limit }
 {
-    ((side == rules::PUT)
-        & (((kind != rules::RESOURCE) & ((kind != rules::BOARD) & (kind != rules::MEMORY)))
-            & (count == limit)))
-        | ((side == rules::GET)
-            & (((kind == rules::RESOURCE) & (count != 0))
-                | ((kind != rules::RESOURCE) & (count == 0))))
+    let get = (side == rules::GET) & (count == 0);
+    let either = ((side == rules::PUT) & (count == limit)) | get;
+    let Some(kind) = Kind::of(kind) else {
+        return either;
+    };
+    match kind {
+        Kind::Resource => (side == rules::GET) & (count != 0),
+        Kind::Board | Kind::Memory => get,
+        Kind::Event | Kind::Semaphore | Kind::Port | Kind::Fifo => either,
+    }
 }
 
 // Hub h's list: empty, or the first entry's side may wait, and no entry is on the other. Most lists are empty, so that comes
@@ -178,11 +183,7 @@ fn waiting_right(t: &[u32], ts: usize, hub: u32, side: u32, word: u64, answer: u
     // a hub's number plus 1 stands in the record
     let kind = t[records::hubs_at(ts) - HUB_SIZE + (hub as usize) * HUB_SIZE];
     ((rules::PUT <= side) & (side <= rules::GET))
-        & ((answer == 0)
-            & (((side == rules::PUT)
-                & ((kind == rules::PORT)
-                    | ((kind == rules::FIFO) | ((kind == rules::BOARD) | (kind == rules::MEMORY)))))
-                | (word == 0)))
+        & ((answer == 0) & (((side == rules::PUT) & rules::bears_word(kind)) | (word == 0)))
 }
 
 // The message of a task's record is 0. The word before the answer is its last, so no edition is asked for.
