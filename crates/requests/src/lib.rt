@@ -21,7 +21,7 @@ ghost use Rattle.rules.specs.Table.{Hub, Layout, State, hub, set_task, task, wor
 
 use hubtable::{Meeting, Store, Verdict};
 use records::{HubNo, TaskNo, TaskRecord};
-use rules::{Call, Served};
+use rules::{Call, Kind, Served};
 
 // "A request that is met answers 1." The waiter met with it, if there is one, becomes ready.
 fn meet(t: &mut [u32], ts: usize, keys: &[u32], c: Call, m: Meeting)
@@ -104,12 +104,7 @@ fn kept_word(kind: u32, side: u32, word: u64) -> u64
     ensures upper_bound { result ≤ word }
     ensures value { (h : Hub) (c : Call) → kind ≡ h.kind → side ≡ c.side → word ≡ message c → result ≡ kept h c }
 {
-    if side != rules::PUT {
-        return 0;
-    }
-    if (kind == rules::PORT)
-        | ((kind == rules::FIFO) | ((kind == rules::BOARD) | (kind == rules::MEMORY)))
-    {
+    if (side == rules::PUT) & rules::bears_word(kind) {
         word
     } else {
         0
@@ -218,7 +213,7 @@ pub fn request(t: &mut [u32], ts: usize, keys: &[u32], c: Call) -> Served
         → Leaves L (serve (key_of keys.now) HubRequest s c) c result.ahead t.new }
 {
     let x = stores::hub_at(&*t, ts, HubNo(c.target as usize));
-    if (x.kind == rules::BOARD) & (c.side == rules::PUT) {
+    if (Kind::of(x.kind) == Some(Kind::Board)) & (c.side == rules::PUT) {
         update(t, ts, keys, c);
         Served { ahead: 0 }
     } else {
