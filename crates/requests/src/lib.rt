@@ -21,7 +21,7 @@ ghost use Rattle.rules.specs.Table.{Hub, Layout, State, hub, set_task, task, wor
 
 use hubtable::{Meeting, Store, Verdict};
 use records::{HubNo, TaskNo, TaskRecord};
-use rules::{Call, Served};
+use rules::{Call, Kind, Served};
 
 // "A request that is met answers 1." The waiter met with it, if there is one, becomes ready.
 fn meet(t: &mut [u32], ts: usize, keys: &[u32], c: Call, m: Meeting)
@@ -35,12 +35,11 @@ fn meet(t: &mut [u32], ts: usize, keys: &[u32], c: Call, m: Meeting)
 {
     let caller = TaskNo(c.caller as usize);
     let h = HubNo(c.target as usize);
-    let waiter = m.waiter;
     stores::hold_hub(t, ts, h, m);
     moves::give_answer(t, ts, caller, rules::OK, m.word);
-    if 1 <= waiter {
-        if waiter <= 16 {
-            moves::wake_task(t, ts, keys, TaskNo((waiter - 1) as usize), rules::OK, m.its);
+    if let Some(waiter) = m.waiter {
+        if waiter.0 < 16 {
+            moves::wake_task(t, ts, keys, waiter, rules::OK, m.its);
         }
     }
 }
@@ -53,10 +52,10 @@ fn meet_first(t: &mut [u32], ts: usize, keys: &[u32], h: HubNo, w: u64)
     ensures { (L : Layout) (s : State) → Laid ts L → Sound s → h.0 < length s.hubs → t.old ≡ words L s
         → t.new ≡ words L (meet_one (key_of keys.now) w (hub s h.0).waiters s) }
 {
-    let e = lists::word(&*t, records::waits_at(ts, h));
-    if 1 <= e {
-        if e <= 16 {
-            moves::wake_task(t, ts, keys, TaskNo((e - 1) as usize), rules::OK, w);
+    let first = records::entry(lists::word(&*t, records::waits_at(ts, h)));
+    if let Some(first) = first {
+        if first.0 < 16 {
+            moves::wake_task(t, ts, keys, first, rules::OK, w);
         }
     }
 }
@@ -69,10 +68,8 @@ fn meet_all(t: &mut [u32], ts: usize, keys: &[u32], h: HubNo, w: u64)
     ensures { (L : Layout) (s : State) → Laid ts L → Sound s → h.0 < length s.hubs → t.old ≡ words L s
         → t.new ≡ words L (meet_all (key_of keys.now) (meetings w (hub s h.0).waiters) s) }
 {
-    let mut k = 0;
-    while k < records::LIST_SIZE {
+    for _ in 0..records::LIST_SIZE {
         meet_first(t, ts, keys, h, w);
-        k += 1;
     }
 }
 
@@ -93,7 +90,7 @@ fn update(t: &mut [u32], ts: usize, keys: &[u32], c: Call)
         count: 1,
         store: Store::TakeAppend(word),
         word: 0,
-        waiter: 0,
+        waiter: None,
         its: 0,
     };
     stores::hold_hub(t, ts, h, m);
@@ -106,12 +103,7 @@ fn kept_word(kind: u32, side: u32, word: u64) -> u64
     ensures upper_bound { result ≤ word }
     ensures value { (h : Hub) (c : Call) → kind ≡ h.kind → side ≡ c.side → word ≡ message c → result ≡ kept h c }
 {
-    if side != rules::PUT {
-        return 0;
-    }
-    if (kind == rules::PORT)
-        | ((kind == rules::FIFO) | ((kind == rules::BOARD) | (kind == rules::MEMORY)))
-    {
+    if (side == rules::PUT) & rules::bears_word(kind) {
         word
     } else {
         0
@@ -136,13 +128,12 @@ fn make_waiting(t: &mut [u32], ts: usize, c: Call, word: u64)
         caller,
         TaskRecord {
             state: rules::WAITING,
-            suspended: x.suspended,
-            priority: x.priority,
             hub: c.target + 1,
             ticks: c.ticks,
             side: c.side,
             word,
             answer: 0,
+            ..x
         },
     );
 }
@@ -221,7 +212,7 @@ pub fn request(t: &mut [u32], ts: usize, keys: &[u32], c: Call) -> Served
         → Leaves L (serve (key_of keys.now) HubRequest s c) c result.ahead t.new }
 {
     let x = stores::hub_at(&*t, ts, HubNo(c.target as usize));
-    if (x.kind == rules::BOARD) & (c.side == rules::PUT) {
+    if (Kind::of(x.kind) == Some(Kind::Board)) & (c.side == rules::PUT) {
         update(t, ts, keys, c);
         Served { ahead: 0 }
     } else {
