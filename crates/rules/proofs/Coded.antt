@@ -5,7 +5,7 @@ use Prim.Native.Nat.{suc, zero, ℕ}
 use Rattle.lists.proofs.Laws.{bool_case}
 use Rattle.rules.specs.Calls.{AddHub, AddTask, Blank, HubRequest, Resume, Service, Sleep, Start, Stop, Suspend, Tick, Unknown, Yield, service_of}
 use Rattle.rules.specs.Refusals.{behind, by_running, good_message, need, on_table, on_task, refusal, refusal_at, refusal_for, refusal_in}
-use Rattle.rules.specs.Reply.{code, given, refusal_number, refusal_with, summary_in, summary_refusal}
+use Rattle.rules.specs.Reply.{code, given, number_given, refusal_number, refusal_with, summary_in, summary_refusal}
 use Rattle.rules.specs.Table.{Layout, State, size}
 use Rattle.rules.specs.WellFormed.{well_formed_in}
 use Rattle.rules.specs.declared.Call.{Call}
@@ -32,6 +32,16 @@ pub given-number : {A : Type 0} (n : ℕ) (x : A) → coded n ≡ true → refus
 unfolding given
 given-number zero x e = refl
 given-number (suc r) x e = eqb-true _ (suc r) e
+
+-- what is given where nothing is refused, and where something is
+pub given_0 : {A : Type 0} (n : ℕ) (x : A) → n ≡ 0 → given n x ≡ Ok x
+unfolding given
+given_0 n x z = rw z refl
+
+pub number_given-0 : (n x : ℕ) → (n ≡ 0 → ⊥) → number_given (given n x) ≡ 0
+unfolding given
+number_given-0 zero x d = absurd (d refl)
+number_given-0 (suc r) x d = refl
 
 -- a refusal is the one with its number
 pub with-code : (e : Refusal) → refusal_with (code e) ≡ e

@@ -60,6 +60,11 @@ abbrev pub refusal_number : {A : Type 0} → Result A Refusal → ℕ
 refusal_number (Ok x) = 0
 refusal_number (Err e) = code e
 
+-- the length of a listing and the number of entries, which a refusal gives as 0
+abbrev pub number_given : Result ℕ Refusal → ℕ
+number_given (Ok n) = n
+number_given (Err e) = 0
+
 -- "A refused call gives answer 0"
 abbrev pub answer_number : Result Outcome Refusal → ℕ
 answer_number (Ok o) = outcome_number o
