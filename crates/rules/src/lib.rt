@@ -171,7 +171,8 @@ pub enum Outcome {
     Fail,
 }
 
-// An accepted call carries its outcome; a refused one bears its refusal. "Next is the running task plus 1, or 0." Ahead: how many requests stand before the caller's, where it has to wait at a hub; else 0.
+// An accepted call carries its outcome; a refused one bears its refusal. "Next is the running task plus 1, or 0." Ahead: how many
+// requests stand before the caller's, where it has to wait at a hub; else 0.
 #[derive(Clone, Copy)]
 pub struct Reply {
     pub answer: Result<Outcome, Refusal>,
