@@ -5,11 +5,12 @@
 
 ghost use Rattle.comparer.specs.Comparer.{entry_lines};
 ghost use Rattle.lines.specs.Lines.{printed};
-ghost use Rattle.texts.specs.Texts.{Put};
+ghost use Rattle.texts.specs.Texts.{Wrote};
 ghost use Rattle.std.specs.Prelude.{[], ◌∷◌};
 
-use std::fs::File;
+use std::io;
 use std::io::Write;
+use texts::Writer;
 
 // "2,976 bytes" of edition 2, and one byte more, which shows that there are too many.
 const INPUT: usize = 4 * records::TABLE_SIZE_TWO + 1;
@@ -26,35 +27,26 @@ const VERDICT: &str = "/dev/fd/3";
 const SECOND: &str = "/dev/fd/4";
 
 // A line of three numbers.
-fn put_entry(out: &mut [u8], at: usize, place: u32, old: u32, new: u32) -> usize
-    ensures { Put out.old at (printed (place ∷ old ∷ new ∷ [])) result out.new }
+fn put_entry(out: &mut Writer, place: u32, old: u32, new: u32)
+    ensures { Wrote out.old (printed (place ∷ old ∷ new ∷ [])) out.new }
 {
-    let a = texts::put_between(out, at, b"", place, b" ");
-    let b = texts::put_between(out, a, b"", old, b" ");
-    texts::put_between(out, b, b"", new, b"\n")
+    out.number(place);
+    out.between(b" ", old, b" ");
+    out.number(new);
+    out.byte(b'\n');
 }
 
 // The entries, three words each, as lines.
-fn put_entries(out: &mut [u8], places: &[u32], count: u32) -> usize
-    ensures { Put out.old 0 (entry_lines places.now 0 count) result out.new }
+fn put_entries(out: &mut Writer, places: &[u32], count: u32)
+    ensures { Wrote out.old (entry_lines places.now 0 count) out.new }
 {
-    let mut end = 0;
-    let mut p = 0;
-    let mut k = 0;
-    while k < count {
+    for k in 0..count {
+        let p = 3 * k as usize;
         let place = lists::word(places, p);
         let old = lists::word(places, p + 1);
         let new = lists::word(places, p + 2);
-        end = put_entry(out, end, place, old, new);
-        p += 3;
-        k += 1;
+        put_entry(out, place, old, new);
     }
-    end
-}
-
-// A number of the verdict and the byte behind it.
-fn tell(told: &mut File, number: u64, after: &str) {
-    let _ = write!(told, "{number}{after}");
 }
 
 // The verdict: each table's own refusal, the comparison's, how many words differ, how many bytes came of each table. Nothing waits
@@ -69,45 +61,32 @@ fn verdict(
     other: usize,
 ) {
     if let Some(mut told) = streams::to_write(rt, VERDICT) {
-        tell(&mut told, first as u64, " ");
-        tell(&mut told, second as u64, " ");
-        tell(&mut told, refusal as u64, " ");
-        tell(&mut told, count as u64, " ");
-        tell(&mut told, came as u64, " ");
-        tell(&mut told, other as u64, "\n");
+        let _ = writeln!(told, "{first} {second} {refusal} {count} {came} {other}");
     }
 }
 
-// The rows on standard output. False where the write has failed.
-fn write_rows(rt: &HostRuntime, a: &[u32], b: &[u32], text: &mut [u8]) -> bool {
+// The rows on standard output.
+fn write_rows(rt: &HostRuntime, a: &[u32], b: &[u32], text: &mut [u8]) -> io::Result<()> {
     let shown = sidebyside::show(a, b, text);
-    let length = shown.length as usize;
-    if text.len() < length {
-        return false;
-    }
-    rt.write_all(&text[..length]).is_ok()
+    let end = shown.length as usize;
+    rt.write_all(&text[..end.min(text.len())])
 }
 
 // The entries behind them, likewise.
-fn write_entries(rt: &HostRuntime, places: &[u32], count: u32, text: &mut [u8]) -> bool {
-    let end = put_entries(text, places, count);
-    if text.len() < end {
-        return false;
-    }
-    rt.write_all(&text[..end]).is_ok()
+fn write_entries(rt: &HostRuntime, places: &[u32], count: u32, text: &mut [u8]) -> io::Result<()> {
+    let mut out = Writer::new(text);
+    put_entries(&mut out, places, count);
+    let end = out.end;
+    rt.write_all(&text[..end.min(text.len())])
 }
 
 // What is to be said of two tables, of which so many bytes stood on the descriptors.
-fn compare(rt: &HostRuntime, a: &[u32], b: &[u32], came: usize, other: usize) {
+fn compare(rt: &HostRuntime, a: &[u32], b: &[u32], came: usize, other: usize) -> io::Result<()> {
     let mut text = [0u8; TEXT];
     let mut places = [0u32; PLACES];
-    if !write_rows(rt, a, b, &mut text) {
-        return;
-    }
+    write_rows(rt, a, b, &mut text)?;
     let compared = differences::compare(a, b, &mut places);
-    if !write_entries(rt, &places, compared.count, &mut text) {
-        return;
-    }
+    write_entries(rt, &places, compared.count, &mut text)?;
     let first = differences::refusal_of(a);
     let second = differences::refusal_of(b);
     verdict(
@@ -119,6 +98,7 @@ fn compare(rt: &HostRuntime, a: &[u32], b: &[u32], came: usize, other: usize) {
         came,
         other,
     );
+    Ok(())
 }
 
 fn main(rt: HostRuntime) {
@@ -130,5 +110,5 @@ fn main(rt: HostRuntime) {
     let mut new = [0u32; records::TABLE_SIZE_TWO];
     let n = tablebytes::table_words(&first[..came], &mut old);
     let m = tablebytes::table_words(&second[..other], &mut new);
-    compare(&rt, &old[..n], &new[..m], came, other);
+    let _ = compare(&rt, &old[..n], &new[..m], came, other);
 }

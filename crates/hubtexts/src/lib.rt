@@ -5,159 +5,135 @@
 
 ghost use Rattle.std.specs.Prelude.{◌≤◌};
 ghost use Rattle.hubtexts.specs.Cells.{block_text, blocks_text, board_text, count_text, held_from, holds_text, kind_text, none_text, word_text, words_text};
-ghost use Rattle.texts.specs.Texts.{Put};
+ghost use Rattle.texts.specs.Texts.{Wrote};
 
 use records::HubRecord;
+use texts::Writer;
 
 // The kind of a hub, with its limit and start where a kind leaves them open.
-pub fn put_kind(out: &mut [u8], at: usize, x: HubRecord) -> usize
-    ensures { Put out.old at (kind_text x) result out.new }
+#[tactic(auto, unfolding(crate::specs::Cells::kind_text))]
+pub fn put_kind(out: &mut Writer, x: HubRecord)
+    ensures { Wrote out.old (kind_text x) out.new }
 {
-    if x.kind == rules::EVENT {
-        return texts::put_bytes(out, at, b"Event");
+    match x.kind {
+        rules::EVENT => out.bytes(b"Event"),
+        rules::SEMAPHORE => {
+            out.between(b"Semaphore, limit ", x.limit, b", start ");
+            out.number(x.start);
+        }
+        rules::PORT => out.bytes(b"Port"),
+        rules::FIFO => out.labelled(b"FIFO, limit ", x.limit),
+        rules::RESOURCE => out.bytes(b"Resource"),
+        rules::BOARD => out.bytes(b"Board"),
+        _ => out.labelled(b"Memory, limit ", x.limit),
     }
-    if x.kind == rules::SEMAPHORE {
-        let a = texts::put_between(out, at, b"Semaphore, limit ", x.limit, b", start ");
-        return texts::put_number(out, a, x.start);
-    }
-    if x.kind == rules::PORT {
-        return texts::put_bytes(out, at, b"Port");
-    }
-    if x.kind == rules::FIFO {
-        return texts::put_between(out, at, b"FIFO, limit ", x.limit, b"");
-    }
-    if x.kind == rules::RESOURCE {
-        return texts::put_bytes(out, at, b"Resource");
-    }
-    if x.kind == rules::BOARD {
-        return texts::put_bytes(out, at, b"Board");
-    }
-    texts::put_between(out, at, b"Memory, limit ", x.limit, b"")
 }
 
 // The k-th word of a FIFO, from 0.
-fn put_word(out: &mut [u8], at: usize, k: u32, m: u64) -> usize
-    ensures { Put out.old at (word_text k m) result out.new }
+fn put_word(out: &mut Writer, k: u32, m: u64)
+    ensures { Wrote out.old (word_text k m) out.new }
 {
-    if k == 0 {
-        return texts::put_message(out, at, m);
+    if k != 0 {
+        out.bytes(b", ");
     }
-    let a = texts::put_bytes(out, at, b", ");
-    texts::put_message(out, a, m)
+    texts::put_message(out, m);
 }
 
 // The words of a FIFO: `count` messages of w words each, the first at word `from`.
-fn put_words(out: &mut [u8], at: usize, t: &[u32], from: usize, w: usize, count: u32) -> usize
+fn put_words(out: &mut Writer, t: &[u32], from: usize, w: usize, count: u32)
     requires from_bound { from ≤ 65535 }
     requires w_bound { w ≤ 2 }
-    ensures { Put out.old at (words_text (held_from w t.now from count)) result out.new }
+    ensures { Wrote out.old (words_text (held_from w t.now from count)) out.new }
 {
     if count == 0 {
-        return texts::put_bytes(out, at, b"empty");
+        out.bytes(b"empty");
+        return;
     }
-    let mut end = at;
     let mut p = from;
-    let mut k = 0;
-    while k < count {
-        let m = messages::message(t, p, w);
-        end = put_word(out, end, k, m);
+    for k in 0..count {
+        put_word(out, k, messages::message(t, p, w));
         p += w;
-        k += 1;
     }
-    end
 }
 
 // What a hub holds; its store starts at word `from`, in messages of w words each.
-pub fn put_holds(out: &mut [u8], at: usize, t: &[u32], from: usize, w: usize, x: HubRecord) -> usize
+#[tactic(auto, unfolding(crate::specs::Cells::holds_text))]
+pub fn put_holds(out: &mut Writer, t: &[u32], from: usize, w: usize, x: HubRecord)
     requires from_bound { from ≤ 65535 }
     requires w_bound { w ≤ 2 }
-    ensures { Put out.old at (holds_text w t.now from x) result out.new }
+    ensures { Wrote out.old (holds_text w t.now from x) out.new }
 {
-    if x.kind == rules::FIFO {
-        return put_words(out, at, t, from, w, x.count);
+    match x.kind {
+        rules::FIFO => put_words(out, t, from, w, x.count),
+        rules::BOARD => put_board(out, t, from, w, x.count),
+        rules::MEMORY => put_blocks(out, t, from, w),
+        _ => put_count(out, x),
     }
-    if x.kind == rules::BOARD {
-        return put_board(out, at, t, from, w, x.count);
-    }
-    if x.kind == rules::MEMORY {
-        return put_blocks(out, at, t, from, w);
-    }
-    put_count(out, at, x)
 }
 
 // Block b of a Memory hub; k were named before.
-fn put_block(out: &mut [u8], at: usize, k: u32, b: u32) -> usize
-    ensures { Put out.old at (block_text k b) result out.new }
+#[tactic(auto, unfolding(crate::specs::Cells::block_text))]
+fn put_block(out: &mut Writer, k: u32, b: u32)
+    ensures { Wrote out.old (block_text k b) out.new }
 {
     if k == 0 {
-        return texts::put_between(out, at, b"blocks out: ", b, b"");
+        out.labelled(b"blocks out: ", b);
+    } else {
+        out.labelled(b", ", b);
     }
-    texts::put_between(out, at, b", ", b, b"")
 }
 
 // Behind the last block: that none is out, where none was named.
-fn put_none(out: &mut [u8], at: usize, k: u32) -> usize
-    ensures { Put out.old at (none_text k) result out.new }
+fn put_none(out: &mut Writer, k: u32)
+    ensures { Wrote out.old (none_text k) out.new }
 {
     if k == 0 {
-        return texts::put_bytes(out, at, b"no block out");
+        out.bytes(b"no block out");
     }
-    at
 }
 
 // The blocks of a Memory hub that are out, by its eight marks, messages of w words each, the first at word `from`.
-fn put_blocks(out: &mut [u8], at: usize, t: &[u32], from: usize, w: usize) -> usize
+fn put_blocks(out: &mut Writer, t: &[u32], from: usize, w: usize)
     requires from_bound { from ≤ 65535 }
     requires w_bound { w ≤ 2 }
-    ensures { Put out.old at (blocks_text w t.now from) result out.new }
+    ensures { Wrote out.old (blocks_text w t.now from) out.new }
 {
-    let mut end = at;
     let mut p = from;
     let mut k = 0;
-    let mut b = 0;
-    while b < rules::MOST_HELD {
-        let m = messages::message(t, p, w);
-        if m != 0 {
-            end = put_block(out, end, k, b);
+    for b in 0..rules::MOST_HELD {
+        if messages::message(t, p, w) != 0 {
+            put_block(out, k, b);
             k += 1;
         }
         p += w;
-        b += 1;
     }
-    put_none(out, end, k)
+    put_none(out, k);
 }
 
 // What a Board holds.
-fn put_board(out: &mut [u8], at: usize, t: &[u32], from: usize, w: usize, count: u32) -> usize
+fn put_board(out: &mut Writer, t: &[u32], from: usize, w: usize, count: u32)
     requires { from ≤ 65535 }
-    ensures { Put out.old at (board_text w t.now from count) result out.new }
+    ensures { Wrote out.old (board_text w t.now from count) out.new }
 {
     if count == 0 {
-        return texts::put_bytes(out, at, b"not written");
+        out.bytes(b"not written");
+    } else {
+        out.bytes(b"written: ");
+        texts::put_message(out, messages::message(t, from, w));
     }
-    let a = texts::put_bytes(out, at, b"written: ");
-    let m = messages::message(t, from, w);
-    texts::put_message(out, a, m)
 }
 
 // What a hub holds whose count says all.
-fn put_count(out: &mut [u8], at: usize, x: HubRecord) -> usize
-    ensures { Put out.old at (count_text x) result out.new }
+#[tactic(auto, unfolding(crate::specs::Cells::count_text))]
+fn put_count(out: &mut Writer, x: HubRecord)
+    ensures { Wrote out.old (count_text x) out.new }
 {
-    if x.kind == rules::EVENT {
-        if x.count == 0 {
-            return texts::put_bytes(out, at, b"not set");
-        }
-        return texts::put_bytes(out, at, b"set");
+    match (x.kind, x.count) {
+        (rules::EVENT, 0) => out.bytes(b"not set"),
+        (rules::EVENT, _) => out.bytes(b"set"),
+        (rules::SEMAPHORE, n) => out.labelled(b"count ", n),
+        (rules::RESOURCE, 0) => out.bytes(b"free"),
+        (rules::RESOURCE, owner) => out.labelled(b"owner: task ", texts::named(owner)),
+        _ => out.bytes(b"nothing"),
     }
-    if x.kind == rules::SEMAPHORE {
-        return texts::put_between(out, at, b"count ", x.count, b"");
-    }
-    if x.kind == rules::RESOURCE {
-        if x.count == 0 {
-            return texts::put_bytes(out, at, b"free");
-        }
-        return texts::put_between(out, at, b"owner: task ", texts::named(x.count), b"");
-    }
-    texts::put_bytes(out, at, b"nothing")
 }

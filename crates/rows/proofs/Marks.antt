@@ -4,7 +4,7 @@ use Prim.Native.Nat.{◌+◌, ◌-◌, ◌<◌, ◌≤◌, suc, ℕ}
 use Rattle.rows.specs.Rows.{differ}
 use borrow.Author.Tests.{eq-eqb, ne_eqb}
 use lib.ListN.{get_or}
-use mathlib.Core.Bool.{Bool, cond, false, true}
+use mathlib.Core.Bool.{Bool, false, true}
 use mathlib.Core.List.{List}
 use mathlib.Core.Path.{◌∙◌, ◌≡◌, ap, refl, sym}
 use native.Mathlib.Nat.{add-zero, sub-zero}
@@ -40,14 +40,3 @@ module _ (a b : List ℕ) (p n : ℕ) where
     pub differ_same : x ≡ y → differ_left j ≡ differ_left (j + 1)
     unfolding differ
     differ_same e = let s : p + (j + 1) ≡ suc (p + j) = omega arith in rw (more, first_is, second_is, eq-eqb x y e, s) refl
-
--- ---- the verdict on one run of words, put to use
-
--- the same run, its first place said otherwise
-pub moved : (a b : List ℕ) (p q n : ℕ) {x : Bool} → x ≡ differ a b p n → p ≡ q → differ a b q n ≡ x
-moved a b p q n e h = rw (← h) (sym e)
-
--- a row that covers one run
-pub only : (x : Bool) → cond (cond x true false) true false ≡ x
-only true = refl
-only false = refl

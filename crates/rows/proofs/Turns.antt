@@ -9,6 +9,7 @@ use Rattle.rows.specs.declared.Row.{Row}
 use Rattle.rules.specs.Table.{tab}
 use borrow.Author.Tests.{ltb-true}
 use lib.Dec.{eqb, ltb}
+use mir.Val.{bool_byte}
 use mathlib.Core.Bool.{Bool, cond, false, false≢true, true}
 use mathlib.Core.List.Memᴰ
 use mathlib.Core.List.{List, Memᴰ, [], ◌∷◌}
@@ -67,6 +68,15 @@ pub row_few : (r : Row) → Memᴰ r rows → row_number r < 16
 row_few r m = low-row rows low_rows_lem r m
 
 -- ---- what is left to count
+
+-- a mark as a number, by `u32::from`
+pub byte_bit : (m : Bool) → bool_byte m ≡ bit m
+byte_bit true = refl
+byte_bit false = refl
+
+pub bit_low : (m : Bool) → bit m ≤ 1
+bit_low true = omega arith
+bit_low false = omega arith
 
 module _ (ts : ℕ) (a b : List ℕ) (ra rb : ℕ) where
   abbrev pub marked_left : ℕ → ℕ

@@ -4,14 +4,14 @@
 #![tactic(auto)]
 
 ghost use Rattle.std.specs.Prelude.{◌*◌, ◌+◌, ◌≤◌, ◌≡◌};
-ghost use Rattle.lists.specs.Lists.{bit};
+ghost use Rattle.records.specs.Records.{hubs_at};
 ghost use Rattle.rows.specs.Rows.{KeysOf, hub_row, marked_in, row_at, rows, task_row};
 ghost use Rattle.rows.specs.Rows.{apart, differ, marked, shown, used};
 
 use records::HubNo;
 
 // What a row is about. A number is a task's or a hub's.
-#[derive(Clone, Copy)]
+#[derive(Clone, Copy, PartialEq, Eq, Debug)]
 pub enum Row {
     Contents,
     ReadyList,
@@ -31,288 +31,190 @@ const FIRST_TASK: u32 = 2;
 const FIRST_HUB: u32 = 50;
 
 // The k-th row, from 0.
+#[tactic(auto, unfolding(crate::specs::Rows::row_at))]
 pub fn row_at(k: u32) -> Row
     ensures { result ≡ row_at k }
 {
-    if k == 0 {
-        return Row::Contents;
+    match k {
+        0 => Row::Contents,
+        1 => Row::ReadyList,
+        FIRST_TASK..FIRST_HUB => task_row((k - FIRST_TASK) / 3, (k - FIRST_TASK) % 3),
+        _ => hub_row((k - FIRST_HUB) / 3, (k - FIRST_HUB) % 3),
     }
-    if k < FIRST_TASK {
-        return Row::ReadyList;
-    }
-    if k < FIRST_HUB {
-        return task_row((k - FIRST_TASK) / 3, (k - FIRST_TASK) % 3);
-    }
-    hub_row((k - FIRST_HUB) / 3, (k - FIRST_HUB) % 3)
 }
 
-// A task's rows, j from 0 to 2; and a hub's.
+// A task's rows, j from 0 to 2; and a hub's. Two functions, since what differs is three variants each: one that is handed them says no less.
+#[tactic(auto, unfolding(crate::specs::Rows::task_row))]
 fn task_row(i: u32, j: u32) -> Row
     ensures { result ≡ task_row i j }
 {
-    if j == 0 {
-        return Row::State(i);
+    match j {
+        0 => Row::State(i),
+        1 => Row::Priority(i),
+        _ => Row::Answer(i),
     }
-    if j == 1 {
-        return Row::Priority(i);
-    }
-    Row::Answer(i)
 }
 
+#[tactic(auto, unfolding(crate::specs::Rows::hub_row))]
 fn hub_row(h: u32, j: u32) -> Row
     ensures { result ≡ hub_row h j }
 {
-    if j == 0 {
-        return Row::Kind(h);
-    }
-    if j == 1 {
-        return Row::Holds(h);
-    }
-    Row::Waiting(h)
-}
-
-// Whether the table uses what the row is about.
-pub fn used(t: &[u32], row: Row) -> bool
-    ensures { result ≡ used t.now row }
-{
-    match row {
-        Row::Contents => true,
-        Row::ReadyList => true,
-        Row::State(i) => i < lists::word(t, records::TASKS),
-        Row::Priority(i) => i < lists::word(t, records::TASKS),
-        Row::Answer(i) => i < lists::word(t, records::TASKS),
-        Row::Kind(h) => h < lists::word(t, records::HUBS),
-        Row::Holds(h) => h < lists::word(t, records::HUBS),
-        Row::Waiting(h) => h < lists::word(t, records::HUBS),
+    match j {
+        0 => Row::Kind(h),
+        1 => Row::Holds(h),
+        _ => Row::Waiting(h),
     }
 }
 
-// Whether some of n words differs: of the i-th record of `size` words from word f on, where the records start at word `at`.
-fn differ(a: &[u32], b: &[u32], at: usize, size: usize, i: u32, f: usize, n: usize) -> bool
-    requires at_bound { at ≤ 65535 }
-    requires size_bound { size ≤ 65535 }
-    requires n_bound { f + n ≤ 65535 }
-    ensures { result ≡ differ a.now b.now (at + i * size + f) n }
-{
-    let mut j = 0;
-    while j < n {
-        let old = records::field(a, at, size, i as usize, f + j);
-        let new = records::field(b, at, size, i as usize, f + j);
-        if old != new {
-            return true;
+// A table as a comparison is handed it: its words, how many of them a task record has, who runs in it (the task plus 1, or 0), and
+// what its tasks' effective priorities are, worked out once.
+#[derive(Clone, Copy)]
+pub struct View<'a> {
+    pub words: &'a [u32],
+    pub ts: usize,
+    pub runs: u32,
+    pub keys: [u32; 16],
+    pub ghost le_ts: { 8 ≤ ts },
+    pub ghost ts_bound: { ts ≤ 9 },
+    pub ghost keys_of: { KeysOf words.now keys },
+}
+
+// Two tables of one edition.
+#[derive(Clone, Copy)]
+pub struct Pair<'a, 'b> {
+    pub left: View<'a>,
+    pub right: View<'b>,
+    pub ghost one_edition: { left.ts ≡ right.ts },
+}
+
+impl View<'_> {
+    // Whether the table uses what the row is about.
+    #[tactic(auto, unfolding(crate::specs::Rows::used))]
+    pub fn uses(&self, row: Row) -> bool
+        ensures { result ≡ used self.now.words.now row }
+    {
+        match row {
+            Row::Contents | Row::ReadyList => true,
+            Row::State(i) | Row::Priority(i) | Row::Answer(i) => {
+                i < lists::word(self.words, records::TASKS)
+            }
+            Row::Kind(h) | Row::Holds(h) | Row::Waiting(h) => {
+                h < lists::word(self.words, records::HUBS)
+            }
         }
-        j += 1;
     }
-    false
 }
 
-// What a hub holds: its count and its store, and, since a text says it by the kind, its kind.
-fn holds_apart(a: &[u32], b: &[u32], ts: usize, h: u32) -> bool
-    requires le_ts { 8 ≤ ts }
-    requires ts_bound { ts ≤ 9 }
-    ensures { result ≡ apart ts a.now b.now 0 0 (Row.Holds h) }
-{
-    if differ(
-        a,
-        b,
-        records::hubs_at(ts),
-        records::HUB_SIZE,
-        h,
-        records::COUNT,
-        1,
-    ) {
-        return true;
-    }
-    if differ(
-        a,
-        b,
-        records::stores_at(ts),
-        records::store_size(ts),
-        h,
-        0,
-        records::store_size(ts),
-    ) {
-        return true;
-    }
-    differ(
-        a,
-        b,
-        records::hubs_at(ts),
-        records::HUB_SIZE,
-        h,
-        records::KIND,
-        1,
-    )
-}
+impl Pair<'_, '_> {
+    ghost use Rattle.rows.specs.Views.{differ_from, how_many_marked, is_apart, is_marked, is_shown};
 
-// A task's priority: its own is a word of its record, its effective one follows from the locks of the whole table.
-fn priority_apart(a: &[u32], b: &[u32], ts: usize, ka: &[u32], kb: &[u32], i: u32) -> bool
-    requires le_ts { 8 ≤ ts }
-    requires ts_bound { ts ≤ 9 }
-    requires keys_of { KeysOf a.now ka.now }
-    requires keys_of_2 { KeysOf b.now kb.now }
-    ensures { result ≡ apart ts a.now b.now 0 0 (Row.Priority i) }
-{
-    if differ(a, b, records::TASKS_AT, ts, i, records::PRIORITY, 1) {
-        return true;
-    }
-    let old = lists::word(ka, i as usize);
-    let new = lists::word(kb, i as usize);
-    old != new
-}
-
-// Whether the words that a row covers differ, or what its text says beside them: of the ready list the task that runs, of a
-// priority the effective one (`ka` and `kb` are the keys of either table), of what a hub holds its kind.
-fn apart(
-    a: &[u32],
-    b: &[u32],
-    ts: usize,
-    ra: u32,
-    rb: u32,
-    ka: &[u32],
-    kb: &[u32],
-    row: Row,
-) -> bool
-    requires le_ts { 8 ≤ ts }
-    requires ts_bound { ts ≤ 9 }
-    requires keys_of { KeysOf a.now ka.now }
-    requires keys_of_2 { KeysOf b.now kb.now }
-    ensures { result ≡ apart ts a.now b.now ra rb row }
-{
-    match row {
-        Row::Contents => differ(a, b, 0, 0, 0, 0, records::TASKS_AT),
-        Row::ReadyList => differ(a, b, records::ready_at(ts), 0, 0, 0, records::LIST_SIZE)
-            || ra != rb,
-        Row::State(i) => {
-            differ(a, b, records::TASKS_AT, ts, i, records::STATE, 2)
-                || differ(a, b, records::TASKS_AT, ts, i, records::HUB, 3)
+    // Whether some of n words differs: of the i-th record of `size` words from word f on, where the records start at word `at`.
+    fn differ(&self, at: usize, size: usize, i: u32, f: usize, n: usize) -> bool
+        requires at_bound { at ≤ 65535 }
+        requires size_bound { size ≤ 65535 }
+        requires n_bound { f + n ≤ 65535 }
+        ensures { result ≡ differ_from self.now (at + i * size + f) n }
+    {
+        for j in 0..n {
+            let old = records::field(self.left.words, at, size, i as usize, f + j);
+            let new = records::field(self.right.words, at, size, i as usize, f + j);
+            if old != new {
+                return true;
+            }
         }
-        Row::Priority(i) => priority_apart(a, b, ts, ka, kb, i),
-        Row::Answer(i) => differ(
-            a,
-            b,
-            records::TASKS_AT,
-            ts,
-            i,
-            records::WORD,
-            records::width_of(ts) + 1,
-        ),
-        Row::Kind(h) => {
-            differ(
-                a,
-                b,
-                records::hubs_at(ts),
-                records::HUB_SIZE,
-                h,
-                records::KIND,
-                1,
-            ) || differ(
-                a,
-                b,
-                records::hubs_at(ts),
-                records::HUB_SIZE,
-                h,
-                records::LIMIT,
-                2,
-            )
+        false
+    }
+
+    // Of a task's record.
+    fn task_differs(&self, i: u32, f: usize, n: usize) -> bool
+        requires { f + n ≤ 65535 }
+        ensures { result ≡ differ_from self.now (8 + i * self.now.left.ts + f) n }
+    {
+        self.differ(records::TASKS_AT, self.left.ts, i, f, n)
+    }
+
+    // Of a hub's record.
+    fn hub_differs(&self, h: u32, f: usize, n: usize) -> bool
+        requires { f + n ≤ 65535 }
+        ensures { result ≡ differ_from self.now (hubs_at self.now.left.ts + h * 4 + f) n }
+    {
+        self.differ(records::hubs_at(self.left.ts), records::HUB_SIZE, h, f, n)
+    }
+
+    // What a hub holds: its count and its store, and, since a text says it by the kind, its kind.
+    #[tactic(auto, unfolding(crate::specs::Rows::apart, crate::specs::Rows::covers, crate::specs::Rows::differs, crate::specs::Rows::more_differs))]
+    fn holds_apart(&self, h: u32) -> bool
+        ensures { result ≡ is_apart self.now (Row.Holds h) }
+    {
+        let size = records::store_size(self.left.ts);
+        self.hub_differs(h, records::COUNT, 1)
+            || self.differ(records::stores_at(self.left.ts), size, h, 0, size)
+            || self.hub_differs(h, records::KIND, 1)
+    }
+
+    // A task's priority: its own is a word of its record, its effective one follows from the locks of the whole table.
+    #[tactic(auto, unfolding(crate::specs::Rows::apart, crate::specs::Rows::covers, crate::specs::Rows::differs, crate::specs::Rows::more_differs))]
+    fn priority_apart(&self, i: u32) -> bool
+        ensures { result ≡ is_apart self.now (Row.Priority i) }
+    {
+        let old = lists::word(&self.left.keys, i as usize);
+        let new = lists::word(&self.right.keys, i as usize);
+        self.task_differs(i, records::PRIORITY, 1) || old != new
+    }
+
+    // Whether the words that a row covers differ, or what its text says beside them: of the ready list the task that runs, of a
+    // priority the effective one, of what a hub holds its kind.
+    #[tactic(auto, unfolding(crate::specs::Rows::apart, crate::specs::Rows::covers, crate::specs::Rows::differs, crate::specs::Rows::more_differs))]
+    fn apart(&self, row: Row) -> bool
+        ensures { result ≡ is_apart self.now row }
+    {
+        let ts = self.left.ts;
+        match row {
+            Row::Contents => self.differ(0, 0, 0, 0, records::TASKS_AT),
+            Row::ReadyList => {
+                self.differ(records::ready_at(ts), 0, 0, 0, records::LIST_SIZE)
+                    || self.left.runs != self.right.runs
+            }
+            Row::State(i) => {
+                self.task_differs(i, records::STATE, 2) || self.task_differs(i, records::HUB, 3)
+            }
+            Row::Priority(i) => self.priority_apart(i),
+            Row::Answer(i) => self.task_differs(i, records::WORD, records::width_of(ts) + 1),
+            Row::Kind(h) => {
+                self.hub_differs(h, records::KIND, 1) || self.hub_differs(h, records::LIMIT, 2)
+            }
+            Row::Holds(h) => self.holds_apart(h),
+            Row::Waiting(h) => {
+                let at = records::waits_at(ts, HubNo(0));
+                self.differ(at, records::LIST_SIZE, h, 0, records::LIST_SIZE)
+            }
         }
-        Row::Holds(h) => holds_apart(a, b, ts, h),
-        Row::Waiting(h) => differ(
-            a,
-            b,
-            records::waits_at(ts, HubNo(0)),
-            records::LIST_SIZE,
-            h,
-            0,
-            records::LIST_SIZE,
-        ),
     }
-}
 
-// Whether the row is marked: one table alone uses what it is about, or what they say of it is apart.
-pub fn marked(
-    a: &[u32],
-    b: &[u32],
-    ts: usize,
-    ra: u32,
-    rb: u32,
-    ka: &[u32],
-    kb: &[u32],
-    row: Row,
-) -> bool
-    requires le_ts { 8 ≤ ts }
-    requires ts_bound { ts ≤ 9 }
-    requires keys_of { KeysOf a.now ka.now }
-    requires keys_of_2 { KeysOf b.now kb.now }
-    ensures { result ≡ marked ts a.now b.now ra rb row }
-{
-    if used(a, row) {
-        if !used(b, row) {
-            return true;
+    // Whether the row is marked: one table alone uses what it is about, or what they say of it is apart.
+    #[tactic(auto, unfolding(crate::specs::Rows::marked))]
+    pub fn marked(&self, row: Row) -> bool
+        ensures { result ≡ is_marked self.now row }
+    {
+        self.left.uses(row) != self.right.uses(row) || self.apart(row)
+    }
+
+    // Whether the row is shown: either table uses what it is about, or it is marked.
+    #[tactic(auto, unfolding(crate::specs::Rows::shown))]
+    pub fn is_shown(&self, row: Row) -> bool
+        ensures { result ≡ is_shown self.now row }
+    {
+        self.left.uses(row) || self.right.uses(row) || self.marked(row)
+    }
+
+    // How many rows are marked.
+    pub fn count_marked(&self) -> u32
+        ensures { result ≡ how_many_marked self.now rows }
+    {
+        let mut count = 0;
+        for k in 0..ROWS {
+            count += u32::from(self.marked(row_at(k)));
         }
-        return apart(a, b, ts, ra, rb, ka, kb, row);
+        count
     }
-    if used(b, row) {
-        return true;
-    }
-    apart(a, b, ts, ra, rb, ka, kb, row)
-}
-
-// Whether the row is shown: either table uses what it is about, or it is marked.
-pub fn is_shown(
-    a: &[u32],
-    b: &[u32],
-    ts: usize,
-    ra: u32,
-    rb: u32,
-    ka: &[u32],
-    kb: &[u32],
-    row: Row,
-) -> bool
-    requires le_ts { 8 ≤ ts }
-    requires ts_bound { ts ≤ 9 }
-    requires keys_of { KeysOf a.now ka.now }
-    requires keys_of_2 { KeysOf b.now kb.now }
-    ensures { result ≡ shown ts a.now b.now ra rb row }
-{
-    if used(a, row) {
-        return true;
-    }
-    if used(b, row) {
-        return true;
-    }
-    marked(a, b, ts, ra, rb, ka, kb, row)
-}
-
-// A mark as a number.
-fn bit_of(m: bool) -> u32
-    ensures value { result ≡ bit m }
-    ensures upper_bound { result ≤ 1 }
-{
-    if m { 1 } else { 0 }
-}
-
-// How many rows are marked.
-pub fn count_marked(
-    a: &[u32],
-    b: &[u32],
-    ts: usize,
-    ra: u32,
-    rb: u32,
-    ka: &[u32],
-    kb: &[u32],
-) -> u32
-    requires le_ts { 8 ≤ ts }
-    requires ts_bound { ts ≤ 9 }
-    requires keys_of { KeysOf a.now ka.now }
-    requires keys_of_2 { KeysOf b.now kb.now }
-    ensures { result ≡ marked_in ts a.now b.now ra rb rows }
-{
-    let mut count = 0;
-    let mut k = 0;
-    while k < ROWS {
-        count += bit_of(marked(a, b, ts, ra, rb, ka, kb, row_at(k)));
-        k += 1;
-    }
-    count
 }

@@ -28,7 +28,6 @@ use lib.Seq.{sets, sets-eq, take_at}
 use mathlib.Core.Bool.{false, true}
 use mathlib.Core.List.{List, ◌++◌}
 use mathlib.Core.Path.{◌∙◌, ◌≡◌, ap, refl, sym}
-use native.Mathlib.Nat.{zero-add}
 use native.Mathlib.Omega.{arith}
 
 -- ---- the tables' own refusals
@@ -110,13 +109,12 @@ module _ (rows_of : List ℕ) (marks : ℕ) (text : List ℕ) where
   unfolding need refusal_for
   refused_8 r e h = refused_by 0 rows_of marks text 8 r e (λ z. omega (arith, z)) (rw (lt-leb (length rows_of) (length text) h) refl)
 
-  pub shown-all : (end : ℕ) (text' : List ℕ) → end ≡ length rows_of → length rows_of ≤ length text → text' ≡ put text 0 rows_of
+  pub shown-all : (end : ℕ) (text' : List ℕ) → end ≡ length rows_of → length rows_of ≤ length text → text' ≡ rows_of ++ drop end text
       → ShownAs 0 rows_of marks text (record { refusal = 0; length = end; marked = marks }) text'
-  unfolding need put refusal_for reply_for text_after
+  unfolding need refusal_for reply_for text_after
   shown-all end text' e h w =
       let fits : leb (length rows_of) (length text) ≡ true = le-leb (length rows_of) (length text) h in
-      let whole : sets text 0 rows_of ≡ rows_of ++ drop (0 + length rows_of) text = sets-eq rows_of text 0 (omega arith) in
-      record { reply = rw (fits, e) refl; bytes = w ∙ rw fits (whole ∙ rw zero-add) }
+      record { reply = rw (fits, e) refl; bytes = w ∙ rw (fits, e) refl }
 
 -- the rows in the buffer of our own
 pub record Held (rows_of : List ℕ) (end : ℕ) (scratch : List ℕ) : Type 0 where

@@ -4,12 +4,15 @@
 #![tactic(auto)]
 
 ghost use Rattle.std.specs.Prelude.{◌<◌, ◌≤◌, length, ◌≡◌};
-ghost use Rattle.rows.specs.Rows.{KeysOf, marked_in, row_number, rows};
-ghost use Rattle.sidebyside.specs.RowLines.{line_text, row_text, rows_text};
-ghost use Rattle.sidebyside.specs.Shows.{ShownAs, Shows, pair_refusal};
-ghost use Rattle.texts.specs.Texts.{Put};
+ghost use Rattle.differences.specs.Differences.{table_refusal};
+ghost use Rattle.rows.specs.Rows.{row_number, rows};
+ghost use Rattle.rows.specs.Views.{how_many_marked};
+ghost use Rattle.sidebyside.specs.RowLines.{line_of, row_of, rows_of};
+ghost use Rattle.sidebyside.specs.Shows.{ShownAs, Shows, pair_refusal, runs_in, size_of};
+ghost use Rattle.texts.specs.Texts.{Put, Wrote};
 
-use rows::Row;
+use rows::{Pair, Row, View};
+use texts::Writer;
 
 // The refusal, how many bytes were written, and how many rows are marked.
 #[derive(Clone, Copy)]
@@ -22,88 +25,46 @@ pub struct Shown {
 // More room than the rows of two tables take (proofs/Promise, `text_short`).
 const ROOM: usize = 65536;
 
-const TAB: u8 = 9;
-
-const NEWLINE: u8 = 10;
-
 // The line of a row.
-fn put_line(
-    out: &mut [u8],
-    at: usize,
-    a: &[u32],
-    b: &[u32],
-    ts: usize,
-    ra: u32,
-    rb: u32,
-    ka: &[u32],
-    kb: &[u32],
-    row: Row,
-) -> usize
-    requires le_ts { 8 ≤ ts }
-    requires ts_bound { ts ≤ 9 }
-    requires row_bound { row_number row < 16 }
-    requires keys_of { KeysOf a.now ka.now }
-    requires keys_of_2 { KeysOf b.now kb.now }
-    ensures { Put out.old at (line_text ts a.now b.now ra rb row) result out.new }
+fn put_line(out: &mut Writer, tables: &Pair, row: Row)
+    requires { row_number row < 16 }
+    ensures { Wrote out.old (line_of tables.now row) out.new }
 {
-    let mark = rowtexts::put_mark(out, at, rows::marked(a, b, ts, ra, rb, ka, kb, row));
-    let left = rowtexts::put_title(out, mark, row);
-    let tab = rowtexts::put_cell(out, left, a, ts, ra, ka, row);
-    let right = texts::put_byte(out, tab, TAB);
-    let end = rowtexts::put_cell(out, right, b, ts, rb, kb, row);
-    texts::put_byte(out, end, NEWLINE)
+    rowtexts::put_mark(out, tables.marked(row));
+    rowtexts::put_title(out, row);
+    rowtexts::put_cell(out, &tables.left, row);
+    out.byte(b'\t');
+    rowtexts::put_cell(out, &tables.right, row);
+    out.byte(b'\n');
 }
 
 // A row, where it is shown.
-fn put_row(
-    out: &mut [u8],
-    at: usize,
-    a: &[u32],
-    b: &[u32],
-    ts: usize,
-    ra: u32,
-    rb: u32,
-    ka: &[u32],
-    kb: &[u32],
-    row: Row,
-) -> usize
-    requires le_ts { 8 ≤ ts }
-    requires ts_bound { ts ≤ 9 }
-    requires row_bound { row_number row < 16 }
-    requires keys_of { KeysOf a.now ka.now }
-    requires keys_of_2 { KeysOf b.now kb.now }
-    ensures { Put out.old at (row_text ts a.now b.now ra rb row) result out.new }
+#[tactic(auto, unfolding(crate::specs::RowLines::row_text))]
+fn put_row(out: &mut Writer, tables: &Pair, row: Row)
+    requires { row_number row < 16 }
+    ensures { Wrote out.old (row_of tables.now row) out.new }
 {
-    if rows::is_shown(a, b, ts, ra, rb, ka, kb, row) {
-        return put_line(out, at, a, b, ts, ra, rb, ka, kb, row);
+    if tables.is_shown(row) {
+        put_line(out, tables, row);
     }
-    at
 }
 
-// All rows, from the buffer's start on.
-fn put_rows(
-    out: &mut [u8],
-    a: &[u32],
-    b: &[u32],
-    ts: usize,
-    ra: u32,
-    rb: u32,
-    ka: &[u32],
-    kb: &[u32],
-) -> usize
-    requires le_ts { 8 ≤ ts }
-    requires ts_bound { ts ≤ 9 }
-    requires keys_of { KeysOf a.now ka.now }
-    requires keys_of_2 { KeysOf b.now kb.now }
-    ensures { Put out.old 0 (rows_text ts a.now b.now ra rb rows) result out.new }
+// All rows.
+fn put_rows(out: &mut Writer, tables: &Pair)
+    ensures { Wrote out.old (rows_of tables.now rows) out.new }
 {
-    let mut end = 0;
-    let mut k = 0;
-    while k < rows::ROWS {
-        end = put_row(out, end, a, b, ts, ra, rb, ka, kb, rows::row_at(k));
-        k += 1;
+    for k in 0..rows::ROWS {
+        put_row(out, tables, rows::row_at(k));
     }
-    end
+}
+
+// All rows from a buffer's start on, and the place where they end.
+fn rows_into(buffer: &mut [u8], tables: &Pair) -> usize
+    ensures { Put buffer.old 0 (rows_of tables.now rows) result buffer.new }
+{
+    let mut out = Writer::new(buffer);
+    put_rows(&mut out, tables);
+    out.end
 }
 
 // The tables' own refusals: 1 and 2 of the first, then of the second, then 13; else 0.
@@ -135,36 +96,37 @@ fn refused(number: u32) -> Shown
     }
 }
 
-// The rows of two tables whose task records have ts words, ra and rb being who runs in each, ka and kb its keys. They are written into a buffer of our
-// own first, which has room for all, so that a text without room leaves the caller's alone.
-fn show_in(
-    a: &[u32],
-    b: &[u32],
-    ts: usize,
-    ra: u32,
-    rb: u32,
-    ka: &[u32],
-    kb: &[u32],
-    text: &mut [u8],
-) -> Shown
-    requires le_ts { 8 ≤ ts }
-    requires ts_bound { ts ≤ 9 }
-    requires rows_len_bound { length (rows_text ts a.now b.now ra rb rows) ≤ 65535 }
-    requires keys_of { KeysOf a.now ka.now }
-    requires keys_of_2 { KeysOf b.now kb.now }
-    ensures { ShownAs 0 (rows_text ts a.now b.now ra rb rows) (marked_in ts a.now b.now ra rb rows)
-        text.old result text.new }
+// The rows of two tables. They are written into a buffer of our own first, which has room for all, so that a text without room leaves the caller's alone.
+fn show_in(tables: &Pair, text: &mut [u8]) -> Shown
+    requires { length (rows_of tables.now rows) ≤ 65535 }
+    ensures { ShownAs 0 (rows_of tables.now rows) (how_many_marked tables.now rows) text.old result text.new }
 {
     let mut scratch = [0u8; ROOM];
-    let end = put_rows(&mut scratch, a, b, ts, ra, rb, ka, kb);
+    let end = rows_into(&mut scratch, tables);
     if text.len() < end {
         return refused(rules::SHORT_BUFFER);
     }
-    texts::put_bytes(text, 0, &scratch[..end]);
+    text[..end].copy_from_slice(&scratch[..end]);
     Shown {
         refusal: 0,
         length: end as u32,
-        marked: rows::count_marked(a, b, ts, ra, rb, ka, kb),
+        marked: tables.count_marked(),
+    }
+}
+
+// A well-formed table as the rows are handed it: who runs in it, and its keys.
+fn view(words: &[u32]) -> View<'_>
+    requires { table_refusal words.now 0 ≡ 0 }
+    ensures words { result.words.now ≡ words.now }
+    ensures ts { result.ts ≡ size_of words.now }
+    ensures runs { result.runs ≡ runs_in words.now }
+{
+    let ts = records::task_size(words.len());
+    View {
+        words,
+        ts,
+        runs: refusals::running(words, ts),
+        keys: inherit::keys(words, ts),
     }
 }
 
@@ -176,10 +138,9 @@ pub fn show(a: &[u32], b: &[u32], text: &mut [u8]) -> Shown
     if number != 0 {
         return refused(number);
     }
-    let ts = records::task_size(a.len());
-    let ra = refusals::running(a, ts);
-    let rb = refusals::running(b, ts);
-    let ka = inherit::keys(a, ts);
-    let kb = inherit::keys(b, ts);
-    show_in(a, b, ts, ra, rb, &ka, &kb, text)
+    let tables = Pair {
+        left: view(a),
+        right: view(b),
+    };
+    show_in(&tables, text)
 }

@@ -1,5 +1,5 @@
 -- Laws of a text put into a buffer of any length, with no condition: what has no room is left out. In order: a byte, with room and
--- without; the empty text; a text and a second behind it; the buffer's length.
+-- without; the empty text; a text and a second behind it; the same of a writer; a text being written, part by part; a number.
 -- Not here: what the texts say. Assumes nothing.
 use Prim.Native.Nat.{◌+◌, ◌-◌, ◌<◌, ◌≤◌, min, suc, ℕ}
 use Rattle.lines.proofs.Putting.{short}
@@ -7,7 +7,8 @@ use Rattle.lines.specs.Lines.{decimal, joined, newline, printed, spaced}
 use Rattle.lines.specs.Lines.{Put as LinePut}
 use Rattle.lists.proofs.Laws.{bool_case}
 use Rattle.records.proofs.Laws.{sets_append}
-use Rattle.texts.specs.Texts.{Put, put}
+use Rattle.texts.specs.Texts.{Put, Wrote, put}
+use Rattle.texts.specs.declared.Writer.{Writer}
 use borrow.Author.Tests.{leb-false, leb-true}
 use lib.Dec.{leb}
 use lib.ListN.{drop, get_or, length, length-append, set, take}
@@ -61,42 +62,53 @@ module _ {l : List ℕ} {at : ℕ} {x : List ℕ} {end : ℕ} {m : List ℕ} (p 
     bytes = q.bytes ∙ ap (λ (b : List ℕ). put b end y) p.bytes ∙ behind y;
   }
 
--- the same text, said otherwise
-pub put_as : {l : List ℕ} {at : ℕ} {x y : List ℕ} {end : ℕ} {m : List ℕ} → Put l at x end m → x ≡ y → Put l at y end m
-put_as p e = rw (← e) p
-
 -- the first k bytes of a text, and one more
 pub put_turn : {l : List ℕ} {at : ℕ} (text : List ℕ) {end : ℕ} (k : ℕ) {m : List ℕ} {last : ℕ} {n : List ℕ} → k < length text → Put l at (take k text) end m → Put m end (get_or text k 0 ∷ []) last n
     → Put l at (take (k + 1) text) last n
 put_turn text k h p q = rw (add-one k, take-suc text k 0 h) (put_append p q)
 
--- ---- a text being put, part by part: what is put, and what is left of the whole
+-- ---- the same of a writer
 
-pub record Joining (before : List ℕ) (at : ℕ) (now : List ℕ) (end : ℕ) (rest whole : List ℕ) : Type 0 where
+pub wrote_nothing : (w : Writer) → Wrote w [] w
+wrote_nothing w = record { put = put_nothing _ _; same_buffer = refl }
+
+module _ {w : Writer} {x : List ℕ} {v : Writer} (p : Wrote w x v) where
+  -- a text, and a second behind it
+  pub wrote_append : {y : List ℕ} {u : Writer} → Wrote v y u → Wrote w (x ++ y) u
+  wrote_append q = record { put = put_append p.put q.put; same_buffer = q.same_buffer ∙ p.same_buffer }
+
+  -- the same text, said otherwise
+  pub wrote_as : {y : List ℕ} → x ≡ y → Wrote w y v
+  wrote_as e = rw (← e) p
+
+-- the first k bytes of a text, and one more
+pub wrote_turn : {w : Writer} (text : List ℕ) (k : ℕ) {v u : Writer} → k < length text → Wrote w (take k text) v → Wrote v (get_or text k 0 ∷ []) u → Wrote w (take (k + 1) text) u
+wrote_turn text k h p q = record { put = put_turn text k h p.put q.put; same_buffer = q.same_buffer ∙ p.same_buffer }
+
+-- ---- a text being written, part by part: what is written, and what is left of the whole
+
+pub record Joining (before now : Writer) (rest whole : List ℕ) : Type 0 where
   pub text : List ℕ
-  pub put : Put before at text end now
+  pub wrote : Wrote before text now
   pub all : text ++ rest ≡ whole
 
-pub joining_begin : (l : List ℕ) (at : ℕ) (whole : List ℕ) → Joining l at l at whole whole
-joining_begin l at whole = record { text = []; put = put_nothing l at; all = refl }
+pub joining_begin : (w : Writer) (whole : List ℕ) → Joining w w whole whole
+joining_begin w whole = record { text = []; wrote = wrote_nothing w; all = refl }
 
-module _ {l : List ℕ} {at : ℕ} {m : List ℕ} {end : ℕ} {rest whole : List ℕ} (w : Joining l at m end rest whole) where
-  pub joining_turn : {x next : List ℕ} {last : ℕ} {n : List ℕ} → Put m end x last n → rest ≡ x ++ next → Joining l at n last next whole
+module _ {w v : Writer} {rest whole : List ℕ} (j : Joining w v rest whole) where
+  pub joining_turn : {x next : List ℕ} {u : Writer} → Wrote v x u → rest ≡ x ++ next → Joining w u next whole
   joining_turn {x} {next} q e = record {
-    text = w.text ++ x;
-    put = put_append w.put q;
-    all = append_assoc w.text x next ∙ ap (λ (r : List ℕ). w.text ++ r) (sym e) ∙ w.all;
+    text = j.text ++ x;
+    wrote = wrote_append j.wrote q;
+    all = append_assoc j.text x next ∙ ap (λ (r : List ℕ). j.text ++ r) (sym e) ∙ j.all;
   }
 
   -- what is left, said otherwise
-  pub joining_same : {next : List ℕ} → rest ≡ next → Joining l at m end next whole
-  joining_same e = rw (← e) w
+  pub joining_same : {next : List ℕ} → rest ≡ next → Joining w v next whole
+  joining_same e = rw (← e) j
 
-  pub joining_end : rest ≡ [] → Put l at whole end m
-  joining_end e = put_as w.put (sym (append-nil w.text) ∙ ap (λ (r : List ℕ). w.text ++ r) (sym e) ∙ w.all)
-
-  pub joining_long : length m ≡ length l
-  joining_long = length-put w.put
+  pub joining_end : rest ≡ [] → Wrote w whole v
+  joining_end e = wrote_as j.wrote (sym (append-nil j.text) ∙ ap (λ (r : List ℕ). j.text ++ r) (sym e) ∙ j.all)
 
 -- ---- a number, by way of a line of its own (crate lines)
 

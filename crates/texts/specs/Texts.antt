@@ -1,9 +1,10 @@
--- A text as bytes, and a text put into a buffer. Not here: what the texts say (Cells.antt), and the laws (proofs/Putting).
+-- A text as bytes, a text put into a buffer, and one written by a writer. Not here: what the texts say (Cells.antt), and the laws (proofs/Putting).
 use Prim.Native.Char.{code}
 use Rattle.std.specs.Prelude.{◌+◌, ◌-◌, min, ℕ, length, List, [], ◌∷◌, ◌≡◌}
 use Prim.Native.String.{String}
 use Prim.Native.String.{[] as none, ◌∷◌ as ◌then◌}
 use Rattle.std.proofs.lemmas.List.Edits.{sets}
+use Rattle.texts.specs.declared.Writer.{Writer}
 
 -- the bytes of a quoted text, whose characters are all below 128
 abbrev pub bytes : String → List ℕ
@@ -19,3 +20,8 @@ put out at text = sets out at text
 pub record Put (before : List ℕ) (at : ℕ) (text : List ℕ) (end : ℕ) (now : List ℕ) : Type 0 where
   pub place : end ≡ at + min (length text) (length before - at)
   pub bytes : now ≡ put before at text
+
+-- a text written: put at the writer's place, and the buffer is the one that it was
+pub record Wrote (before : Writer) (text : List ℕ) (now : Writer) : Type 0 where
+  pub put : Put before.out.now before.end text now.end now.out.now
+  pub same_buffer : now.out.ghost_name ≡ before.out.ghost_name

@@ -1,6 +1,6 @@
 // The words that people read about a table: what a cell of the comparison says of a task, a list and the contents. Each function
-// writes its text into a lent buffer at `at` and answers the place behind it. What has no room is left out, and the place stays at
-// the buffer's end: so no function asks for room, and whether all of a text is there is seen from the last place.
+// writes its text by a Writer. What has no room is left out: so no function asks for room, and whether all of a text is there is
+// seen from the place where the writer ends.
 // Not here: what a cell says of a hub (crate hubtexts); which cells there are, in which order, and which are marked (crate
 // sidebyside).
 #![tactic(auto)]
@@ -10,7 +10,7 @@ ghost use Rattle.lines.specs.Lines.{decimal};
 ghost use Rattle.lists.specs.Lists.{numbers};
 ghost use Rattle.rules.specs.Table.{part};
 ghost use Rattle.texts.specs.Cells.{answer_text, contents_text, entry_text, message_text, outcome_text, priority_text, stage_text, state_text, task_text, tasks_text, ticks_text, waits_text};
-ghost use Rattle.texts.specs.Texts.{Put};
+ghost use Rattle.texts.specs.Texts.{Wrote};
 
 use records::TaskRecord;
 
@@ -20,213 +20,224 @@ const NUMBER: usize = 11;
 // How many numbers a word has.
 const WORDS: u64 = 4294967296;
 
-// A byte. Where there is no room nothing is written, and the place stays.
-pub fn put_byte(out: &mut [u8], at: usize, b: u8) -> usize
-    ensures { Put out.old at (b ∷ []) result out.new }
-{
-    if at < out.len() {
-        out[at] = b;
-        at + 1
-    } else {
-        at
+// A lent buffer, and the place up to which it is written.
+#[derive(Drop)]
+pub struct Writer<'a> {
+    pub out: &'a mut [u8],
+    pub end: usize,
+}
+
+impl<'a> Writer<'a> {
+    // At the buffer's start.
+    pub fn new(out: &'a mut [u8]) -> Writer<'a>
+        ensures buffer { result.out.now ≡ out.old }
+        ensures same_buffer { result.out.ghost_name ≡ out.entry.ghost_name }
+        ensures start { result.end ≡ 0 }
+    {
+        Writer { out, end: 0 }
     }
-}
 
-// Bytes, one behind the other.
-pub fn put_bytes(out: &mut [u8], at: usize, text: &[u8]) -> usize
-    ensures { Put out.old at text.now result out.new }
-{
-    let mut end = at;
-    let mut k = 0;
-    while k < text.len() {
-        end = put_byte(out, end, text[k]);
-        k += 1;
+    // A byte. Where there is no room nothing is written, and the place stays.
+    #[tactic(auto, using(crate::proofs::Putting::put_byte, crate::proofs::Putting::put_full))]
+    pub fn byte(&mut self, b: u8)
+        ensures { Wrote self.old (b ∷ []) self.new }
+    {
+        if self.end < self.out.len() {
+            self.out[self.end] = b;
+            self.end += 1;
+        }
     }
-    end
-}
 
-// A number in decimal, as a line of its own has it, without the newline.
-pub fn put_number(out: &mut [u8], at: usize, n: u32) -> usize
-    ensures { Put out.old at (decimal n) result out.new }
-{
-    let numbers = [n];
-    let mut line = [0u8; NUMBER];
-    let end = lines::write_numbers(&mut line, 0, &numbers);
-    put_bytes(out, at, &line[..end - 1])
-}
+    // Bytes, one behind the other.
+    pub fn bytes(&mut self, text: &[u8])
+        ensures { Wrote self.old text.now self.new }
+    {
+        for b in text {
+            self.byte(*b);
+        }
+    }
 
-// A number between two texts.
-pub fn put_between(out: &mut [u8], at: usize, before: &[u8], n: u32, after: &[u8]) -> usize
-    ensures { Put out.old at (before.now ++ decimal n ++ after.now) result out.new }
-{
-    let a = put_bytes(out, at, before);
-    let b = put_number(out, a, n);
-    put_bytes(out, b, after)
+    // A number in decimal, as a line of its own has it, without the newline.
+    pub fn number(&mut self, n: u32)
+        ensures { Wrote self.old (decimal n) self.new }
+    {
+        let numbers = [n];
+        let mut line = [0u8; NUMBER];
+        let end = lines::write_numbers(&mut line, 0, &numbers);
+        self.bytes(&line[..end - 1]);
+    }
+
+    // A number behind a text.
+    pub fn labelled(&mut self, before: &[u8], n: u32)
+        ensures { Wrote self.old (before.now ++ decimal n) self.new }
+    {
+        self.bytes(before);
+        self.number(n);
+    }
+
+    // A number between two texts.
+    pub fn between(&mut self, before: &[u8], n: u32, after: &[u8])
+        ensures { Wrote self.old (before.now ++ decimal n ++ after.now) self.new }
+    {
+        self.labelled(before, n);
+        self.bytes(after);
+    }
 }
 
 // The number that an entry of a list names, or a task's hub word: it stands there plus 1.
 pub fn named(entry: u32) -> u32
     ensures { result ≡ pred entry }
 {
-    if entry == 0 { 0 } else { entry - 1 }
+    entry.saturating_sub(1)
 }
 
 // How long a task has left.
-fn put_ticks(out: &mut [u8], at: usize, ticks: u32) -> usize
-    ensures { Put out.old at (ticks_text ticks) result out.new }
+#[tactic(auto, unfolding(crate::specs::Cells::ticks_text))]
+fn put_ticks(out: &mut Writer, ticks: u32)
+    ensures { Wrote out.old (ticks_text ticks) out.new }
 {
-    if ticks == 0 {
-        return put_bytes(out, at, b", no limit");
+    match ticks {
+        0 => out.bytes(b", no limit"),
+        1 => out.bytes(b", 1 tick left"),
+        _ => out.between(b", ", ticks, b" ticks left"),
     }
-    if ticks == 1 {
-        return put_bytes(out, at, b", 1 tick left");
-    }
-    put_between(out, at, b", ", ticks, b" ticks left")
 }
 
 // At which hub a task waits, and what for.
-fn put_waits(out: &mut [u8], at: usize, hub: u32, side: u32) -> usize
-    ensures { Put out.old at (waits_text hub side) result out.new }
+fn put_waits(out: &mut Writer, hub: u32, side: u32)
+    ensures { Wrote out.old (waits_text hub side) out.new }
 {
     if side == rules::PUT {
-        return put_between(out, at, b"waits at hub ", named(hub), b" to put");
+        out.between(b"waits at hub ", named(hub), b" to put");
+    } else {
+        out.between(b"waits at hub ", named(hub), b" to get");
     }
-    put_between(out, at, b"waits at hub ", named(hub), b" to get")
 }
 
 // What a task does, but for its flag.
-fn put_stage(out: &mut [u8], at: usize, x: TaskRecord) -> usize
-    ensures { Put out.old at (stage_text x) result out.new }
+#[tactic(auto, unfolding(crate::specs::Cells::stage_text))]
+fn put_stage(out: &mut Writer, x: TaskRecord)
+    ensures { Wrote out.old (stage_text x) out.new }
 {
-    if x.state == rules::INACTIVE {
-        return put_bytes(out, at, b"inactive");
+    match x.state {
+        rules::INACTIVE => out.bytes(b"inactive"),
+        rules::READY => out.bytes(b"ready"),
+        rules::WAITING => {
+            put_waits(out, x.hub, x.side);
+            put_ticks(out, x.ticks);
+        }
+        _ => {
+            out.bytes(b"sleeps");
+            put_ticks(out, x.ticks);
+        }
     }
-    if x.state == rules::READY {
-        return put_bytes(out, at, b"ready");
-    }
-    if x.state == rules::WAITING {
-        let a = put_waits(out, at, x.hub, x.side);
-        return put_ticks(out, a, x.ticks);
-    }
-    let a = put_bytes(out, at, b"sleeps");
-    put_ticks(out, a, x.ticks)
 }
 
 // The state of a task.
-pub fn put_state(out: &mut [u8], at: usize, x: TaskRecord) -> usize
-    ensures { Put out.old at (state_text x) result out.new }
+pub fn put_state(out: &mut Writer, x: TaskRecord)
+    ensures { Wrote out.old (state_text x) out.new }
 {
-    let a = put_stage(out, at, x);
-    if x.suspended == 0 {
-        return a;
+    put_stage(out, x);
+    if x.suspended != 0 {
+        out.bytes(b", suspended");
     }
-    put_bytes(out, a, b", suspended")
 }
 
 // The priority of a task: its own, and its effective priority where that is another.
-pub fn put_priority(out: &mut [u8], at: usize, own: u32, effective: u32) -> usize
-    ensures { Put out.old at (priority_text own effective) result out.new }
+pub fn put_priority(out: &mut Writer, own: u32, effective: u32)
+    ensures { Wrote out.old (priority_text own effective) out.new }
 {
-    let a = put_number(out, at, own);
-    if own == effective {
-        return a;
+    out.number(own);
+    if own != effective {
+        out.labelled(b", effective ", effective);
     }
-    let b = put_bytes(out, a, b", effective ");
-    put_number(out, b, effective)
 }
 
 // A message: its low word, and its high word where that isn't 0.
-pub fn put_message(out: &mut [u8], at: usize, m: u64) -> usize
-    ensures { Put out.old at (message_text m) result out.new }
+pub fn put_message(out: &mut Writer, m: u64)
+    ensures { Wrote out.old (message_text m) out.new }
 {
     let low = (m % WORDS) as u32;
     let high = (m / WORDS) as u32;
-    if high == 0 {
-        return put_number(out, at, low);
+    out.number(low);
+    if high != 0 {
+        out.bytes(b" high ");
+        out.number(high);
     }
-    let a = put_between(out, at, b"", low, b" high ");
-    put_number(out, a, high)
 }
 
 // The answer of a task, but for its word.
-fn put_outcome(out: &mut [u8], at: usize, answer: u32, m: u64) -> usize
-    ensures { Put out.old at (outcome_text answer m) result out.new }
+#[tactic(auto, unfolding(crate::specs::Cells::outcome_text))]
+fn put_outcome(out: &mut Writer, answer: u32, m: u64)
+    ensures { Wrote out.old (outcome_text answer m) out.new }
 {
-    if answer == 0 {
-        return put_bytes(out, at, b"none");
+    match answer {
+        0 => out.bytes(b"none"),
+        rules::FAIL => out.bytes(b"failed"),
+        rules::TIMED_OUT => out.bytes(b"timed out"),
+        _ if m == 0 => out.bytes(b"OK"),
+        _ => out.bytes(b"met"),
     }
-    if answer == rules::FAIL {
-        return put_bytes(out, at, b"failed");
-    }
-    if answer == rules::TIMED_OUT {
-        return put_bytes(out, at, b"timed out");
-    }
-    if m == 0 {
-        return put_bytes(out, at, b"OK");
-    }
-    put_bytes(out, at, b"met")
 }
 
 // The answer of a task, and its word where that isn't 0.
-pub fn put_answer(out: &mut [u8], at: usize, x: TaskRecord) -> usize
-    ensures { Put out.old at (answer_text x) result out.new }
+pub fn put_answer(out: &mut Writer, x: TaskRecord)
+    ensures { Wrote out.old (answer_text x) out.new }
 {
-    let a = put_outcome(out, at, x.answer, x.word);
-    if x.word == 0 {
-        return a;
+    put_outcome(out, x.answer, x.word);
+    if x.word != 0 {
+        out.bytes(b", word ");
+        put_message(out, x.word);
     }
-    let b = put_bytes(out, a, b", word ");
-    put_message(out, b, x.word)
 }
 
 // The k-th task of a list, from 0.
-fn put_task(out: &mut [u8], at: usize, k: usize, i: u32) -> usize
-    ensures { Put out.old at (task_text k i) result out.new }
+#[tactic(auto, unfolding(crate::specs::Cells::task_text))]
+fn put_task(out: &mut Writer, k: usize, i: u32)
+    ensures { Wrote out.old (task_text k i) out.new }
 {
     if k == 0 {
-        return put_between(out, at, b"task ", i, b"");
+        out.labelled(b"task ", i);
+    } else {
+        out.labelled(b", task ", i);
     }
-    put_between(out, at, b", task ", i, b"")
 }
 
 // The k-th entry of a list, from 0: a task's name, and whether it is the one that runs.
-fn put_entry(out: &mut [u8], at: usize, k: usize, entry: u32, runs: u32) -> usize
+fn put_entry(out: &mut Writer, k: usize, entry: u32, runs: u32)
     requires { 1 ≤ entry }
-    ensures { Put out.old at (entry_text k runs (pred entry)) result out.new }
+    ensures { Wrote out.old (entry_text k runs (pred entry)) out.new }
 {
-    let a = put_task(out, at, k, named(entry));
+    put_task(out, k, named(entry));
     if entry == runs {
-        return put_bytes(out, a, b" (runs)");
+        out.bytes(b" (runs)");
     }
-    a
 }
 
 // The tasks of the list of 16 words that starts at word `from`; `runs` is the running task plus 1, or 0.
-pub fn put_tasks(out: &mut [u8], at: usize, t: &[u32], from: usize, runs: u32) -> usize
+pub fn put_tasks(out: &mut Writer, t: &[u32], from: usize, runs: u32)
     requires { from ≤ 65535 }
-    ensures { Put out.old at (tasks_text runs (numbers (part from 16 t.now))) result out.new }
+    ensures { Wrote out.old (tasks_text runs (numbers (part from 16 t.now))) out.new }
 {
     if lists::word(t, from) == 0 {
-        return put_bytes(out, at, b"nobody");
+        out.bytes(b"nobody");
+        return;
     }
-    let mut end = at;
-    let mut k = 0;
-    while k < records::LIST_SIZE {
+    for k in 0..records::LIST_SIZE {
         let entry = lists::word(t, from + k);
         if entry == 0 {
-            return end;
+            return;
         }
-        end = put_entry(out, end, k, entry, runs);
-        k += 1;
+        put_entry(out, k, entry, runs);
     }
-    end
 }
 
 // The contents of a table: its edition, and how many tasks and hubs are in use.
-pub fn put_contents(out: &mut [u8], at: usize, t: &[u32]) -> usize
-    ensures { Put out.old at (contents_text t.now) result out.new }
+pub fn put_contents(out: &mut Writer, t: &[u32])
+    ensures { Wrote out.old (contents_text t.now) out.new }
 {
-    let a = put_between(out, at, b"edition ", lists::word(t, 0), b", tasks: ");
-    let b = put_between(out, a, b"", lists::word(t, records::TASKS), b", hubs: ");
-    put_number(out, b, lists::word(t, records::HUBS))
+    out.between(b"edition ", lists::word(t, 0), b", tasks: ");
+    out.number(lists::word(t, records::TASKS));
+    out.bytes(b", hubs: ");
+    out.number(lists::word(t, records::HUBS));
 }

@@ -2,16 +2,15 @@
 use Rattle.comparer.proofs.Laws.{lines_begin, lines_end, lines_turn}
 use Rattle.texts.proofs.Putting.{joining_begin, joining_end, joining_turn}
 use mathlib.Core.Path.{◌∙◌, refl}
-use native.Mathlib.Omega.{arith}
 use Rattle.comparer.proofs.put_entries.Goals as goal
 
 pub loop-k-init : goal.loop-k-init
-loop-k-init c = ((omega arith, omega arith), rw (lines_begin c.args.places.now c.args.count) (joining_begin _ _ _))
+loop-k-init c = rw (lines_begin c.args.places.now c.args.count) (joining_begin _ _)
 
 pub loop-k-preserved : goal.loop-k-preserved
 loop-k-preserved c =
-    let next = lines_turn c.args.places.now c.args.count c.loop-k.p c.loop-k.k c.loop-k-test.true in
-    ((omega arith, omega arith), joining_turn c.loop-k.invariant.1 c.put_entry-end.ensures (next ∙ rw (← c.word-place.ensures, ← c.word-old.ensures, ← c.word-new.ensures) refl))
+    let next = lines_turn c.args.places.now c.args.count c.loop-k.k c.loop-k-test.true in
+    joining_turn c.loop-k.invariant c.put_entry.ensures (next ∙ rw (← c.word-place.ensures, ← c.word-old.ensures, ← c.word-new.ensures) refl)
 
 pub returns : goal.returns
-returns c = joining_end c.loop-k.invariant.1 (lines_end c.args.places.now c.args.count c.loop-k.p c.loop-k.k c.loop-k-test.false)
+returns c = joining_end c.loop-k.invariant (lines_end c.args.places.now c.args.count c.loop-k.k c.loop-k-test.false)

@@ -1,21 +1,18 @@
 -- `hubtexts::put_words` meets its contract: the words so far, and what is left of them. Assumes nothing.
 use Rattle.hubtexts.proofs.Lists.{words_begin, words_empty, words_end, words_turn}
-use Rattle.texts.proofs.Putting.{joining_begin, joining_end, joining_long, joining_turn, put_as}
+use Rattle.texts.proofs.Putting.{joining_begin, joining_end, joining_turn, wrote_as}
 use mathlib.Core.Path.{◌∙◌, refl}
 use native.Mathlib.Omega.{arith}
 use Rattle.hubtexts.proofs.put_words.Goals as goal
 
 pub returns-then-count-eq0 : goal.returns-then-count-eq0
-returns-then-count-eq0 c = put_as c.put_bytes.ensures (words_empty c.args.w c.args.t.now c.args.from c.args.count c.if-count-eq0.true)
+returns-then-count-eq0 c = wrote_as c.bytes.ensures (words_empty c.args.w c.args.t.now c.args.from c.args.count c.if-count-eq0.true)
 
 pub loop-k-init : goal.loop-k-init
-loop-k-init c = ((omega arith, omega arith), rw (words_begin c.args.w c.args.t.now c.args.from c.args.count c.if-count-eq0.false) (joining_begin _ _ _))
+loop-k-init c = (omega arith, rw (words_begin c.args.w c.args.t.now c.args.from c.args.count c.if-count-eq0.false) (joining_begin _ _))
 
 pub loop-k-preserved : goal.loop-k-preserved
-loop-k-preserved c = ((omega arith, omega (arith, c.requires)), joining_turn c.loop-k.invariant.1 c.put_word-end.ensures (words_turn c.args.w c.args.t.now c.args.from c.args.count c.loop-k.p c.loop-k.k c.loop-k-test.true ∙ rw (← c.message-m.ensures.value) refl))
-
-pub shape_of-out : goal.shape_of-out
-shape_of-out c = joining_long c.loop-k.invariant.1
+loop-k-preserved c = (omega (arith, c.requires), joining_turn c.loop-k.invariant.1 c.put_word.ensures (words_turn c.args.w c.args.t.now c.args.from c.args.count c.loop-k.p c.loop-k.k c.loop-k-test.true ∙ rw (← c.message.ensures.value) refl))
 
 pub returns : goal.returns
 returns c = joining_end c.loop-k.invariant.1 (words_end c.args.w c.args.t.now c.args.from c.args.count c.loop-k.p c.loop-k.k c.loop-k-test.false)

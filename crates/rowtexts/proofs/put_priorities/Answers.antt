@@ -6,4 +6,4 @@ use Rattle.rowtexts.proofs.put_priorities.Goals as goal
 
 pub returns : goal.returns
 unfolding task_at used_text
-returns c = rw (c.field-own.ensures, c.word-key.ensures ∙ c.requires.keys_of.key _) at c.put_priority.ensures
+returns c = rw (c.field-own.ensures, c.word-key.ensures ∙ c.args.table.now.keys_of.key _) at c.put_priority.ensures

@@ -1,14 +1,14 @@
 -- `sidebyside::put_line` meets its contract: six texts, one behind the other. Assumes nothing.
+use Prim.Native.Nat.{ℕ}
+use Rattle.rowtexts.specs.RowTexts.{cell}
 use Rattle.sidebyside.specs.RowLines.{line_text}
-use Rattle.texts.proofs.Putting.{put_append}
+use Rattle.texts.proofs.Putting.{wrote_append, wrote_as}
+use mathlib.Core.Path.{ap, sym}
 use Rattle.sidebyside.proofs.put_line.Goals as goal
-
-pub put_cell-tab-requires : goal.put_cell-tab-requires
-put_cell-tab-requires c = let pre = c.requires in record { le_ts = pre.le_ts; ts_bound = pre.ts_bound; row_bound = pre.row_bound; keys_of = pre.keys_of }
-
-pub put_cell-end-requires : goal.put_cell-end-requires
-put_cell-end-requires c = let pre = c.requires in record { le_ts = pre.le_ts; ts_bound = pre.ts_bound; row_bound = pre.row_bound; keys_of = pre.keys_of_2 }
 
 pub returns : goal.returns
 unfolding line_text
-returns c = rw (← c.marked.ensures) (put_append (put_append (put_append (put_append (put_append c.put_mark-mark.ensures c.put_title-left.ensures) c.put_cell-tab.ensures) c.put_byte-right.ensures) c.put_cell-end.ensures) c.put_byte.ensures)
+returns c =
+    let p = c.args.tables.now in
+    let right = wrote_as c.put_cell-2.ensures (ap (λ (ts : ℕ). cell ts p.right.words.now p.right.runs c.args.row) (sym p.one_edition)) in
+    rw (← c.marked.ensures) (wrote_append (wrote_append (wrote_append (wrote_append (wrote_append c.put_mark.ensures c.put_title.ensures) c.put_cell.ensures) c.byte.ensures) right) c.byte-2.ensures)

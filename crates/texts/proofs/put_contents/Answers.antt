@@ -1,8 +1,8 @@
--- `texts::put_contents` meets its contract: three texts, one behind the other. Assumes nothing.
-use Rattle.texts.proofs.Putting.{put_append}
+-- `texts::put_contents` meets its contract: four texts, one behind the other. Assumes nothing.
+use Rattle.texts.proofs.Putting.{wrote_append}
 use Rattle.texts.specs.Cells.{contents_text}
 use Rattle.texts.proofs.put_contents.Goals as goal
 
 pub returns : goal.returns
 unfolding contents_text
-returns c = rw (← c.word.ensures, ← c.word-2.ensures, ← c.word-3.ensures) (put_append (put_append c.put_between-a.ensures c.put_between-b.ensures) c.put_number.ensures)
+returns c = rw (← c.word.ensures, ← c.word-2.ensures, ← c.word-3.ensures) (wrote_append (wrote_append c.between.ensures (wrote_append c.number.ensures c.bytes.ensures)) c.number-2.ensures)

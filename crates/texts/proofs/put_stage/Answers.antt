@@ -1,21 +1,13 @@
--- `texts::put_stage` meets its contract: by the state. Assumes nothing.
-use Rattle.texts.proofs.Putting.{put_append}
+-- `texts::put_stage` meets its contract where two texts stand one behind the other. Assumes nothing.
+use Rattle.std.proofs.Common.{rules}
+use Rattle.texts.proofs.Putting.{wrote_append, wrote_as}
 use Rattle.texts.specs.Cells.{stage_text}
-use borrow.Author.Tests.{eq-eqb, ne_eqb}
 use Rattle.texts.proofs.put_stage.Goals as goal
 
-pub returns-then-x-eq-INACTIVE : goal.returns-then-x-eq-INACTIVE
+pub returns-in-3 : goal.returns-in-3
 unfolding stage_text
-returns-then-x-eq-INACTIVE c = rw (eq-eqb _ _ c.if-x-eq-INACTIVE.true) c.put_bytes.ensures
+returns-in-3 c = wrote_as (wrote_append c.put_waits.ensures c.put_ticks.ensures) (search rules)
 
-pub returns-then-x-eq-READY : goal.returns-then-x-eq-READY
+pub returns-in_default : goal.returns-in_default
 unfolding stage_text
-returns-then-x-eq-READY c = rw (ne_eqb _ _ c.if-x-eq-INACTIVE.false, eq-eqb _ _ c.if-x-eq-READY.true) c.put_bytes-then-x-eq-READY.ensures
-
-pub returns-then-x-eq-WAITING : goal.returns-then-x-eq-WAITING
-unfolding stage_text
-returns-then-x-eq-WAITING c = rw (ne_eqb _ _ c.if-x-eq-INACTIVE.false, ne_eqb _ _ c.if-x-eq-READY.false, eq-eqb _ _ c.if-x-eq-WAITING.true) (put_append c.put_waits-a.ensures c.put_ticks.ensures)
-
-pub returns : goal.returns
-unfolding stage_text
-returns c = rw (ne_eqb _ _ c.if-x-eq-INACTIVE.false, ne_eqb _ _ c.if-x-eq-READY.false, ne_eqb _ _ c.if-x-eq-WAITING.false) (put_append c.put_bytes-a.ensures c.put_ticks-2.ensures)
+returns-in_default c = wrote_as (wrote_append c.bytes-in_default.ensures c.put_ticks-in_default.ensures) (search rules)

@@ -5,8 +5,8 @@ use Rattle.texts.proofs.put_waits.Goals as goal
 
 pub returns-then-side-eq-PUT : goal.returns-then-side-eq-PUT
 unfolding waits_text
-returns-then-side-eq-PUT c = rw (eq-eqb _ _ c.if-side-eq-PUT.true, ← c.named.ensures) c.put_between.ensures
+returns-then-side-eq-PUT c = rw (eq-eqb _ _ c.if-side-eq-PUT.true, ← c.named.ensures) c.between.ensures
 
-pub returns : goal.returns
+pub returns-else-side-eq-PUT : goal.returns-else-side-eq-PUT
 unfolding waits_text
-returns c = rw (ne_eqb _ _ c.if-side-eq-PUT.false, ← c.named-2.ensures) c.put_between-2.ensures
+returns-else-side-eq-PUT c = rw (ne_eqb _ _ c.if-side-eq-PUT.false, ← c.named-else-side-eq-PUT.ensures) c.between-else-side-eq-PUT.ensures

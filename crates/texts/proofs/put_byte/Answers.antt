@@ -1,9 +1,0 @@
--- `texts::put_byte` meets its contract: with room, and without. Assumes nothing.
-use Rattle.texts.proofs.Putting.{put_byte, put_full}
-use Rattle.texts.proofs.put_byte.Goals as goal
-
-pub returns-then-at-out : goal.returns-then-at-out
-returns-then-at-out c = put_byte _ _ _ c.if-at-out.true
-
-pub returns-else-at-out : goal.returns-else-at-out
-returns-else-at-out c = put_full _ _ _ c.if-at-out.false
