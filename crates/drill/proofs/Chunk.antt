@@ -1,9 +1,7 @@
 -- A chunk answered in several blocks of output. In order: what stays the same while blocks are written out; its start; a block
 -- that is full; the chunk's end; then what a loop over chunks keeps.
 use Prim.Native.Nat.{◌+◌, ◌≤◌, ℕ}
-use Rattle.drill.specs.Turns.{Behind, Turned}
-use Rattle.drill.specs.declared.Turn.TheVariants.{On}
-use Rattle.drill.specs.declared.Turn.{Turn}
+use Rattle.drill.specs.Turns.{Behind}
 use Rattle.lines.specs.Lines.{print_room}
 use Rattle.lines.specs.Scan.{after, ended}
 use Rattle.lines.specs.declared.Scan.{Scan}
@@ -61,7 +59,3 @@ pub record Reading (t₀ input₀ out₀ t input out : List ℕ) (at : ℕ) : Ty
   pub words : length t ≡ length t₀
   pub read : length input ≡ length input₀
   pub bytes : length out ≡ length out₀
-
-pub behind_chunk : (s : Scan) (bytes t : List ℕ) (r : Turn) (t' out' : List ℕ) (s' : Scan) (end : ℕ) → Turned s bytes t r t' out' → r ≡ On s' end
-    → Behind s bytes t s' end t' out'
-behind_chunk s bytes t r t' out' s' end h e = rw e at h

@@ -1,8 +1,6 @@
 -- What is known behind a chunk, whatever was written out on the way: the table that its lines leave, the reader's state, and
--- room for another line. The text of each block is the crate runner's promise.
+-- room for another line. Nothing is said where a write has failed. The text of each block is the crate runner's promise.
 use Rattle.std.specs.Prelude.{◌+◌, ◌≤◌, ℕ, length, List, ◌≡◌}
-use Rattle.drill.specs.declared.Turn.TheVariants.{On, Stop}
-use Rattle.drill.specs.declared.Turn.{Turn}
 use Rattle.lines.specs.Lines.{print_room}
 use Rattle.lines.specs.Scan.{after, ended}
 use Rattle.lines.specs.declared.Scan.{Scan}
@@ -12,8 +10,3 @@ pub record Behind (s : Scan) (bytes t : List ℕ) (s' : Scan) (end : ℕ) (t' ou
   pub table : t' ≡ table_through t (ended s bytes)
   pub state : s' ≡ after s bytes
   pub room : end + print_room ≤ length out'
-
--- nothing is said where a write has failed
-abbrev pub Turned : Scan → List ℕ → List ℕ → Turn → List ℕ → List ℕ → Type 0
-Turned s bytes t (On s' end) t' out' = Behind s bytes t s' end t' out'
-Turned s bytes t Stop t' out' = Unit {0}

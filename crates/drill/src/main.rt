@@ -3,17 +3,18 @@
 // large blocks. A write that fails ends the program; behind the last line the table's bytes are left on another descriptor.
 #![tactic(auto)]
 
-ghost use Rattle.std.specs.Prelude.{◌*◌, ◌+◌, ◌≤◌, length, ◌≡◌};
+ghost use Rattle.std.specs.Prelude.{◌*◌, ◌+◌, ◌≤◌, IfOk, length, ◌≡◌};
 ghost use Rattle.bytes4.specs.Bytes.{Packed};
 ghost use Rattle.drill.specs.Tables.{Begun};
-ghost use Rattle.drill.specs.Turns.{Turned};
+ghost use Rattle.drill.specs.Turns.{Behind};
 ghost use Rattle.lines.specs.Lines.{print_room};
 ghost use Rattle.lines.specs.Scan.{last_of};
 ghost use Rattle.runner.specs.Runner.{table_through, zeros};
 
 use lines::Scan;
 use runner::Answered;
-use std::io::Write;
+use std::io;
+use std::io::{ErrorKind, Write};
 
 // "744 words in all, 2,976 bytes": a table of edition 2
 const BYTES: usize = 4 * records::TABLE_SIZE_TWO;
@@ -27,14 +28,8 @@ const BEGIN: &str = "/dev/fd/4";
 // What is read or written at once.
 const BLOCK: usize = 65536;
 
-// The state behind a chunk and the place behind the text that waits to be written; or a write has failed.
-#[derive(Clone, Copy)]
-enum Turn {
-    On(Scan, usize),
-    Stop,
-}
-
-// Answers a chunk, and writes the buffer out each time that it is full.
+// Answers a chunk, and writes the buffer out each time that it is full. The state behind the chunk, and the place behind the text
+// that waits to be written.
 fn answer_chunk(
     rt: &HostRuntime,
     t: &mut [u32],
@@ -42,20 +37,18 @@ fn answer_chunk(
     at: usize,
     chunk: &[u8],
     scan: Scan,
-) -> Turn
+) -> io::Result<(Scan, usize)>
     requires { at + print_room ≤ length out.old }
-    ensures { Turned scan chunk.now t.old result t.new out.new }
+    ensures { IfOk result (λ turn. Behind scan chunk.now t.old turn.0 turn.1 t.new out.new) }
 {
     let mut s = scan;
     let mut end = at;
     let mut i = 0;
     loop {
         match runner::answer_lines(t, out, end, chunk, i, s) {
-            Answered::Drained(next, place) => return Turn::On(next, place),
+            Answered::Drained(next, place) => return Ok((next, place)),
             Answered::Full(next, place, from) => {
-                if rt.write_all(&out[..place]).is_err() {
-                    return Turn::Stop;
-                }
+                rt.write_all(&out[..place])?;
                 s = next;
                 i = from;
                 end = 0;
@@ -64,18 +57,17 @@ fn answer_chunk(
     }
 }
 
-// The last line, where no newline ends it, and what waits to be written. False where a write has failed.
-fn finish(rt: &HostRuntime, t: &mut [u32], out: &mut [u8], at: usize, scan: Scan) -> bool
+// The last line, where no newline ends it, and what waits to be written.
+fn finish(rt: &HostRuntime, t: &mut [u32], out: &mut [u8], at: usize, scan: Scan) -> io::Result<()>
     requires { at + print_room ≤ length out.old }
     ensures { t.new ≡ table_through t.old (last_of scan) }
 {
     let end = runner::answer_last(t, out, at, scan);
-    rt.write_all(&out[..end]).is_ok()
+    rt.write_all(&out[..end])
 }
 
-// A proved loop has to end, and nothing says that the input does: there are more turns than any run takes.
-// True behind the last line; false where a write has failed.
-fn run(rt: &HostRuntime, t: &mut [u32], input: &mut [u8], out: &mut [u8]) -> bool
+// The whole input. A proved loop has to end, and nothing says that the input does: there are more turns than any run takes.
+fn run(rt: &HostRuntime, t: &mut [u32], input: &mut [u8], out: &mut [u8]) -> io::Result<()>
     requires { print_room ≤ length out.old }
 {
     let mut scan = Scan::start(1);
@@ -85,25 +77,18 @@ fn run(rt: &HostRuntime, t: &mut [u32], input: &mut [u8], out: &mut [u8]) -> boo
         if n == 0 {
             return finish(rt, t, out, at, scan);
         }
-        match answer_chunk(rt, t, out, at, &input[..n], scan) {
-            Turn::On(next, end) => {
-                scan = next;
-                at = end;
-            }
-            Turn::Stop => return false,
-        }
+        (scan, at) = answer_chunk(rt, t, out, at, &input[..n], scan)?;
     }
-    false
+    Err(io::Error::from(ErrorKind::Other))
 }
 
-// The table to begin with: that of the bytes, where all of them came, and zeros otherwise, as many as the runner's table has words.
-fn begin(t: &mut [u32], bytes: &[u8], came: usize)
-    requires t_value { t.old ≡ zeros }
-    requires bytes_len { length bytes.now ≡ 4 * length t.old }
-    ensures { Begun bytes.now came t.new }
+// The table to begin with: that of the bytes that came, where they are all of a table, and zeros otherwise.
+fn begin(t: &mut [u32], came: &[u8])
+    requires { t.old ≡ zeros }
+    ensures { Begun came.now t.new }
 {
-    if came == bytes.len() {
-        bytes4::unpack(bytes, t);
+    if came.len() == 4 * t.len() {
+        bytes4::unpack(came, t);
     }
 }
 
@@ -118,14 +103,15 @@ fn leave(rt: &HostRuntime, t: &[u32], bytes: &mut [u8])
     }
 }
 
+#[tactic(auto, unfolding(runner::specs::Runner::zeros))]
 fn main(rt: HostRuntime) {
     let mut table = [0u32; records::TABLE_SIZE_TWO];
     let mut bytes = [0u8; BYTES];
     let mut input = [0u8; BLOCK];
     let mut out = [0u8; BLOCK];
     let came = streams::read_named(&rt, BEGIN, &mut bytes);
-    begin(&mut table, &bytes, came);
-    if run(&rt, &mut table, &mut input, &mut out) {
+    begin(&mut table, &bytes[..came]);
+    if run(&rt, &mut table, &mut input, &mut out).is_ok() {
         leave(&rt, &table, &mut bytes);
     }
 }

@@ -6,11 +6,11 @@ use Rattle.lines.proofs.Bools.{bool_case}
 use Rattle.lines.proofs.Pieces.{keeps_first, pieces_byte, pieces_sep}
 use Rattle.lines.proofs.Reading.{read-line}
 use Rattle.lines.proofs.Steps.{next_more, progress_byte, progress_newline}
-use Rattle.lines.specs.Lines.{field_count, line_of, lines_of, newline, number_limit, numbered, pieces_from, read_lines, space, without_empty_last, zero_digit}
+use Rattle.lines.specs.Lines.{Line, field_count, line_of, lines_of, newline, number_limit, numbered, pieces_from, read_lines, space, without_empty_last, zero_digit}
 use Rattle.lines.specs.Scan.{after, byte_step, digit_step, ended, fed, is_fresh, last_number, last_of, line_of_scan, next_of, progress_of, scanned, space_step, spoilt, start_of, whole}
-use Rattle.lines.specs.declared.Line.{Line}
 use Rattle.lines.specs.declared.Progress.TheVariants.{Ended, More}
 use Rattle.lines.specs.declared.Scan.{Scan}
+use Rattle.std.specs.Prelude.{None, Option, Some}
 use borrow.Author.Tests.{ne_eqb}
 use lib.Dec.{eqb, leb, ltb}
 use lib.ListN.{drop, length, length-drop}
@@ -38,18 +38,25 @@ spoilt_under s = record { number = refl; unfresh = refl }
 
 digit_under : (s : Scan) (d : ℕ) → Under s.line (digit_step s d)
 unfolding digit_step is_fresh
-digit_under s d =
-    let P : Scan → Type 0 = Under s.line in
-    by_test P (s.begun && eqb s.value 0) _ _
-    (λ _. spoilt_under s)
-    (by_test P (leb (s.value * 10 + d) number_limit) _ _ (λ _. record { number = refl; unfresh = rw (and-false (not s.bad)) }) (spoilt_under s))
+digit_under s d = by s.number
+  where
+    by : (number : Option ℕ) → Under s.line (digit_step (record s { number = number }) d)
+    by None = record { number = refl; unfresh = rw (and-false (not s.bad && eqb s.fields 0)) }
+    by (Some v) =
+        by_test (Under s.line) (not (eqb v 0) && leb (v * 10 + d) number_limit) _ _
+        (λ _. record { number = refl; unfresh = rw (and-false (not s.bad && eqb s.fields 0)) })
+        (spoilt_under (record s { number = Some v }))
 
 space_under : (s : Scan) → Under s.line (space_step s)
 unfolding is_fresh space_step
-space_under s =
-    by_test (Under s.line) (s.begun && ltb s.fields (field_count - 1)) _ _
-    (λ _. record { number = refl; unfresh = rw (ne_eqb (s.fields + 1) 0 (λ e. omega arith)) (and-false (not s.bad && true)) })
-    (spoilt_under s)
+space_under s = by s.number
+  where
+    by : (number : Option ℕ) → Under s.line (space_step (record s { number = number }))
+    by None = spoilt_under (record s { number = None })
+    by (Some v) =
+        by_test (Under s.line) (ltb s.fields (field_count - 1)) _ _
+        (λ _. record { number = refl; unfresh = rw (ne_eqb (s.fields + 1) 0 (λ e. omega arith), and-false (not s.bad)) })
+        (spoilt_under (record s { number = Some v }))
 
 byte_under : (s : Scan) (b : ℕ) → Under s.line (byte_step s b)
 unfolding byte_step is_fresh

@@ -1,59 +1,52 @@
 -- What each way through a step of the reader comes to, by the tests on that way: one law for each return of a function.
--- In order: a digit, a space, any byte; a line's end, the next line, a fresh line; a chunk.
+-- In order: a digit, a space, any byte; a line's end, the next line; a chunk.
 use Prim.Native.Nat.{◌*◌, ◌+◌, ◌-◌, ◌<◌, ◌≤◌, suc, ℕ}
 use Rattle.lines.specs.Lines.{field_count, newline, number_limit, space, zero_digit}
-use Rattle.lines.specs.Scan.{byte_step, digit_step, is_fresh, last_number, line_of_scan, next_of, progress_of, push, space_step, spoilt, start_of}
-use Rattle.lines.specs.declared.Line.TheVariants.{Bad, Good}
-use Rattle.lines.specs.declared.Numbers.{Numbers}
+use Rattle.lines.specs.Scan.{byte_step, digit_step, last_number, line_of_scan, next_of, progress_of, push, space_step, spoilt, start_of}
 use Rattle.lines.specs.declared.Progress.TheVariants.{Ended, More}
 use Rattle.lines.specs.declared.Scan.{Scan}
 use borrow.Author.Tests.{eq-eqb, le-leb, le-ltb, lt-leb, lt-ltb, ne_eqb}
 use lib.Dec.{eqb}
 use lib.ListN.{drop, drop_of_length-le, get_or, length}
 use lib.Seq.{drop-cons}
-use mathlib.Core.Bool.{false, true}
+use Rattle.std.specs.Prelude.{Err, None, Ok, Option, Some}
+use mathlib.Core.Bool.{and-false, false, true}
 use mathlib.Core.List.{List, ◌∷◌}
-use mathlib.Core.Path.{◌∙◌, ◌≡◌, ap, sym}
+use mathlib.Core.Path.{◌∙◌, ◌≡◌, ap, refl, sym}
 use native.Mathlib.Numerals.{add-one}
 
 -- ---- a digit
 
-pub digit_zero : (s : Scan) (d : ℕ) → s.begun ≡ true → s.value ≡ 0 → spoilt s ≡ digit_step s d
+pub digit_first : (s : Scan) (d : ℕ) → s.number ≡ None → record s { number = Some d } ≡ digit_step s d
 unfolding digit_step
-digit_zero s d b z = rw (b, eq-eqb s.value 0 z)
+digit_first s d e = rw e
 
-pub digit_first : (s : Scan) (d : ℕ) → s.begun ≡ false → s.value * 10 + d ≤ number_limit
-    → record { line = s.line; bad = s.bad; begun = true; fields = s.fields; value = s.value * 10 + d; numbers = s.numbers } ≡ digit_step s d
+pub digit_zero : (s : Scan) (d : ℕ) → s.number ≡ Some 0 → spoilt s ≡ digit_step s d
 unfolding digit_step
-digit_first s d b l = rw (b, le-leb (s.value * 10 + d) number_limit l)
+digit_zero s d e = rw e
 
-pub digit_more : (s : Scan) (d : ℕ) → s.begun ≡ true → (s.value ≡ 0 → ⊥) → s.value * 10 + d ≤ number_limit
-    → record { line = s.line; bad = s.bad; begun = true; fields = s.fields; value = s.value * 10 + d; numbers = s.numbers } ≡ digit_step s d
+pub digit_more : (s : Scan) (d v : ℕ) → s.number ≡ Some v → (v ≡ 0 → ⊥) → v * 10 + d ≤ number_limit → record s { number = Some (v * 10 + d) } ≡ digit_step s d
 unfolding digit_step
-digit_more s d b z l = rw (b, ne_eqb s.value 0 z, le-leb (s.value * 10 + d) number_limit l)
+digit_more s d v e z l = rw (e, ne_eqb v 0 z, le-leb (v * 10 + d) number_limit l)
 
-pub digit_first_over : (s : Scan) (d : ℕ) → s.begun ≡ false → number_limit < s.value * 10 + d → spoilt s ≡ digit_step s d
+pub digit_more_over : (s : Scan) (d v : ℕ) → s.number ≡ Some v → (v ≡ 0 → ⊥) → number_limit < v * 10 + d → spoilt s ≡ digit_step s d
 unfolding digit_step
-digit_first_over s d b l = rw (b, lt-leb (s.value * 10 + d) number_limit l)
-
-pub digit_more_over : (s : Scan) (d : ℕ) → s.begun ≡ true → (s.value ≡ 0 → ⊥) → number_limit < s.value * 10 + d → spoilt s ≡ digit_step s d
-unfolding digit_step
-digit_more_over s d b z l = rw (b, ne_eqb s.value 0 z, lt-leb (s.value * 10 + d) number_limit l)
+digit_more_over s d v e z l = rw (e, ne_eqb v 0 z, lt-leb (v * 10 + d) number_limit l)
 
 -- ---- a space
 
-pub space_ends : (s : Scan) (x : Numbers) → x ≡ push s.numbers s.value → s.begun ≡ true → s.fields < field_count - 1
-    → record { line = s.line; bad = s.bad; begun = false; fields = s.fields + 1; value = 0; numbers = x } ≡ space_step s
+pub space_ends : (s : Scan) (v : ℕ) → s.number ≡ Some v → s.fields < field_count - 1
+    → record s { fields = s.fields + 1; call = push s.call v; number = None } ≡ space_step s
 unfolding space_step
-space_ends s x e b l = rw (b, lt-ltb s.fields (field_count - 1) l, e)
+space_ends s v e l = rw (e, lt-ltb s.fields (field_count - 1) l)
 
-pub space_over : (s : Scan) → s.begun ≡ true → field_count - 1 ≤ s.fields → spoilt s ≡ space_step s
+pub space_over : (s : Scan) (v : ℕ) → s.number ≡ Some v → field_count - 1 ≤ s.fields → spoilt s ≡ space_step s
 unfolding space_step
-space_over s b l = rw (b, le-ltb s.fields (field_count - 1) l)
+space_over s v e l = rw (e, le-ltb s.fields (field_count - 1) l)
 
-pub space_early : (s : Scan) → s.begun ≡ false → spoilt s ≡ space_step s
+pub space_early : (s : Scan) → s.number ≡ None → spoilt s ≡ space_step s
 unfolding space_step
-space_early s b = rw b
+space_early s e = rw e
 
 -- ---- any byte
 
@@ -77,43 +70,31 @@ pub byte_digit : (s : Scan) (b : ℕ) → s.bad ≡ false → zero_digit ≤ b �
 unfolding byte_step
 byte_digit s b e l h = rw (e, le-ltb b zero_digit l, le-ltb (zero_digit + 9) b h)
 
--- ---- a line's end, the next line, a fresh line
+-- ---- a line's end, and the next line
 
-pub end_bad : (s : Scan) → s.bad ≡ true → Bad s.line ≡ line_of_scan s
+pub end_bad : (s : Scan) → s.bad ≡ true → Err (record { line = s.line }) ≡ line_of_scan s
 unfolding line_of_scan
-end_bad s b = rw b
+end_bad s b = by s.number
+  where
+    by : (number : Option ℕ) → Err (record { line = s.line }) ≡ line_of_scan (record s { number = number })
+    by None = refl
+    by (Some v) = rw b
 
-pub end_early : (s : Scan) → s.bad ≡ false → s.begun ≡ false → Bad s.line ≡ line_of_scan s
+pub end_early : (s : Scan) → s.number ≡ None → Err (record { line = s.line }) ≡ line_of_scan s
 unfolding line_of_scan
-end_early s b e = rw (b, e)
+end_early s e = rw e
 
-pub end_short : (s : Scan) → s.bad ≡ false → s.begun ≡ true → (s.fields ≡ field_count - 1 → ⊥) → Bad s.line ≡ line_of_scan s
+pub end_short : (s : Scan) (v : ℕ) → s.number ≡ Some v → (s.fields ≡ field_count - 1 → ⊥) → Err (record { line = s.line }) ≡ line_of_scan s
 unfolding line_of_scan
-end_short s b e f = rw (b, e, ne_eqb s.fields (field_count - 1) f)
+end_short s v e f = rw (e, ne_eqb s.fields (field_count - 1) f) (rw and-false)
 
-pub end_good : (s : Scan) → s.bad ≡ false → s.begun ≡ true → s.fields ≡ field_count - 1 → Good (push s.numbers s.value) ≡ line_of_scan s
+pub end_good : (s : Scan) (v : ℕ) → s.bad ≡ false → s.number ≡ Some v → s.fields ≡ field_count - 1 → Ok (push s.call v) ≡ line_of_scan s
 unfolding line_of_scan
-end_good s b e f = rw (b, e, eq-eqb s.fields (field_count - 1) f)
+end_good s v b e f = rw (e, b, eq-eqb s.fields (field_count - 1) f)
 
 pub next_more : (s : Scan) → s.line < last_number → start_of (s.line + 1) ≡ next_of s
 unfolding next_of
 next_more s l = rw (lt-ltb s.line last_number l)
-
-pub next_stays : (s : Scan) → last_number ≤ s.line → start_of s.line ≡ next_of s
-unfolding next_of
-next_stays s l = rw (le-ltb s.line last_number l)
-
-pub fresh_bad : (s : Scan) → s.bad ≡ true → false ≡ is_fresh s
-unfolding is_fresh
-fresh_bad s b = rw b
-
-pub fresh_begun : (s : Scan) → s.bad ≡ false → s.begun ≡ true → false ≡ is_fresh s
-unfolding is_fresh
-fresh_begun s b e = rw (b, e)
-
-pub fresh_by_fields : (s : Scan) → s.bad ≡ false → s.begun ≡ false → eqb s.fields 0 ≡ is_fresh s
-unfolding is_fresh
-fresh_by_fields s b e = rw (b, e)
 
 -- ---- a chunk: its first byte; and its byte at place i, as a loop over it goes
 

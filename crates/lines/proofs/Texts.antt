@@ -6,10 +6,9 @@ use Prim.Native.Nat.{◌*◌, ◌<◌, ◌≤◌, ℕ}
 use Rattle.lines.proofs.Bools.{and_both, and_l, and_r, bool_case}
 use Rattle.lines.proofs.Decimal.{decimal-value, digit_low, is_decimal-decimal, is_number-decimal, length-decimal, value-decimal}
 use Rattle.lines.proofs.Pieces.{joined-pieces, lacks, length-joined, pieces-joined}
-use Rattle.lines.specs.Lines.{all, are_numbers, decimal, field_count, is_decimal, is_digit, is_good, is_number, joined, line_limit, line_of, list_of, number_limit, numbers_of, pieces, space, spaced, text_of, value, zero_digit}
-use Rattle.lines.specs.declared.Line.TheVariants.{Bad, Good}
-use Rattle.lines.specs.declared.Line.{Line}
-use Rattle.lines.specs.declared.Numbers.{Numbers}
+use Rattle.lines.specs.Lines.{Line, all, are_numbers, call_of, decimal, field_count, is_decimal, is_digit, is_good, is_number, joined, line_limit, line_of, list_of, number_limit, pieces, space, spaced, text_of, value, zero_digit}
+use Rattle.rules.specs.declared.Call.{Call}
+use Rattle.std.specs.Prelude.{Err, Ok}
 use borrow.Author.Tests.{eqb-true, le-leb, leb-true, ne_eqb}
 use lib.Dec.{eqb, leb}
 use lib.ListN.{length, length-map}
@@ -77,13 +76,13 @@ good_by_numbers line =
 
 -- line n, by its words
 unfoldable pub judged : ℕ → List (List ℕ) → Line
-judged n ws = cond (are_numbers ws) (Good (numbers_of (map value ws))) (Bad n)
+judged n ws = cond (are_numbers ws) (Ok (call_of (map value ws))) (Err (record { line = n }))
 
-pub judged_good : (n : ℕ) (ws : List (List ℕ)) → are_numbers ws ≡ true → judged n ws ≡ Good (numbers_of (map value ws))
+pub judged_good : (n : ℕ) (ws : List (List ℕ)) → are_numbers ws ≡ true → judged n ws ≡ Ok (call_of (map value ws))
 unfolding judged
 judged_good n ws e = rw e
 
-pub judged_bad : (n : ℕ) (ws : List (List ℕ)) → are_numbers ws ≡ false → judged n ws ≡ Bad n
+pub judged_bad : (n : ℕ) (ws : List (List ℕ)) → are_numbers ws ≡ false → judged n ws ≡ Err (record { line = n })
 unfolding judged
 judged_bad n ws e = rw e
 
@@ -97,18 +96,18 @@ abbrev pub within : List ℕ → Bool
 within ns = all (λ v. leb v number_limit) ns
 
 -- the numbers of a list of eight are that list
-pub list_of-numbers_of : (ns : List ℕ) → length ns ≡ field_count → list_of (numbers_of ns) ≡ ns
-unfolding numbers_of
-list_of-numbers_of [] e = absurd (omega arith)
-list_of-numbers_of (a ∷ []) e = absurd (omega arith)
-list_of-numbers_of (a ∷ b ∷ []) e = absurd (omega arith)
-list_of-numbers_of (a ∷ b ∷ c ∷ []) e = absurd (omega arith)
-list_of-numbers_of (a ∷ b ∷ c ∷ d ∷ []) e = absurd (omega arith)
-list_of-numbers_of (a ∷ b ∷ c ∷ d ∷ f ∷ []) e = absurd (omega arith)
-list_of-numbers_of (a ∷ b ∷ c ∷ d ∷ f ∷ g ∷ []) e = absurd (omega arith)
-list_of-numbers_of (a ∷ b ∷ c ∷ d ∷ f ∷ g ∷ h ∷ []) e = absurd (omega arith)
-list_of-numbers_of (a ∷ b ∷ c ∷ d ∷ f ∷ g ∷ h ∷ i ∷ []) e = refl
-list_of-numbers_of (a ∷ b ∷ c ∷ d ∷ f ∷ g ∷ h ∷ i ∷ j ∷ ns) e = absurd (omega arith)
+pub list_of-call_of : (ns : List ℕ) → length ns ≡ field_count → list_of (call_of ns) ≡ ns
+unfolding call_of
+list_of-call_of [] e = absurd (omega arith)
+list_of-call_of (a ∷ []) e = absurd (omega arith)
+list_of-call_of (a ∷ b ∷ []) e = absurd (omega arith)
+list_of-call_of (a ∷ b ∷ c ∷ []) e = absurd (omega arith)
+list_of-call_of (a ∷ b ∷ c ∷ d ∷ []) e = absurd (omega arith)
+list_of-call_of (a ∷ b ∷ c ∷ d ∷ f ∷ []) e = absurd (omega arith)
+list_of-call_of (a ∷ b ∷ c ∷ d ∷ f ∷ g ∷ []) e = absurd (omega arith)
+list_of-call_of (a ∷ b ∷ c ∷ d ∷ f ∷ g ∷ h ∷ []) e = absurd (omega arith)
+list_of-call_of (a ∷ b ∷ c ∷ d ∷ f ∷ g ∷ h ∷ i ∷ []) e = refl
+list_of-call_of (a ∷ b ∷ c ∷ d ∷ f ∷ g ∷ h ∷ i ∷ j ∷ ns) e = absurd (omega arith)
 
 numbers-decimal : (ns : List ℕ) → within ns ≡ true → all is_number (map decimal ns) ≡ true
 unfolding all
@@ -145,21 +144,21 @@ within_values (w ∷ ws) e =
 
 -- ---- a line and its text
 
-words-text : (x : Numbers) → pieces space (text_of x) ≡ map decimal (list_of x)
+words-text : (x : Call) → pieces space (text_of x) ≡ map decimal (list_of x)
 unfolding spaced text_of
 words-text x = pieces-joined space (decimal x.service) (map decimal (x.caller ∷ x.target ∷ x.side ∷ x.mode ∷ x.ticks ∷ x.word ∷ x.high ∷ [])) (decimals_lack (list_of x))
 
 -- every text of eight numbers is read as these numbers
-pub read-text : (n : ℕ) (x : Numbers) → within (list_of x) ≡ true → line_of n (text_of x) ≡ Good x
-unfolding are_numbers numbers_of
+pub read-text : (n : ℕ) (x : Call) → within (list_of x) ≡ true → line_of n (text_of x) ≡ Ok x
+unfolding are_numbers call_of
 read-text n x e =
     line_by_words n (text_of x)
     ∙ ap (judged n) (words-text x)
     ∙ judged_good n (map decimal (list_of x)) (numbers-decimal (list_of x) e)
-    ∙ ap (λ (ns : List ℕ). Good (numbers_of ns)) (values_decimal (list_of x))
+    ∙ ap (λ (ns : List ℕ). Ok (call_of ns)) (values_decimal (list_of x))
 
 -- a line that is read as numbers is their text
-pub text-read : (n : ℕ) (line : List ℕ) (x : Numbers) → line_of n line ≡ Good x → (line ≡ text_of x) × (within (list_of x) ≡ true)
+pub text-read : (n : ℕ) (line : List ℕ) (x : Call) → line_of n line ≡ Ok x → (line ≡ text_of x) × (within (list_of x) ≡ true)
 unfolding are_numbers spaced text_of
 text-read n line x e =
     bool_case (are_numbers (pieces space line))
@@ -167,16 +166,16 @@ text-read n line x e =
     let ws : List (List ℕ) = pieces space line in
     let count : length ws ≡ field_count = eqb-true (length ws) field_count (and_l (eqb (length ws) field_count) (all is_number ws) good) in
     let each : all is_number ws ≡ true = and_r (eqb (length ws) field_count) (all is_number ws) good in
-    let same : numbers_of (map value ws) ≡ x = cc (line_by_words n line, judged_good n ws good, e) in
-    let list : list_of (numbers_of (map value ws)) ≡ map value ws = list_of-numbers_of (map value ws) (length-map ws value ∙ count) in (
+    let same : call_of (map value ws) ≡ x = cc (line_by_words n line, judged_good n ws good, e) in
+    let list : list_of (call_of (map value ws)) ≡ map value ws = list_of-call_of (map value ws) (length-map ws value ∙ count) in (
       sym (joined-pieces space [] line)
           ∙ ap (joined space) (sym (decimals_value ws each))
           ∙ ap (λ (ns : List ℕ). joined space (map decimal ns)) (sym list)
           ∙ ap text_of same,
-      ap (λ (y : Numbers). within (list_of y)) (sym same) ∙ ap within list ∙ within_values ws each,
+      ap (λ (y : Call). within (list_of y)) (sym same) ∙ ap within list ∙ within_values ws each,
     ))
     (λ bad. let z : ◌≡◌ {A = ℕ} 0 1 = cc (line_by_words n line, judged_bad n (pieces space line) bad, e) in absurd (omega arith))
 
 -- reader and text are inverse: line n is good with these numbers exactly if it is their text and each is within the limit
-pub good_line : (n : ℕ) (line : List ℕ) (x : Numbers) → (line_of n line ≡ Good x) ↔ ((line ≡ text_of x) × (within (list_of x) ≡ true))
+pub good_line : (n : ℕ) (line : List ℕ) (x : Call) → (line_of n line ≡ Ok x) ↔ ((line ≡ text_of x) × (within (list_of x) ≡ true))
 good_line n line x = (λ e. text-read n line x e, λ p. rw p.0 (read-text n x p.1))

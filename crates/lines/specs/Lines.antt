@@ -1,10 +1,9 @@
 -- What the drill runner reads and prints, byte by byte: definitions alone, in the words of document 01, "Panel edges".
 -- In order: the paper's numbers; a text in pieces; the lines of an input; a number and its text; a good line and its
--- numbers; what is printed. Not here: the reader's state (Scan.antt) and the laws (proofs/).
-use Rattle.std.specs.Prelude.{◌%◌, ◌*◌, ◌+◌, ◌-◌, ◌/◌, suc, zero, ℕ, eqb, leb, ltb, drop, get_or, length, take, Bool, ◌&&◌, cond, false, not, true, List, [], ◌++◌, ◌∷◌, map, ◌≡◌}
-use Rattle.lines.specs.declared.Line.TheVariants.{Bad, Good}
-use Rattle.lines.specs.declared.Line.{Line}
-use Rattle.lines.specs.declared.Numbers.{Numbers}
+-- call; what is printed. Not here: the reader's state (Scan.antt) and the laws (proofs/).
+use Rattle.std.specs.Prelude.{◌%◌, ◌*◌, ◌+◌, ◌-◌, ◌/◌, suc, zero, ℕ, eqb, leb, ltb, drop, get_or, length, take, Bool, ◌&&◌, cond, false, not, true, List, [], ◌++◌, ◌∷◌, map, ◌≡◌, Err, Ok, Result}
+use Rattle.lines.specs.declared.BadLine.{BadLine}
+use Rattle.rules.specs.declared.Call.{Call}
 
 -- ---- the paper's numbers, and the bytes it names
 
@@ -100,11 +99,11 @@ value ds = value_from 0 ds
 unfoldable pub is_number : List ℕ → Bool
 is_number w = is_decimal w && leb (value w) number_limit
 
--- ---- a good line and its numbers
+-- ---- a good line and its call
 
 -- "service, caller, target, side, mode, ticks, word", and M-105's "eighth number, the high word"
-unfoldable pub numbers_of : List ℕ → Numbers
-numbers_of ns =
+unfoldable pub call_of : List ℕ → Call
+call_of ns =
     record {
       service = get_or ns 0 0;
       caller = get_or ns 1 0;
@@ -116,7 +115,7 @@ numbers_of ns =
       high = get_or ns 7 0;
     }
 
-abbrev pub list_of : Numbers → List ℕ
+abbrev pub list_of : Call → List ℕ
 list_of x = x.service ∷ x.caller ∷ x.target ∷ x.side ∷ x.mode ∷ x.ticks ∷ x.word ∷ x.high ∷ []
 
 -- the words that single spaces part are eight numbers
@@ -128,9 +127,13 @@ are_numbers ws = eqb (length ws) field_count && all is_number ws
 unfoldable pub is_good : List ℕ → Bool
 is_good line = leb (length line) line_limit && are_numbers (pieces space line)
 
--- line n of an input: its numbers, "or for any other line `line N bad`"
+-- a line that is read: "A call is seven numbers", with M-105 eight; or the number of one that is no call
+abbrev pub Line : Type 0
+Line = Result Call BadLine
+
+-- line n of an input: its call, "or for any other line `line N bad`"
 unfoldable pub line_of : ℕ → List ℕ → Line
-line_of n line = cond (is_good line) (Good (numbers_of (map value (pieces space line)))) (Bad n)
+line_of n line = cond (is_good line) (Ok (call_of (map value (pieces space line)))) (Err (record { line = n }))
 
 -- lines, the first of which is line n
 unfoldable pub numbered : ℕ → List (List ℕ) → List Line
@@ -147,8 +150,8 @@ read_lines input = numbered 1 (lines_of input)
 unfoldable pub spaced : List ℕ → List ℕ
 spaced ns = joined space (map decimal ns)
 
--- the text of a good line with these numbers, the only one (proofs/Texts.antt, `good_line`)
-unfoldable pub text_of : Numbers → List ℕ
+-- the text of a good line with this call, the only one (proofs/Texts.antt, `good_line`)
+unfoldable pub text_of : Call → List ℕ
 text_of x = spaced (list_of x)
 
 -- "It prints refusal, answer and next", with M-104 "four numbers per call": numbers on a line of their own

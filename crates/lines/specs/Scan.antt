@@ -1,22 +1,20 @@
 -- The reader as a state over the bytes of a line so far: what each function of this crate that reads does, definitions alone.
 -- In order: the state and its steps; a line's end; a chunk, and an input in chunks. That this reads a line and an input as
 -- Lines.antt has it is proved in proofs/Reading.antt (`read-line`) and proofs/Chunks.antt (`read_chunks`).
-use Rattle.std.specs.Prelude.{◌*◌, ◌+◌, ◌-◌, ℕ, eqb, leb, ltb, Bool, ◌&&◌, cond, false, not, true, List, [], ◌++◌, ◌∷◌}
-use Rattle.lines.specs.Lines.{field_count, newline, number_limit, space, zero_digit}
-use Rattle.lines.specs.declared.Line.TheVariants.{Bad, Good}
-use Rattle.lines.specs.declared.Line.{Line}
-use Rattle.lines.specs.declared.Numbers.{Numbers}
+use Rattle.std.specs.Prelude.{◌*◌, ◌+◌, ◌-◌, ℕ, eqb, leb, ltb, Bool, ◌&&◌, cond, false, not, true, List, [], ◌++◌, ◌∷◌, Err, None, Ok, Some, is_none}
+use Rattle.lines.specs.Lines.{Line, field_count, newline, number_limit, space, zero_digit}
 use Rattle.lines.specs.declared.Progress.TheVariants.{Ended, More}
 use Rattle.lines.specs.declared.Progress.{Progress}
 use Rattle.lines.specs.declared.Scan.{Scan}
+use Rattle.rules.specs.declared.Call.{Call}
 
 -- ---- the state, and a byte of a line
 
-abbrev pub no_numbers : Numbers
+abbrev pub no_numbers : Call
 no_numbers = record { service = 0; caller = 0; target = 0; side = 0; mode = 0; ticks = 0; word = 0; high = 0 }
 
 -- the numbers move one field up, and v comes last: after as many as there are fields, each is in its own
-abbrev pub push : Numbers → ℕ → Numbers
+abbrev pub push : Call → ℕ → Call
 push x v =
     record {
       service = x.caller;
@@ -31,27 +29,30 @@ push x v =
 
 -- line n, no byte of it read
 abbrev pub start_of : ℕ → Scan
-start_of n = record { line = n; bad = false; begun = false; fields = 0; value = 0; numbers = no_numbers }
+start_of n = record { line = n; bad = false; fields = 0; call = no_numbers; number = None }
 
 -- the line is bad, whatever follows
 abbrev pub spoilt : Scan → Scan
-spoilt s = record { line = s.line; bad = true; begun = s.begun; fields = s.fields; value = s.value; numbers = s.numbers }
+spoilt s = record s { bad = true }
 
--- the digit d
+-- the digit d: the first of a number; or one behind those that say v, which is no leading 0
 unfoldable pub digit_step : Scan → ℕ → Scan
 digit_step s d =
-    cond (s.begun && eqb s.value 0)
-    (spoilt s)
-    (cond (leb (s.value * 10 + d) number_limit)
-    (record { line = s.line; bad = s.bad; begun = true; fields = s.fields; value = s.value * 10 + d; numbers = s.numbers })
-    (spoilt s))
+    elim s.number [
+      | None ↦ record s { number = Some d }
+      | Some v ↦ cond (not (eqb v 0) && leb (v * 10 + d) number_limit) (record s { number = Some (v * 10 + d) }) (spoilt s)
+    ]
 
 -- a space ends a number, and another has to follow
 unfoldable pub space_step : Scan → Scan
 space_step s =
-    cond (s.begun && ltb s.fields (field_count - 1))
-    (record { line = s.line; bad = s.bad; begun = false; fields = s.fields + 1; value = 0; numbers = push s.numbers s.value })
-    (spoilt s)
+    elim s.number [
+      | None ↦ spoilt s
+      | Some v ↦
+          cond (ltb s.fields (field_count - 1))
+          (record s { fields = s.fields + 1; call = push s.call v; number = None })
+          (spoilt s)
+    ]
 
 -- any byte but a newline
 unfoldable pub byte_step : Scan → ℕ → Scan
@@ -71,9 +72,10 @@ scanned s (b ∷ bs) = scanned (byte_step s b) bs
 -- the line that ends here: good where it stands in the last number
 unfoldable pub line_of_scan : Scan → Line
 line_of_scan s =
-    cond (not s.bad && s.begun && eqb s.fields (field_count - 1))
-    (Good (push s.numbers s.value))
-    (Bad s.line)
+    elim s.number [
+      | None ↦ Err (record { line = s.line })
+      | Some v ↦ cond (not s.bad && eqb s.fields (field_count - 1)) (Ok (push s.call v)) (Err (record { line = s.line }))
+    ]
 
 -- the highest number that a line is given, that of a u64
 abbrev pub last_number : ℕ
@@ -85,7 +87,7 @@ next_of s = start_of (cond (ltb s.line last_number) (s.line + 1) s.line)
 
 -- no byte of the line is read
 unfoldable pub is_fresh : Scan → Bool
-is_fresh s = not s.bad && not s.begun && eqb s.fields 0
+is_fresh s = not s.bad && eqb s.fields 0 && is_none s.number
 
 -- ---- a chunk, and an input in chunks
 

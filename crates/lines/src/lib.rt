@@ -8,6 +8,8 @@ ghost use Rattle.lines.specs.Lines.{Put, bad_text, decimal, print_room, printed}
 ghost use Rattle.lines.specs.Scan.{byte_step, digit_step, is_fresh, line_of_scan, next_of, progress_of, push, space_step, start_of};
 ghost use Rattle.lines.specs.Scan.{spoilt};
 
+use rules::Call;
+
 // The room that a printed line may take, as specs/Lines.antt has it.
 pub const PRINT_ROOM: usize = 64;
 
@@ -16,61 +18,36 @@ const NUMBER_LIMIT: u64 = 4294967295;
 
 const FIELDS: u32 = 8;
 
-const LAST_LINE: u64 = 18446744073709551615;
-
-const NEWLINE: u8 = 10;
-
-const SPACE: u8 = 32;
-
-const ZERO: u8 = 48;
-
-const NINE: u8 = 57;
-
-// The eight numbers of a good line. The last is the high word of a message (M-105), read by hub requests only.
-#[derive(Clone, Copy)]
-pub struct Numbers {
-    pub service: u32,
-    pub caller: u32,
-    pub target: u32,
-    pub side: u32,
-    pub mode: u32,
-    pub ticks: u32,
-    pub word: u32,
-    pub high: u32,
+// A line that is no call: the number N that `line N bad` prints. The text is `write_bad`'s to write, and proved there.
+#[derive(Clone, Copy, Debug, PartialEq, Eq)]
+pub struct BadLine {
+    pub line: u64,
 }
 
-// A line that has ended: its numbers, or the number N that `line N bad` prints.
-#[derive(Clone, Copy)]
-pub enum Line {
-    Good(Numbers),
-    Bad(u64),
-}
-
-// The line being read: its number, whether it is bad, whether a digit of the present field is read, the fields before that,
-// the value of the present one so far, and the numbers of those before.
+// The line being read: its number, whether it is bad, the fields before the present one and their numbers, the last of them
+// in `high`, and the present number so far, none before its first digit.
 #[derive(Clone, Copy)]
 pub struct Scan {
     pub line: u64,
     pub bad: bool,
-    pub begun: bool,
     pub fields: u32,
-    pub value: u32,
-    pub numbers: Numbers,
+    pub call: Call,
+    pub number: Option<u32>,
 }
 
 // What reading a chunk from a place on finds: a line's end, with the state for the next line and the place behind the
-// newline; or none, with the state at the chunk's end.
+// newline; or none, with the state at the chunk's end. No Option or Result: each way bears a state, and neither is a failure.
 #[derive(Clone, Copy)]
 pub enum Progress {
-    Ended(Line, Scan, usize),
+    Ended(Result<Call, BadLine>, Scan, usize),
     More(Scan),
 }
 
 // The numbers move one field up, and v comes last: after eight, each is in its own field.
-fn with_number(x: Numbers, v: u32) -> Numbers
+fn with_number(x: Call, v: u32) -> Call
     ensures { result ≡ push x v }
 {
-    Numbers {
+    Call {
         service: x.caller,
         caller: x.target,
         target: x.side,
@@ -87,7 +64,7 @@ impl Scan {
     pub fn start(line: u64) -> Scan
         ensures { result ≡ start_of line }
     {
-        let numbers = Numbers {
+        let call = Call {
             service: 0,
             caller: 0,
             target: 0,
@@ -100,42 +77,34 @@ impl Scan {
         Scan {
             line,
             bad: false,
-            begun: false,
             fields: 0,
-            value: 0,
-            numbers,
+            call,
+            number: None,
         }
     }
 
     // The line is bad, whatever follows.
-    fn spoilt(mut self) -> Scan
+    fn spoilt(self) -> Scan
         ensures { result ≡ spoilt self }
     {
-        self.bad = true;
-        self
+        Scan { bad: true, ..self }
     }
 
-    // The digit d: it may not stand behind a leading 0, nor take the value over the limit.
+    // The digit d: it may not stand behind a leading 0, nor take the number over the limit.
+    #[tactic(auto, unfolding(crate::specs::Scan::digit_step))]
     fn digit(self, d: u8) -> Scan
         requires { d ≤ 9 }
         ensures { result ≡ digit_step self d }
     {
-        let value = self.value;
-        if self.begun {
-            if value == 0 {
-                return self.spoilt();
-            }
-        }
-        let v = value as u64 * 10 + d as u64;
-        if v <= NUMBER_LIMIT {
-            let numbers = self.numbers;
+        let value = match self.number {
+            None => d as u64,
+            Some(0) => return self.spoilt(),
+            Some(v) => v as u64 * 10 + d as u64,
+        };
+        if value <= NUMBER_LIMIT {
             Scan {
-                line: self.line,
-                bad: self.bad,
-                begun: true,
-                fields: self.fields,
-                value: v as u32,
-                numbers,
+                number: Some(value as u32),
+                ..self
             }
         } else {
             self.spoilt()
@@ -143,85 +112,61 @@ impl Scan {
     }
 
     // A space: it ends a number that is not the last.
+    #[tactic(auto, unfolding(crate::specs::Scan::space_step))]
     fn space(self) -> Scan
         ensures { result ≡ space_step self }
     {
-        let fields = self.fields;
-        if self.begun {
-            if fields < FIELDS - 1 {
-                let before = self.numbers;
-                let numbers = with_number(before, self.value);
-                return Scan {
-                    line: self.line,
-                    bad: self.bad,
-                    begun: false,
-                    fields: fields + 1,
-                    value: 0,
-                    numbers,
-                };
-            }
+        match self.number {
+            Some(v) if self.fields < FIELDS - 1 => Scan {
+                fields: self.fields + 1,
+                call: with_number(self.call, v),
+                number: None,
+                ..self
+            },
+            _ => self.spoilt(),
         }
-        self.spoilt()
     }
 
     // One byte more of the line, which is no newline.
+    #[tactic(auto, unfolding(crate::specs::Scan::byte_step))]
     fn step(self, byte: u8) -> Scan
         ensures { result ≡ byte_step self byte }
     {
         if self.bad {
             return self;
         }
-        if byte < ZERO {
-            if byte == SPACE {
-                self.space()
-            } else {
-                self.spoilt()
-            }
-        } else if NINE < byte {
-            self.spoilt()
-        } else {
-            self.digit(byte - ZERO)
+        match byte {
+            b'0'..=b'9' => self.digit(byte - b'0'),
+            b' ' => self.space(),
+            _ => self.spoilt(),
         }
     }
 
     // The line, at its end.
-    pub fn finish(self) -> Line
+    #[tactic(auto, unfolding(crate::specs::Scan::line_of_scan))]
+    pub fn finish(self) -> Result<Call, BadLine>
         ensures { result ≡ line_of_scan self }
     {
-        if self.bad {
-            return Line::Bad(self.line);
+        match self.number {
+            Some(v) if !self.bad && self.fields == FIELDS - 1 => Ok(with_number(self.call, v)),
+            _ => Err(BadLine { line: self.line }),
         }
-        if self.begun {
-            if self.fields == FIELDS - 1 {
-                let before = self.numbers;
-                return Line::Good(with_number(before, self.value));
-            }
-        }
-        Line::Bad(self.line)
     }
 
     // The state before the next line. Line 18,446,744,073,709,551,615 is followed by lines of the same number.
+    #[tactic(auto, unfolding(crate::specs::Scan::next_of))]
     fn next(self) -> Scan
         ensures { result ≡ next_of self }
     {
-        if self.line < LAST_LINE {
-            Scan::start(self.line + 1)
-        } else {
-            Scan::start(self.line)
-        }
+        Scan::start(self.line.saturating_add(1))
     }
 
     // No byte of the line is read: at the end of the input there is no further line.
+    #[tactic(auto, unfolding(crate::specs::Scan::is_fresh))]
     pub fn fresh(self) -> bool
         ensures { result ≡ is_fresh self }
     {
-        if self.bad {
-            return false;
-        }
-        if self.begun {
-            return false;
-        }
-        self.fields == 0
+        !self.bad && self.fields == 0 && self.number.is_none()
     }
 }
 
@@ -230,14 +175,11 @@ pub fn next_line(buf: &[u8], from: usize, scan: Scan) -> Progress
     ensures { result ≡ progress_of from scan (drop from buf.now) }
 {
     let mut s = scan;
-    let mut i = from;
-    while i < buf.len() {
-        let b = buf[i];
-        i += 1;
-        if b == NEWLINE {
-            return Progress::Ended(s.finish(), s.next(), i);
+    for i in from..buf.len() {
+        if buf[i] == b'\n' {
+            return Progress::Ended(s.finish(), s.next(), i + 1);
         }
-        s = s.step(b);
+        s = s.step(buf[i]);
     }
     Progress::More(s)
 }
@@ -248,35 +190,32 @@ fn put_decimal(out: &mut [u8], at: usize, n: u64) -> usize
     ensures { Put out.old at (decimal n) result out.new }
 {
     if n < 10 {
-        out[at] = ZERO + n as u8;
+        out[at] = b'0' + n as u8;
         return at + 1;
     }
     let end = put_decimal(out, at, n / 10);
-    out[end] = ZERO + (n % 10) as u8;
+    out[end] = b'0' + (n % 10) as u8;
     end + 1
 }
 
 // Writes n in decimal and then the byte `after`.
-fn put_number(out: &mut [u8], at: usize, n: u64, after: u8) -> usize
+fn put_number(out: &mut [u8], at: usize, n: u32, after: u8) -> usize
     requires { at + length (decimal n) < length out.old }
     ensures { Put out.old at (decimal n ++ after ∷ []) result out.new }
 {
-    let end = put_decimal(out, at, n);
+    let end = put_decimal(out, at, n as u64);
     out[end] = after;
     end + 1
 }
 
-// Writes five bytes.
-fn put_five(out: &mut [u8], at: usize, a: u8, b: u8, c: u8, d: u8, e: u8) -> usize
-    requires { at + 5 ≤ length out.old }
-    ensures { Put out.old at (a ∷ b ∷ c ∷ d ∷ e ∷ []) result out.new }
+// Writes bytes.
+fn put_bytes(out: &mut [u8], at: usize, bytes: &[u8]) -> usize
+    requires { at + length bytes.now ≤ length out.old }
+    ensures { Put out.old at bytes.now result out.new }
 {
-    out[at] = a;
-    out[at + 1] = b;
-    out[at + 2] = c;
-    out[at + 3] = d;
-    out[at + 4] = e;
-    at + 5
+    let end = at + bytes.len();
+    out[at..end].copy_from_slice(bytes);
+    end
 }
 
 // Writes the line of an answered call, newline and all, at `at`, and answers the place behind it.
@@ -291,10 +230,7 @@ pub fn write_reply(
     requires { at + print_room ≤ length out.old }
     ensures { Put out.old at (printed (refusal ∷ answer ∷ next ∷ ahead ∷ [])) result out.new }
 {
-    let a = put_number(out, at, refusal as u64, SPACE);
-    let b = put_number(out, a, answer as u64, SPACE);
-    let c = put_number(out, b, next as u64, SPACE);
-    put_number(out, c, ahead as u64, NEWLINE)
+    write_numbers(out, at, &[refusal, answer, next, ahead])
 }
 
 // How many digits n has.
@@ -304,7 +240,7 @@ fn decimal_length(n: u32) -> usize
     let mut left = n;
     let mut digits = 1;
     while 9 < left {
-        left = left / 10;
+        left /= 10;
         digits += 1;
     }
     digits
@@ -318,10 +254,8 @@ pub fn numbers_length(ns: &[u32]) -> usize
     ensures upper_bound { result ≤ length ns.now * 11 }
 {
     let mut bytes = 0;
-    let mut k = 0;
-    while k < ns.len() {
-        bytes += decimal_length(ns[k]) + 1;
-        k += 1;
+    for &n in ns {
+        bytes += decimal_length(n) + 1;
     }
     bytes
 }
@@ -333,11 +267,9 @@ pub fn write_numbers(out: &mut [u8], at: usize, ns: &[u32]) -> usize
     ensures { Put out.old at (printed ns.now) result out.new }
 {
     let mut end = at;
-    let mut k = 0;
-    while k < ns.len() {
-        let after = if k + 1 < ns.len() { SPACE } else { NEWLINE };
-        end = put_number(out, end, ns[k] as u64, after);
-        k += 1;
+    for (k, &n) in ns.iter().enumerate() {
+        let after = if k + 1 < ns.len() { b' ' } else { b'\n' };
+        end = put_number(out, end, n, after);
     }
     end
 }
@@ -347,7 +279,7 @@ pub fn write_bad(out: &mut [u8], at: usize, line: u64) -> usize
     requires { at + print_room ≤ length out.old }
     ensures { Put out.old at (bad_text line) result out.new }
 {
-    let a = put_five(out, at, b'l', b'i', b'n', b'e', SPACE);
+    let a = put_bytes(out, at, b"line ");
     let b = put_decimal(out, a, line);
-    put_five(out, b, SPACE, b'b', b'a', b'd', NEWLINE)
+    put_bytes(out, b, b" bad\n")
 }

@@ -1,39 +1,23 @@
--- The two ways out of `list_bytes`: another length than a table's; and a table, whose words are those of the bytes.
-use Prim.Native.Nat.{◌*◌, ◌/◌, ◌≤◌, ℕ}
-use Rattle.bytes4.specs.Bytes.{words_from}
-use Rattle.lister.specs.Lister.{BytesListed, table_length}
+-- A listing of the words that the bytes make: of a table's, and of none, which is a wrong length.
+use Prim.Native.Nat.{ℕ}
+use Rattle.lister.specs.Lister.{BytesListed}
 use Rattle.listing.proofs.SetUps.{listed-fits}
-use Rattle.listing.specs.Listing.{ListedFrom}
+use Rattle.listing.specs.Listing.{ListedFrom, listing_refusal_in, listing_reply_in, text_in}
 use Rattle.listing.specs.declared.Listed.{Listed}
-use Rattle.rules.specs.Table.{one, size, two}
-use borrow.Author.Tests.{eqb-true}
-use lib.Dec.{eqb}
-use lib.ListN.{length}
-use mathlib.Core.Bool.{Bool, false, false≢true, true}
-use mathlib.Core.List.{List}
-use mathlib.Core.Path.{◌∙◌, ◌≡◌, refl, sym}
-use native.Mathlib.Omega.{arith}
+use Rattle.rules.specs.Refusals.{need}
+use Rattle.rules.specs.Table.{edition_of}
+use Rattle.tablebytes.specs.TableBytes.{table_words}
+use mathlib.Core.List.{List, []}
+use mathlib.Core.Path.{◌≡◌}
 
--- so many bytes make whole words, of which there is room
-pub table-words : (n : ℕ) → table_length n ≡ true → (n ≡ 4 * (n / 4)) × (n / 4 ≤ size two)
-unfolding table_length
-table-words n e = by (eqb n (4 * size one)) refl
-  where
-    by : (one-length : Bool) → eqb n (4 * size one) ≡ one-length → (n ≡ 4 * (n / 4)) × (n / 4 ≤ size two)
-    by true b = rw (eqb-true n (4 * size one) b) (refl, omega arith)
-    by false b = rw (eqb-true n (4 * size two) (rw b at e)) (refl, omega arith)
+none-listed : (text : List ℕ) (r : Listed) (text' : List ℕ) → ListedFrom [] text r text' → (r ≡ record { refusal = 1; length = 0 }) × (text' ≡ text)
+unfolding edition_of listing_refusal_in listing_reply_in need text_in
+none-listed text r text' l = (l.reply, l.bytes)
 
-module _ (b text : List ℕ) where
-  pub listed-length : table_length (length b) ≡ false → BytesListed b text (record { refusal = 1; length = 0 }) text
-  listed-length h = record {
-    table = λ e. absurd (false≢true (sym h ∙ e));
-    none = λ _. (refl, refl);
-    fits = omega arith;
-  }
-
-  pub listed : table_length (length b) ≡ true → {r : Listed} {text' : List ℕ} → ListedFrom (words_from b) text r text' → BytesListed b text r text'
-  listed h {r} {text'} l = record {
-    table = λ _. l;
-    none = λ no. absurd (false≢true (sym no ∙ h));
-    fits = listed-fits (words_from b) text r text' l;
-  }
+pub bytes-listed : (b text : List ℕ) (r : Listed) (text' : List ℕ) → ListedFrom (table_words b) text r text' → BytesListed b text r text'
+unfolding table_words
+bytes-listed b text r text' l = record {
+  table = λ e. rw e at l;
+  none = λ e. none-listed text r text' (rw e at l);
+  fits = listed-fits (table_words b) text r text' l;
+}

@@ -3,21 +3,13 @@
 // the listing has failed.
 #![tactic(auto)]
 
-ghost use Rattle.std.specs.Prelude.{◌*◌, length, ◌≡◌};
-ghost use Rattle.bytes4.specs.Bytes.{words_from};
-ghost use Rattle.lister.specs.Lister.{BytesListed, table_length};
-ghost use Rattle.listing.specs.Listing.{ListedFrom};
+ghost use Rattle.lister.specs.Lister.{BytesListed};
 
 use listing::Listed;
 use std::io::Write;
 
-// "the table as 2,400 bytes", and of edition 2 "2,976 bytes"
-const BYTES: usize = 4 * records::TABLE_SIZE;
-
-const BYTES_TWO: usize = 4 * records::TABLE_SIZE_TWO;
-
-// Room for one byte more, which shows that there are too many.
-const INPUT: usize = BYTES_TWO + 1;
+// "2,976 bytes" of edition 2, and one byte more, which shows that there are too many.
+const INPUT: usize = tablebytes::BYTES_TWO + 1;
 
 // The longest listing: a Blank line, 16 tasks and 16 hubs.
 const TEXT: usize = 704;
@@ -25,49 +17,26 @@ const TEXT: usize = 704;
 // The launcher's descriptor, by the name that it is opened by.
 const VERDICT: &str = "/dev/fd/3";
 
-// Whether so many bytes are a table's, of either edition.
-fn is_table(n: usize) -> bool
-    ensures { result ≡ table_length n }
-{
-    n == BYTES || n == BYTES_TWO
-}
-
-// Lists the table that the bytes are, by way of as many words as they make.
-fn list_words(bytes: &[u8], words: &mut [u32], text: &mut [u8]) -> Listed
-    requires { length bytes.now ≡ 4 * length words.old }
-    ensures { ListedFrom (words_from bytes.now) text.old result text.new }
-{
-    bytes4::unpack(bytes, words);
-    listing::list(&*words, text)
-}
-
-// Lists the table that the bytes are.
+// Lists the table that the bytes are. Other bytes are no table's, and their words are none, which is a wrong length.
 fn list_bytes(bytes: &[u8], text: &mut [u8]) -> Listed
     ensures { BytesListed bytes.now text.old result text.new }
 {
-    if !is_table(bytes.len()) {
-        return Listed {
-            refusal: rules::WRONG_LENGTH,
-            length: 0,
-        };
-    }
     let mut words = [0u32; records::TABLE_SIZE_TWO];
-    list_words(bytes, &mut words[..bytes.len() / 4], text)
+    let n = tablebytes::table_words(bytes, &mut words);
+    listing::list(&words[..n], text)
 }
 
-// A line of two numbers. Nothing waits for it where the descriptor is closed.
-fn tell(rt: &HostRuntime, refusal: u32, length: usize) {
+// A line of two numbers: the refusal, and of how many bytes: a listing's, or, where their number is refused, those that came.
+// Nothing waits for it where the descriptor is closed.
+fn verdict(rt: &HostRuntime, listed: Listed, came: usize) {
+    let refusal = listed.refusal;
+    let length = if refusal == rules::WRONG_LENGTH {
+        came
+    } else {
+        listed.length as usize
+    };
     if let Some(mut told) = streams::to_write(rt, VERDICT) {
         let _ = writeln!(told, "{refusal} {length}");
-    }
-}
-
-// The refusal, and of how many bytes: a listing's, or, where their number is refused, those that came.
-fn verdict(rt: &HostRuntime, listed: Listed, came: usize) {
-    if listed.refusal == rules::WRONG_LENGTH {
-        tell(rt, listed.refusal, came);
-    } else {
-        tell(rt, listed.refusal, listed.length as usize);
     }
 }
 

@@ -2,29 +2,28 @@
 -- out on the state (`text_from`), which comes to the same as on the words (`on_words`). Not here: one call on the words of a state
 -- (rules, States). Assumes nothing.
 use Prim.Native.Nat.{ℕ}
-use Rattle.lines.specs.Lines.{bad_text}
-use Rattle.lines.specs.declared.Line.TheVariants.{Bad, Good}
-use Rattle.lines.specs.declared.Line.{Line}
+use Rattle.lines.specs.Lines.{Line, bad_text}
 use Rattle.rules.proofs.States.{reply-words, state_after, table-words, two_fitting, valid-after}
 use Rattle.rules.proofs.Valid.{Valid}
 use Rattle.rules.specs.Calls.{served}
 use Rattle.rules.specs.Refusals.{refusal_at}
 use Rattle.rules.specs.Reply.{reply_by}
 use Rattle.rules.specs.Table.{State, two, words}
-use Rattle.runner.specs.Runner.{call_of, reply_text, text_through}
+use Rattle.runner.specs.Runner.{reply_text, text_through}
+use Rattle.std.specs.Prelude.{Err, Ok}
 use mathlib.Core.List.{List, [], ◌++◌, ◌∷◌}
 use mathlib.Core.Path.{◌≡◌, ap, refl}
 
 unfoldable pub text_from : State → List Line → List ℕ
 text_from s [] = []
-text_from s (Good x ∷ ls) = reply_text (reply_by (refusal_at two s (call_of x)) (served s (call_of x)) (call_of x)) ++ text_from (state_after two s (call_of x)) ls
-text_from s (Bad n ∷ ls) = bad_text n ++ text_from s ls
+text_from s (Ok call ∷ ls) = reply_text (reply_by (refusal_at two s call) (served s call) call) ++ text_from (state_after two s call) ls
+text_from s (Err bad ∷ ls) = bad_text bad.line ++ text_from s ls
 
 pub on_words : (s : State) → Valid s → (ls : List Line) → text_through (words two s) ls ≡ text_from s ls
 unfolding text_from text_through
 on_words s v [] = refl
-on_words s v (Good x ∷ ls) =
-    rw (reply-words two_fitting s v (call_of x), table-words two_fitting s v (call_of x))
-    (ap (λ (t : List ℕ). reply_text (reply_by (refusal_at two s (call_of x)) (served s (call_of x)) (call_of x)) ++ t)
-    (on_words (state_after two s (call_of x)) (valid-after two_fitting s v (call_of x)) ls))
-on_words s v (Bad n ∷ ls) = ap (λ (t : List ℕ). bad_text n ++ t) (on_words s v ls)
+on_words s v (Ok call ∷ ls) =
+    rw (reply-words two_fitting s v call, table-words two_fitting s v call)
+    (ap (λ (t : List ℕ). reply_text (reply_by (refusal_at two s call) (served s call) call) ++ t)
+    (on_words (state_after two s call) (valid-after two_fitting s v call) ls))
+on_words s v (Err bad ∷ ls) = ap (λ (t : List ℕ). bad_text bad.line ++ t) (on_words s v ls)

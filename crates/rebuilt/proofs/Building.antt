@@ -2,7 +2,7 @@
 -- its hub, and prints 0 0 0 0. Nobody waits at any hub, so no effective priority changes (M-108). In order: one call; calls in a
 -- row; the tasks; the hubs. Not here: how the lines are read (Reading.antt). Assumes nothing.
 use Prim.Native.Nat.{◌+◌, ◌<◌, ◌≤◌, suc, zero, ℕ}
-use Rattle.lines.specs.Lines.{numbers_of, printed}
+use Rattle.lines.specs.Lines.{call_of, printed}
 use Rattle.listing.specs.Listing.{HubSetUp, hub_line, new_hub as hub_from, task_line, text_of_lines}
 use Rattle.rebuilt.proofs.Reading.{good}
 use Rattle.rebuilt.specs.Rebuilt.{Every, GoodHub, all_accepted}
@@ -19,7 +19,7 @@ use Rattle.rules.specs.Reply.{ahead, ahead_for, bears_answer, outcome, reply_by,
 use Rattle.rules.specs.Table.{Hub, State, Task, hub, inactive, no_hub, two, words}
 use Rattle.rules.specs.declared.Call.{Call}
 use Rattle.runner.proofs.Runs.{table_append}
-use Rattle.runner.specs.Runner.{call_of, reply_text, table_through, text_through}
+use Rattle.runner.specs.Runner.{reply_text, table_through, text_through}
 use borrow.Author.Tests.{le-leb, lt-ltb}
 use lib.Dec.{eqb}
 use lib.ListN.{length, length-append}
@@ -54,11 +54,11 @@ unfolding table_through text_of_lines text_through
 steps_none s v e = record { table = refl; text = refl; valid = v; idle = e }
 
 module _ (s : State) (v : Valid s) (l : List ℕ) (s₁ : State)
-    (accept : refusal s (call_of (numbers_of l)) ≡ 0) (served-is : served s (call_of (numbers_of l)) ≡ s₁)
-    (silent : bears_answer (service_of (call_of (numbers_of l)).service) ≡ false) (alone : ahead s₁ (call_of (numbers_of l)) ≡ 0)
+    (accept : refusal s (call_of l) ≡ 0) (served-is : served s (call_of l) ≡ s₁)
+    (silent : bears_answer (service_of (call_of l).service) ≡ false) (alone : ahead s₁ (call_of l) ≡ 0)
     (none : s₁.ready ≡ []) where
   abbrev c : Call
-  c = call_of (numbers_of l)
+  c = call_of l
 
   -- edition 2 takes any message
   accept_all : refusal_at two s c ≡ 0
@@ -90,7 +90,7 @@ module _ (s : State) (v : Valid s) (l : List ℕ) (s₁ : State)
 text_append : (t : List ℕ) (a b : List (List ℕ)) → text_through t (map good (a ++ b)) ≡ text_through t (map good a) ++ text_through (table_through t (map good a)) (map good b)
 unfolding table_through text_through
 text_append t [] b = refl
-text_append t (l ∷ a) b = ap (λ (r : List ℕ). reply_text (reply_to t (call_of (numbers_of l))) ++ r) (text_append (table_after t (call_of (numbers_of l))) a b) ∙ sym (append_assoc (reply_text (reply_to t (call_of (numbers_of l)))) _ _)
+text_append t (l ∷ a) b = ap (λ (r : List ℕ). reply_text (reply_to t (call_of l)) ++ r) (text_append (table_after t (call_of l)) a b) ∙ sym (append_assoc (reply_text (reply_to t (call_of l))) _ _)
 
 accepted_append : (m n : ℕ) → all_accepted (m + n) ≡ all_accepted m ++ all_accepted n
 unfolding text_of_lines
@@ -115,8 +115,8 @@ abbrev pub more_tasks : List ℕ → State → State
 more_tasks ps s = record { tasks = s.tasks ++ map inactive ps; hubs = s.hubs; ready = s.ready }
 
 module _ (s : State) (room : length s.tasks < 16) (p : ℕ) (low : p ≤ 255) where
-  task-accepted : refusal s (call_of (numbers_of (task_line p))) ≡ 0
-  unfolding need numbers_of refusal refusal_for service_of
+  task-accepted : refusal s (call_of (task_line p)) ≡ 0
+  unfolding call_of need refusal refusal_for service_of
   task-accepted = rw (le-leb p 255 low, lt-ltb (length s.tasks) 16 room)
 
   module _ (e : Idle s) where
@@ -124,14 +124,14 @@ module _ (s : State) (room : length s.tasks < 16) (p : ℕ) (low : p ≤ 255) wh
     unfolding add_task
     task_idle = record { ready = e.ready; waiters = e.waiters }
 
-    task-served : served s (call_of (numbers_of (task_line p))) ≡ add_task p s
-    unfolding numbers_of serve served service_of
+    task-served : served s (call_of (task_line p)) ≡ add_task p s
+    unfolding call_of serve served service_of
     task-served =
         idle_still s (add_task p s) e.waiters task_idle.waiters
         (λ j h. ap (λ (t : Task). t.priority) (added_other p s j (λ z. omega arith)))
 
 pub add_tasks : (ps : List ℕ) (s : State) → Valid s → Idle s → length s.tasks + length ps ≤ 16 → Every (λ p. p ≤ 255) ps → Steps s (map task_line ps) (more_tasks ps s)
-unfolding Every add_task ahead ahead_for bears_answer numbers_of service_of
+unfolding Every add_task ahead ahead_for bears_answer call_of service_of
 add_tasks [] s v e room low = subst (Steps s []) (rw (append-nil s.tasks)) (steps_none s v e)
 add_tasks (p ∷ ps) s v e room low =
     let here : length s.tasks < 16 = omega arith in
@@ -150,8 +150,8 @@ abbrev pub more_hubs : List HubSetUp → State → State
 more_hubs hs s = record { tasks = s.tasks; hubs = s.hubs ++ map hub_from hs; ready = s.ready }
 
 module _ (s : State) (room : length s.hubs < 16) (h : HubSetUp) (fine : GoodHub h) where
-  hub-accepted : refusal s (call_of (numbers_of (hub_line h))) ≡ 0
-  unfolding need numbers_of refusal refusal_for service_of
+  hub-accepted : refusal s (call_of (hub_line h)) ≡ 0
+  unfolding call_of need refusal refusal_for service_of
   hub-accepted = rw (fine, lt-ltb (length s.hubs) 16 room)
 
   module _ (e : Idle s) where
@@ -163,12 +163,12 @@ module _ (s : State) (room : length s.hubs < 16) (h : HubSetUp) (fine : GoodHub 
           (λ n. ap (λ (x : Hub). x.waiters) (hub-added_other (hub_from h) s k n) ∙ e.waiters k);
     }
 
-    hub-served : served s (call_of (numbers_of (hub_line h))) ≡ add_hub (hub_from h) s
-    unfolding new_hub numbers_of serve served service_of
+    hub-served : served s (call_of (hub_line h)) ≡ add_hub (hub_from h) s
+    unfolding call_of new_hub serve served service_of
     hub-served = idle_still s (add_hub (hub_from h) s) e.waiters hub_idle.waiters (λ j u. unfold add_hub in refl)
 
 pub add_hubs : (hs : List HubSetUp) (s : State) → Valid s → Idle s → length s.hubs + length hs ≤ 16 → Every GoodHub hs → Steps s (map hub_line hs) (more_hubs hs s)
-unfolding Every add_hub ahead ahead_for bears_answer numbers_of service_of
+unfolding Every add_hub ahead ahead_for bears_answer call_of service_of
 add_hubs [] s v e room fine = subst (Steps s []) (rw (append-nil s.hubs)) (steps_none s v e)
 add_hubs (h ∷ hs) s v e room fine =
     let here : length s.hubs < 16 = omega arith in

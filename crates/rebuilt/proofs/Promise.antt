@@ -4,7 +4,7 @@
 -- (`listing_same`); a table and its move have one listing (`listing-moved`); its length (`listing_most`). Assumes nothing.
 use Prim.Native.Nat.{◌*◌, ◌+◌, ◌<◌, ◌≤◌, suc, ℕ}
 use Rattle.lines.proofs.Decimal.{length-decimal}
-use Rattle.lines.specs.Lines.{all, decimal, joined, number_limit, numbers_of, printed, read_lines, spaced}
+use Rattle.lines.specs.Lines.{all, call_of, decimal, joined, number_limit, printed, read_lines, spaced}
 use Rattle.listing.specs.Listing.{HubSetUp, SetUp, blank_line, built, hub_line, hub_set_up, listing, listing_in, new_hub, priority_of, set_up, set_up_lines, set_up_text, task_line, text_of_lines}
 use Rattle.lists.proofs.Laws.{bool_case}
 use Rattle.rebuilt.proofs.Building.{Steps, add_hubs, add_tasks, idle_blank, more_tasks, steps_append}
@@ -25,7 +25,7 @@ use Rattle.rules.specs.Refusals.{good_hub, refusal_of}
 use Rattle.rules.specs.Reply.{ahead, ahead_for, bears_answer, outcome, reply_by, reply_in, table_after, table_by, table_in}
 use Rattle.rules.specs.Table.{Board, Event, Fifo, Hub, Kind, Memory, NoKind, Port, Resource, Semaphore, State, edition_of, hub, inactive, kind_of, no_hub, one, read, size, state_of, two, words}
 use Rattle.rules.specs.WellFormed.{well_formed, within as between}
-use Rattle.runner.specs.Runner.{call_of, drill_text, reply_text, table_through, text_through, zeros}
+use Rattle.runner.specs.Runner.{drill_text, reply_text, table_through, text_through, zeros}
 use borrow.Author.Tests.{eq-eqb, eqb-true, le-leb, leb-false, leb-true}
 use lib.Dec.{eqb, leb}
 use lib.ListN.{get_or-eq_default, get_or, length, length-append, length-map, length-replicate}
@@ -159,16 +159,16 @@ module _ (u : SetUp) (a : Acceptable u) where
   edition : edition_of zeros ≡ two
   edition = edition-two zeros long
 
-  accepts_blank : refusal_of zeros (call_of (numbers_of blank_line)) ≡ 0
-  unfolding numbers_of
-  accepts_blank = blank-accepted zeros (call_of (numbers_of blank_line)) (rw edition long) refl
+  accepts_blank : refusal_of zeros (call_of blank_line) ≡ 0
+  unfolding call_of
+  accepts_blank = blank-accepted zeros (call_of blank_line) (rw edition long) refl
 
   -- whatever stood there
-  blank-served : served (read two zeros) (call_of (numbers_of blank_line)) ≡ blank
-  unfolding numbers_of service_of
-  blank-served = served-blank (read two zeros) (call_of (numbers_of blank_line)) refl
+  blank-served : served (read two zeros) (call_of blank_line) ≡ blank
+  unfolding call_of service_of
+  blank-served = served-blank (read two zeros) (call_of blank_line) refl
 
-  blank-table : table_after zeros (call_of (numbers_of blank_line)) ≡ words two blank
+  blank-table : table_after zeros (call_of blank_line) ≡ words two blank
   unfolding table_by table_in
   blank-table = rw (accepts_blank, edition, blank-served) refl
 
@@ -177,7 +177,7 @@ module _ (u : SetUp) (a : Acceptable u) where
   blanked = ap (λ (t : List ℕ). table_through t (map good added)) blank-table
 
   blank-text : text_through zeros (map good (blank_line ∷ added)) ≡ printed (0 ∷ 0 ∷ 0 ∷ 0 ∷ []) ++ text_through (words two blank) (map good added)
-  unfolding ahead ahead_for bears_answer blank first_free next numbers_of outcome reply_by reply_in reply_text service_of text_through
+  unfolding ahead ahead_for bears_answer blank call_of first_free next outcome reply_by reply_in reply_text service_of text_through
   blank-text = rw (blank-table, accepts_blank, edition, blank-served) refl
 
   pub form_builds : table_through zeros (read_lines (set_up_text u)) ≡ words two (built u)

@@ -3,14 +3,13 @@
 use Prim.Native.Nat.{suc, ℕ}
 use Rattle.lines.proofs.Bools.{and_both, and_l, and_r}
 use Rattle.lines.proofs.Pieces.{keeps_first, lacks, pieces_lacking, pieces_sep}
-use Rattle.lines.proofs.Texts.{decimal_lacks, list_of-numbers_of, read-text, within}
-use Rattle.lines.specs.Lines.{all, decimal, field_count, joined, line_of, lines_of, newline, numbered, numbers_of, pieces_from, printed, read_lines, space, spaced, text_of, without_empty_last}
-use Rattle.lines.specs.declared.Line.TheVariants.{Good}
-use Rattle.lines.specs.declared.Line.{Line}
+use Rattle.lines.proofs.Texts.{decimal_lacks, list_of-call_of, read-text, within}
+use Rattle.lines.specs.Lines.{Line, all, call_of, decimal, field_count, joined, line_of, lines_of, newline, numbered, pieces_from, printed, read_lines, space, spaced, text_of, without_empty_last}
 use Rattle.listing.specs.Listing.{text_of_lines}
 use Rattle.rebuilt.specs.Rebuilt.{Every}
 use borrow.Author.Tests.{eq-eqb}
 use lib.Dec.{eqb}
+use Rattle.std.specs.Prelude.{Ok}
 use lib.ListN.{length}
 use mathlib.Core.Bool.{not, true}
 use mathlib.Core.List.{List, [], ◌++◌, ◌∷◌, append_assoc, map}
@@ -49,13 +48,13 @@ abbrev pub Eight : List ℕ → Type 0
 Eight l = (length l ≡ field_count) × (within l ≡ true)
 
 abbrev pub good : List ℕ → Line
-good l = Good (numbers_of l)
+good l = Ok (call_of l)
 
 line_read : (n : ℕ) (l : List ℕ) → Eight l → line_of n (spaced l) ≡ good l
 unfolding text_of
 line_read n l (e, w) =
-    let same = list_of-numbers_of l e in
-    ap (λ (x : List ℕ). line_of n (spaced x)) (sym same) ∙ read-text n (numbers_of l) (rw same w)
+    let same = list_of-call_of l e in
+    ap (λ (x : List ℕ). line_of n (spaced x)) (sym same) ∙ read-text n (call_of l) (rw same w)
 
 numbered-read : (n : ℕ) (ls : List (List ℕ)) → Every Eight ls → numbered n (map spaced ls) ≡ map good ls
 unfolding Every numbered

@@ -4,19 +4,18 @@ use Prim.Native.Nat.{◌+◌, ◌<◌, ◌≤◌, ℕ}
 use Rattle.kernel.specs.Promise.{Called}
 use Rattle.lines.proofs.Chunks.{Rest, Turn, read_chunks, rest, turn}
 use Rattle.lines.proofs.Putting.{put_append}
-use Rattle.lines.specs.Lines.{Put, bad_text, lines_of, print_room, printed}
-use Rattle.lines.specs.Scan.{after, ended, fed, is_fresh, last_number, last_of, line_of_scan, progress_of, start_of, whole}
-use Rattle.lines.specs.declared.Line.TheVariants.{Bad, Good}
-use Rattle.lines.specs.declared.Line.{Line}
-use Rattle.lines.specs.declared.Numbers.{Numbers}
+use Rattle.lines.specs.Lines.{Line, Put, bad_text, lines_of, print_room, printed}
+use Rattle.lines.specs.Scan.{after, ended, fed, is_fresh, last_number, last_of, progress_of, start_of, whole}
+use Rattle.lines.specs.declared.BadLine.{BadLine}
 use Rattle.lines.specs.declared.Progress.TheVariants.{Ended, More}
 use Rattle.lines.specs.declared.Scan.{Scan}
-use Rattle.rules.specs.Reply.{answer_number, refusal_number, reply_to, table_after}
+use Rattle.rules.specs.Reply.{answer_number, refusal_number, reply_to}
 use Rattle.rules.specs.declared.Call.{Call}
 use Rattle.rules.specs.declared.Reply.{Reply}
-use Rattle.runner.specs.Runner.{AllOf, Lines, Split, UpTo, call_of, drill_text, fed_text, reply_text, table_on, table_through, text_on, text_through, zeros}
+use Rattle.runner.specs.Runner.{AllOf, Lines, Split, UpTo, drill_text, fed_text, reply_text, table_on, table_through, text_on, text_through, zeros}
+use Rattle.std.specs.Prelude.{Err, Ok}
 use lib.ListN.{drop, length, take, take-append-drop}
-use mathlib.Core.Bool.{false, true}
+use mathlib.Core.Bool.{true}
 use mathlib.Core.List.{List, [], ◌++◌, ◌∷◌, append_assoc, append-nil}
 use mathlib.Core.Path.{◌∙◌, ◌≡◌, ap, refl, sym}
 use native.Mathlib.Nat.{add-zero}
@@ -52,23 +51,23 @@ fed-text cs h = fed-through zeros (start_of 1) cs ∙ ap (text_through zeros) (r
 
 -- ---- lines answered into a buffer
 
--- the numbers of a good line, and its call's reply written out
-pub answered-call : (t out : List ℕ) (at : ℕ) (x : Numbers) (c : Call) (r : Reply) (a b end : ℕ) (t' out' : List ℕ) → c ≡ call_of x → Called t c r t'
+-- a good line's call, and its reply written out
+pub answered-call : (t out : List ℕ) (at : ℕ) (call : Call) (r : Reply) (a b end : ℕ) (t' out' : List ℕ) → Called t call r t'
     → a ≡ refusal_number r.answer → b ≡ answer_number r.answer → Put out at (printed (a ∷ b ∷ r.next ∷ r.ahead ∷ [])) end out' → end ≤ length out'
-    → Lines t (Good x ∷ []) out at end t' out'
+    → Lines t (Ok call ∷ []) out at end t' out'
 unfolding reply_text table_through text_through
-answered-call t out at x c r a b end t' out' e k ea eb p f =
-    let text : printed (a ∷ b ∷ r.next ∷ r.ahead ∷ []) ≡ reply_text (reply_to t (call_of x)) =
-    rw (ea, eb) (ap reply_text (k.reply ∙ ap (reply_to t) e)) in
+answered-call t out at call r a b end t' out' k ea eb p f =
+    let text : printed (a ∷ b ∷ r.next ∷ r.ahead ∷ []) ≡ reply_text (reply_to t call) = rw (ea, eb) (ap reply_text k.reply) in
     record {
-      table = k.table ∙ ap (table_after t) e;
-      text = rw (append-nil (reply_text (reply_to t (call_of x))), ← text) p;
+      table = k.table;
+      text = rw (append-nil (reply_text (reply_to t call)), ← text) p;
       fits = f;
     }
 
-pub answered_bad : (t out : List ℕ) (at n end : ℕ) (out' : List ℕ) → Put out at (bad_text n) end out' → end ≤ length out' → Lines t (Bad n ∷ []) out at end t out'
+pub answered_bad : (t out : List ℕ) (at : ℕ) (bad : BadLine) (end : ℕ) (out' : List ℕ) → Put out at (bad_text bad.line) end out' → end ≤ length out'
+    → Lines t (Err bad ∷ []) out at end t out'
 unfolding table_through text_through
-answered_bad t out at n end out' p f = record { table = refl; text = rw (append-nil (bad_text n)) p; fits = f }
+answered_bad t out at bad end out' p f = record { table = refl; text = rw (append-nil (bad_text bad.line)) p; fits = f }
 
 lines_none : (t out : List ℕ) (at : ℕ) → at ≤ length out → Lines t [] out at at t out
 unfolding table_through text_through
@@ -86,11 +85,6 @@ lines_none t out at h =
 pub last_none : (t out : List ℕ) (at : ℕ) (s : Scan) → at ≤ length out → is_fresh s ≡ true → Lines t (last_of s) out at at t out
 unfolding last_of
 last_none t out at s h e = rw e (lines_none t out at h)
-
-pub last_line : (t out : List ℕ) (at end : ℕ) (s : Scan) (x : Line) (t' out' : List ℕ) → is_fresh s ≡ false → x ≡ line_of_scan s → Lines t (x ∷ []) out at end t' out'
-    → Lines t (last_of s) out at end t' out'
-unfolding last_of
-last_line t out at end s x t' out' e f l = rw e (rw f at l)
 
 -- lines, and further lines on the table and behind the text of those before
 module _ (t out : List ℕ) (at : ℕ) (a : List Line) (end : ℕ) (t₁ out₁ : List ℕ) (p : Lines t a out at end t₁ out₁) (h : end ≤ length out) where

@@ -1,34 +1,16 @@
 -- What the drill runner prints and what its table holds, line by line: definitions alone, over the kernel's promise (rules) and
 -- the line reader's (lines). In order: a line; lines one after the other; a whole drill; what the functions of this crate answer.
-use Rattle.std.specs.Prelude.{◌+◌, ◌<◌, ◌≤◌, ℕ, drop, length, replicate, List, [], ◌++◌, ◌∷◌, ◌≡◌}
-use Rattle.lines.specs.Lines.{Put, bad_text, print_room, printed, read_lines}
+use Rattle.std.specs.Prelude.{◌+◌, ◌<◌, ◌≤◌, ℕ, drop, length, replicate, List, [], ◌++◌, ◌∷◌, ◌≡◌, Err, Ok}
+use Rattle.lines.specs.Lines.{Line, Put, bad_text, print_room, printed, read_lines}
 use Rattle.lines.specs.Scan.{after, ended, last_of}
-use Rattle.lines.specs.declared.Line.TheVariants.{Bad, Good}
-use Rattle.lines.specs.declared.Line.{Line}
-use Rattle.lines.specs.declared.Numbers.{Numbers}
 use Rattle.lines.specs.declared.Scan.{Scan}
 use Rattle.rules.specs.Reply.{answer_number, refusal_number, reply_to, table_after}
 use Rattle.rules.specs.Table.{size, two}
-use Rattle.rules.specs.declared.Call.{Call}
 use Rattle.rules.specs.declared.Reply.{Reply}
 use Rattle.runner.specs.declared.Answered.TheVariants.{Drained, Full}
 use Rattle.runner.specs.declared.Answered.{Answered}
 
 -- ---- a line, on table t
-
--- "A call is seven numbers", and M-105's "eighth number, the high word": those of a good line, in the paper's order
-abbrev pub call_of : Numbers → Call
-call_of x =
-    record {
-      service = x.service;
-      caller = x.caller;
-      target = x.target;
-      side = x.side;
-      mode = x.mode;
-      ticks = x.ticks;
-      word = x.word;
-      high = x.high;
-    }
 
 -- "It prints refusal, answer and next", and M-104: "The drill runner prints four numbers per call."
 unfoldable pub reply_text : Reply → List ℕ
@@ -36,13 +18,13 @@ reply_text r = printed (refusal_number r.answer ∷ answer_number r.answer ∷ r
 
 -- "or for any other line `line N bad`"
 abbrev pub text_on : List ℕ → Line → List ℕ
-text_on t (Good x) = reply_text (reply_to t (call_of x))
-text_on t (Bad n) = bad_text n
+text_on t (Ok call) = reply_text (reply_to t call)
+text_on t (Err bad) = bad_text bad.line
 
 -- a bad line calls nothing
 abbrev pub table_on : List ℕ → Line → List ℕ
-table_on t (Good x) = table_after t (call_of x)
-table_on t (Bad n) = t
+table_on t (Ok call) = table_after t call
+table_on t (Err bad) = t
 
 -- ---- lines, each on the table that those before it left: "and goes on"
 

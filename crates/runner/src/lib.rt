@@ -3,43 +3,29 @@
 // program's (crate drill).
 #![tactic(auto)]
 
-ghost use Rattle.std.specs.Prelude.{◌+◌, ◌≤◌, length, [], ◌∷◌, ◌≡◌};
+ghost use Rattle.std.specs.Prelude.{◌+◌, ◌≤◌, length, [], ◌∷◌};
 ghost use Rattle.lines.specs.Lines.{print_room};
 ghost use Rattle.lines.specs.Scan.{last_of};
-ghost use Rattle.runner.specs.Runner.{ChunkAnswered, Lines, call_of};
+ghost use Rattle.runner.specs.Runner.{ChunkAnswered, Lines};
 
-use lines::{Line, Numbers, Progress, Scan};
+use lines::{BadLine, Progress, Scan};
 use rules::Call;
 
 // How far the lines of a chunk are answered: all that end in it, with the state behind the chunk and the place behind the
-// text; or those before a place of the chunk, the last number, where the buffer has no room for another line.
+// text; or those before a place of the chunk, the last number, where the buffer has no room for another line. No Option or Result:
+// each way bears a state, and neither is a failure.
 #[derive(Clone, Copy)]
 pub enum Answered {
     Drained(Scan, usize),
     Full(Scan, usize, usize),
 }
 
-fn call_of(x: Numbers) -> Call
-    ensures { result ≡ call_of x }
-{
-    Call {
-        service: x.service,
-        caller: x.caller,
-        target: x.target,
-        side: x.side,
-        mode: x.mode,
-        ticks: x.ticks,
-        word: x.word,
-        high: x.high,
-    }
-}
-
 // Calls the kernel and writes the reply's numbers.
-fn answer_call(t: &mut [u32], out: &mut [u8], at: usize, x: Numbers) -> usize
+fn answer_call(t: &mut [u32], out: &mut [u8], at: usize, call: Call) -> usize
     requires { at + print_room ≤ length out.old }
-    ensures { Lines t.old (Line.Good x ∷ []) out.old at result t.new out.new }
+    ensures { Lines t.old (Ok call ∷ []) out.old at result t.new out.new }
 {
-    let reply = kernel::call(t, call_of(x));
+    let reply = kernel::call(t, call);
     let answer = reply.answer;
     lines::write_reply(
         out,
@@ -52,17 +38,18 @@ fn answer_call(t: &mut [u32], out: &mut [u8], at: usize, x: Numbers) -> usize
 }
 
 // Answers one line: a bad one leaves the table alone. The place behind its text.
-fn answer_line(t: &mut [u32], out: &mut [u8], at: usize, line: Line) -> usize
+fn answer_line(t: &mut [u32], out: &mut [u8], at: usize, line: Result<Call, BadLine>) -> usize
     requires { at + print_room ≤ length out.old }
     ensures { Lines t.old (line ∷ []) out.old at result t.new out.new }
 {
     match line {
-        Line::Good(x) => answer_call(t, out, at, x),
-        Line::Bad(n) => lines::write_bad(out, at, n),
+        Ok(call) => answer_call(t, out, at, call),
+        Err(bad) => lines::write_bad(out, at, bad.line),
     }
 }
 
 // Answers the last line of an input, where no newline ends it; there may be none.
+#[tactic(auto, unfolding(lines::specs::Scan::last_of))]
 pub fn answer_last(t: &mut [u32], out: &mut [u8], at: usize, scan: Scan) -> usize
     requires { at + print_room ≤ length out.old }
     ensures { Lines t.old (last_of scan) out.old at result t.new out.new }

@@ -21,10 +21,7 @@ pub fn read_some<R: Read>(reader: &mut R, buf: &mut [u8]) -> usize
     ensures in_bounds { result ≤ length buf.new }
     ensures bytes { Consumes (R.remaining reader.old) (R.remaining reader.new) (take result buf.new) }
 {
-    match reader.read(buf) {
-        Ok(n) => n,
-        Err(_) => 0,
-    }
+    reader.read(buf).unwrap_or(0)
 }
 
 // Reads until buf is full or the input ends, and returns how many bytes it put at the start of buf.
@@ -45,10 +42,7 @@ pub fn read_full<R: Read>(reader: &mut R, buf: &mut [u8]) -> usize
 
 // Whether the descriptor that has this name is open for that. It is a link, whose own permissions say so.
 fn is_open(rt: &HostRuntime, name: &str, permission: u32) -> bool {
-    match fs::symlink_metadata(rt, name) {
-        Ok(link) => link.mode() & permission != 0,
-        Err(_) => false,
-    }
+    fs::symlink_metadata(rt, name).is_ok_and(|link| link.mode() & permission != 0)
 }
 
 // Reads what stands on the descriptor that has this name, as `read_full` does: 0 where there is none.

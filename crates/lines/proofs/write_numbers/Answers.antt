@@ -1,4 +1,4 @@
--- `lines::write_numbers` meets its contract: the text so far and what is left is the whole line. Assumes nothing.
+-- The text so far and what is left is the whole line.
 use Rattle.lines.proofs.Writing.{behind_last, behind_more, writing_begin, writing_end, writing_room, writing_turn}
 use mathlib.Core.Path.{◌∙◌, sym}
 use native.Mathlib.Omega.{arith}
@@ -7,9 +7,6 @@ use Rattle.lines.proofs.write_numbers.Goals.{then-k-ns, else-k-ns}
 
 pub loop-k-init : goal.loop-k-init
 loop-k-init c = writing_begin c.args.ns.now c.args.out.now c.args.at c.requires.in_bounds c.requires.ns_in_bounds
-
-pub overflow_add-k : goal.overflow_add-k
-overflow_add-k c = omega (arith, c.loop-k.invariant.inside)
 
 pub put_number-end-requires : goal.put_number-end-requires
 put_number-end-requires c =
@@ -31,12 +28,9 @@ loop-k-preserved c =
     ])
     c.put_number-end.ensures
 
-pub shape_of-out : goal.shape_of-out
-shape_of-out c = c.loop-k.invariant.long
-
 pub returns : goal.returns
 returns c =
     let a = c.args in
     let p = c.requires in
     let l = c.loop-k in
-    writing_end a.ns.now a.out.now a.at p.in_bounds p.ns_in_bounds l.out l.end l.k l.invariant c.loop-k-test.false
+    writing_end a.ns.now a.out.now a.at p.in_bounds p.ns_in_bounds l.out l.end l.k l.invariant (omega arith)

@@ -6,7 +6,7 @@ use Rattle.runner.proofs.answer_call.Goals as goal
 
 pub returns : goal.returns
 returns c =
-    answered-call c.args.t.now c.args.out.now c.args.at c.args.x c.call_of.result c.call-reply.result
+    answered-call c.args.t.now c.args.out.now c.args.at c.args.call c.call-reply.result
     c.refusal_number.result c.answer_number.result c.write_reply.result c.call-reply.new.t c.write_reply.new.out
-    c.call_of.ensures c.call-reply.ensures c.refusal_number.ensures c.answer_number.ensures c.write_reply.ensures
+    c.call-reply.ensures c.refusal_number.ensures c.answer_number.ensures c.write_reply.ensures
     (put-fits c.args.out.now c.args.at _ c.write_reply.result c.write_reply.new.out c.write_reply.ensures (omega (arith, c.requires)) c.write_reply.auto.out)

@@ -4,11 +4,9 @@ use Rattle.runner.proofs.Runs.{answered_bad}
 use native.Mathlib.Omega.{arith}
 use Rattle.runner.proofs.answer_line.Goals as goal
 
-pub returns-in-Good : goal.returns-in-Good
-returns-in-Good c = rw c.in-Good.is c.answer_call.ensures
-
-pub returns-in-Bad : goal.returns-in-Bad
-returns-in-Bad c =
-    rw c.in-Bad.is
-    (answered_bad c.args.t.now c.args.out.now c.args.at _ c.write_bad.result c.write_bad.new.out c.write_bad.ensures
-    (put-fits c.args.out.now c.args.at _ c.write_bad.result c.write_bad.new.out c.write_bad.ensures (omega (arith, c.requires)) c.write_bad.auto.out))
+pub returns-in-Err : goal.returns-in-Err
+returns-in-Err c =
+    let w = c.write_bad in
+    rw c.in-Err.is
+    (answered_bad c.args.t.now c.args.out.now c.args.at c.in-Err.bad w.result w.new.out w.ensures
+    (put-fits _ _ _ w.result w.new.out w.ensures (omega (arith, c.requires)) w.auto.out))
