@@ -11,7 +11,7 @@ use Rattle.rules.proofs.Numbers.{resource-number}
 use Rattle.rules.proofs.Reading.{read-hub, read-tasks}
 use Rattle.rules.proofs.Room.{stored_le}
 use Rattle.rules.proofs.Tests.{t_kind}
-use Rattle.rules.specs.Table.{Hub, Layout, held_in, hub, hub_at, hubs_at, inactive, kind_of, read, store_part, store_size, stored, stores_at, task}
+use Rattle.rules.specs.Table.{Hub, Kind, Layout, held_in, hub, hub_at, hubs_at, inactive, kind_of, read, store_part, store_size, stored, stores_at, task}
 use Rattle.rules.specs.WellFormed.{kind_right, owner_right, store_right, within}
 use borrow.Author.Tests.{ne_eqb}
 use lib.Dec.{eqb, eqb-suc-zero}
@@ -60,6 +60,10 @@ module _ (L : Layout) (t : List ℕ) (h : ℕ) (u : h < get_or t 2 0) where
     pub kind_arm : (n : ℕ) → get_or t b 0 ≡ n → kind_test L t h ≡ kind_right (kind_of n) (get_or t 1 0) here
     unfolding kind_test
     kind_arm n q = rw (hub_here, q)
+
+    -- where it names kind k
+    pub kind_as : (k : Kind) → k ≡ kind_of (get_or t b 0) → kind_test L t h ≡ kind_right k (get_or t 1 0) here
+    kind_as k e = kind_arm (get_or t b 0) refl ∙ rw e
 
     -- ---- its store, which starts at word a
 

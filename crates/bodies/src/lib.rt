@@ -15,6 +15,7 @@ ghost use Rattle.rules.specs.WellFormed.{contents_right, for_all, unused_zero, w
 use records::{
     COUNT, HUB_SIZE, HUBS, HubNo, LIMIT, MOST_RECORDS, START, STATE, TASKS, TASKS_AT, TaskNo,
 };
+use rules::Kind;
 
 // "contents: edition 1, tasks T, hubs H, then where each body starts"; the edition is how many words a message has
 pub fn contents_right(t: &[u32], ts: usize) -> bool
@@ -67,16 +68,13 @@ fn marks_right(t: &[u32], ts: usize, h: usize, count: u32, limit: u32) -> bool
 {
     let v = records::width_of(ts);
     let at = records::store_at(ts, HubNo(h));
-    let n = limit as usize;
     let mut free = 0;
-    let mut b = 0;
-    while b < n {
+    for b in 0..limit as usize {
         let m = messages::message(t, at + b * v, v);
         if 1 < m {
             return false;
         }
-        free = free + (1 - m);
-        b += 1;
+        free += 1 - m;
     }
     count as u64 == free
 }
@@ -106,17 +104,18 @@ fn kind_right(t: &[u32], ts: usize, h: usize) -> bool
     let count = t[b + COUNT];
     let limit = t[b + LIMIT];
     let start = t[b + START];
-    match t[b] {
-        rules::EVENT => (count <= 1) & ((limit == 1) & (start == 0)),
-        rules::SEMAPHORE => (count <= limit)
+    let Some(kind) = Kind::of(t[b]) else {
+        return false;
+    };
+    match kind {
+        Kind::Event | Kind::Board => (count <= 1) & ((limit == 1) & (start == 0)),
+        Kind::Semaphore => (count <= limit)
             & (((1 <= limit) & (limit <= rules::MOST_COUNT)) & (start <= limit)),
-        rules::PORT => (count == 0) & ((limit == 0) & (start == 0)),
-        rules::FIFO => (count <= limit)
+        Kind::Port => (count == 0) & ((limit == 0) & (start == 0)),
+        Kind::Fifo => (count <= limit)
             & (((1 <= limit) & (limit <= rules::MOST_HELD)) & (start == 0)),
-        rules::RESOURCE => (count <= t[TASKS]) & ((limit == 1) & (start == 0)),
-        rules::BOARD => (count <= 1) & ((limit == 1) & (start == 0)),
-        rules::MEMORY => memory_right(t, ts, h, count, limit, start),
-        _ => false,
+        Kind::Resource => (count <= t[TASKS]) & ((limit == 1) & (start == 0)),
+        Kind::Memory => memory_right(t, ts, h, count, limit, start),
     }
 }
 
@@ -162,7 +161,11 @@ fn store_sound(t: &[u32], ts: usize, h: usize) -> bool
 pub fn owner_of(kind: u32, count: u32) -> u32
     ensures { result ≡ owner_of kind count }
 {
-    if kind == rules::RESOURCE { count } else { 0 }
+    if Kind::of(kind) == Some(Kind::Resource) {
+        count
+    } else {
+        0
+    }
 }
 
 // M-101: hub h is no Resource whose owner is inactive.
@@ -203,13 +206,5 @@ pub fn bodies_right(t: &[u32], ts: usize) -> bool
     ensures { (L : Layout) → Laid ts L
         → result ≡ for_all (get_or t.now 2 0) (body_test L t.now) }
 {
-    let m = t[HUBS] as usize;
-    let mut h = 0;
-    while h < m {
-        if !body_right(t, ts, h) {
-            return false;
-        }
-        h += 1;
-    }
-    true
+    (0..t[HUBS] as usize).all(|h| body_right(t, ts, h))
 }

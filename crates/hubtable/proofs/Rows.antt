@@ -1,14 +1,14 @@
 -- The rows of the hub table by what the code tests: a waiter that is there or not; a FIFO that holds words or not; an Event as
 -- a Semaphore of limit 1.
 -- Not here: the paths of each function (its own folder). Assumes nothing.
-use Prim.Native.Nat.{◌-◌, ◌<◌, ◌≤◌, pred, suc, zero, ℕ}
+use Prim.Native.Nat.{◌-◌, ◌≤◌, pred, suc, zero, ℕ}
 use Rattle.hubtable.specs.Says.{met_with}
 use Rattle.records.specs.Records.{first}
 use Rattle.rules.proofs.Valid.{Held, Range}
-use Rattle.rules.specs.HubTable.{fail, get_board, get_event, get_fifo, get_semaphore, met, not_now, on_get, on_put, on_wipe, pass, put_event, put_semaphore}
-use Rattle.rules.specs.Table.{Board, Event, Fifo, Hub, Memory, NoKind, Port, Resource, Semaphore, State, kind_of, stored, task}
+use Rattle.rules.specs.HubTable.{fail, get_board, get_event, get_fifo, get_semaphore, met, not_now, on_wipe, pass, put_event, put_semaphore}
+use Rattle.rules.specs.Table.{Board, Hub, State, kind_of, stored, task}
 use lib.Dec.{eqb, eqb-suc-suc}
-use lib.ListN.{get_or-eq_default, drop, get_or, length}
+use lib.ListN.{drop, get_or, length}
 use mathlib.Core.List.{List, [], ◌++◌, ◌∷◌}
 use mathlib.Core.Logic.{◌⊎◌, inl, inr, ⊎_elim}
 use mathlib.Core.Option.{Option, none, some}
@@ -45,14 +45,6 @@ fifo-pair s [] w x h = absurd (h refl)
 fifo-pair s (y ∷ l) w x h = refl
 
 -- ---- the kinds
-
-pub no_kind : (n : ℕ) → 8 ≤ n → kind_of n ≡ NoKind
-unfolding kind_of
-no_kind n h = get_or-eq_default (NoKind ∷ Event ∷ Semaphore ∷ Port ∷ Fifo ∷ Resource ∷ Board ∷ Memory ∷ []) NoKind h
-
--- from 6 on, but for a Board's and a Memory hub's number
-pub no_more : (n : ℕ) → 6 ≤ n → (n ≡ 6 → ⊥) → (n ≡ 7 → ⊥) → kind_of n ≡ NoKind
-no_more n h b m = no_kind n (omega arith)
 
 -- a kind that is no Board's number is not a Board
 pub no_wipe : (n : ℕ) → (n ≡ 6 → ⊥) → fail ≡ on_wipe (kind_of n)
@@ -101,27 +93,12 @@ unfolding get_semaphore
 counted_empty (some w) x e = rw e
 counted_empty none x e = rw e
 
-event-put : (f : Option ℕ) (x : Hub) → x.count ≤ 1 → x.limit ≡ 1 → put_semaphore f x ≡ put_event f x
+pub event-put : (f : Option ℕ) (x : Hub) → x.count ≤ 1 → x.limit ≡ 1 → put_semaphore f x ≡ put_event f x
 unfolding put_event put_semaphore
 event-put (some w) x few e = refl
 event-put none x few e = rw e (⊎_elim (λ z. rw z) (λ z. rw z) (at_most_one x.count few))
 
-event_get : (f : Option ℕ) (x : Hub) → x.count ≤ 1 → get_semaphore f x ≡ get_event f x
+pub event_get : (f : Option ℕ) (x : Hub) → x.count ≤ 1 → get_semaphore f x ≡ get_event f x
 unfolding get_event get_semaphore
 event_get (some w) x few = ⊎_elim (λ z. rw z) (λ z. rw z) (at_most_one x.count few)
 event_get none x few = ⊎_elim (λ z. rw z) (λ z. rw z) (at_most_one x.count few)
-
-module _ (f : Option ℕ) (x : Hub) (T caller : ℕ) where
-  pub counted-put : (word n : ℕ) → 1 ≤ n → n < 3 → Range (kind_of n) T x → (s : State) → put_semaphore f x ≡ on_put (kind_of n) s f x caller word
-  unfolding Range kind_of on_put
-  counted-put word zero lo hi r s = absurd (omega arith)
-  counted-put word (suc zero) lo hi r s = event-put f x r.0 r.1
-  counted-put word (suc (suc zero)) lo hi r s = refl
-  counted-put word (suc (suc (suc n))) lo hi r s = absurd (omega arith)
-
-  pub counted_get : (s : State) (n : ℕ) → 1 ≤ n → n < 3 → Range (kind_of n) T x → get_semaphore f x ≡ on_get (kind_of n) s f x caller
-  unfolding Range kind_of on_get
-  counted_get s zero lo hi r = absurd (omega arith)
-  counted_get s (suc zero) lo hi r = event_get f x r.0
-  counted_get s (suc (suc zero)) lo hi r = refl
-  counted_get s (suc (suc (suc n))) lo hi r = absurd (omega arith)

@@ -14,6 +14,7 @@ ghost use Rattle.rules.specs.Table.{Hub, Memory, State, kind_of, task};
 ghost use Rattle.std.proofs.Math.Option.{some};
 
 use records::HubRecord;
+use rules::Kind;
 
 // What becomes of the messages held. Of a Memory hub's marks: this block is out, this block is back.
 #[derive(Clone, Copy)]
@@ -187,9 +188,10 @@ fn get_resource(h: HubRecord, caller: u32) -> Verdict
         return alone(caller + 1, Store::Keep, 0);
     }
     if owns(caller, h.count) {
-        return Verdict::Fail;
+        Verdict::Fail
+    } else {
+        Verdict::NotNow
     }
-    Verdict::NotNow
 }
 
 // Board: "reads without taking, its word the board's; on an unwritten board it is 'not now'"
@@ -240,7 +242,7 @@ pub fn on_wipe(h: HubRecord) -> Verdict
         → says x.held result ≡ on_wipe (kind_of x.kind) }
     ensures by_index { (b : ℕ) → 0 < b → Below b result }
 {
-    if h.kind == rules::BOARD {
+    if Kind::of(h.kind) == Some(Kind::Board) {
         return alone(0, Store::Take, 0);
     }
     Verdict::Fail
@@ -254,13 +256,15 @@ pub fn on_put(h: HubRecord, waiter: u32, caller: u32, word: u64) -> Verdict
         → says x.held result ≡ on_put (kind_of x.kind) s (first waiter) x caller word }
     ensures by_index { (b : ℕ) → 0 < b → word < b → Below b result }
 {
-    let kind = h.kind;
+    let Some(kind) = Kind::of(h.kind) else {
+        return Verdict::Fail;
+    };
     match kind {
-        rules::EVENT | rules::SEMAPHORE => put_counted(h, waiter),
-        rules::PORT => put_port(h, waiter, word),
-        rules::FIFO => put_fifo(h, waiter, word),
-        rules::RESOURCE => put_resource(h, waiter, caller),
-        _ => Verdict::Fail,
+        Kind::Event | Kind::Semaphore => put_counted(h, waiter),
+        Kind::Port => put_port(h, waiter, word),
+        Kind::Fifo => put_fifo(h, waiter, word),
+        Kind::Resource => put_resource(h, waiter, caller),
+        Kind::Board | Kind::Memory => Verdict::Fail,
     }
 }
 
@@ -274,13 +278,15 @@ pub fn on_get(h: HubRecord, waiter: u32, its: u64, oldest: u64, caller: u32) -> 
         → says x.held result ≡ on_get (kind_of x.kind) s (first waiter) x caller }
     ensures by_index { (b : ℕ) → 0 < b → its < b → oldest < b → Below b result }
 {
-    let kind = h.kind;
+    let Some(kind) = Kind::of(h.kind) else {
+        return Verdict::Fail;
+    };
     match kind {
-        rules::EVENT | rules::SEMAPHORE => get_counted(h, waiter),
-        rules::PORT => get_port(h, waiter, its),
-        rules::FIFO => get_fifo(h, waiter, its, oldest),
-        rules::RESOURCE => get_resource(h, caller),
-        rules::BOARD => get_board(h, oldest),
-        _ => Verdict::Fail,
+        Kind::Event | Kind::Semaphore => get_counted(h, waiter),
+        Kind::Port => get_port(h, waiter, its),
+        Kind::Fifo => get_fifo(h, waiter, its, oldest),
+        Kind::Resource => get_resource(h, caller),
+        Kind::Board => get_board(h, oldest),
+        Kind::Memory => Verdict::Fail,
     }
 }

@@ -1,8 +1,8 @@
 -- The test of order. In order: a list by rising key from a number on (`rising_from`), entry by entry; a turn of the walk of a list
 -- of words (`Walking`); the lists of the table, lent; a turn of the walk of the hubs (`Passing`); the whole.
 -- Not here: sorted lists as such (rules, Order.antt). Assumes nothing.
-use Prim.Native.Nat.{◌*◌, ◌+◌, ◌-◌, ◌<◌, ◌≤◌, min, pred, suc, zero-le, ℕ}
-use Rattle.inherit.proofs.Turns.{Every, all-used, entry_word, used}
+use Prim.Native.Nat.{◌*◌, ◌+◌, ◌-◌, ◌<◌, ◌≤◌, pred, suc, zero-le, ℕ}
+use Rattle.inherit.proofs.Turns.{entry_word}
 use Rattle.lists.proofs.Laws.{bool_case, entries_none, numbers-entries}
 use Rattle.lists.specs.Lists.{entries, numbers}
 use Rattle.records.specs.Records.{ready_at, waits_at}
@@ -14,7 +14,9 @@ use Rattle.rules.proofs.Tests.{t_below_all}
 use Rattle.rules.proofs.Valid.{Sound}
 use Rattle.rules.specs.Table.{Layout, State, hub, part, wait_part, words}
 use Rattle.rules.specs.WellFormed.{every, for_all, in_order_by, rising}
-use borrow.Author.Count.{below_more, below_none}
+use Rattle.std.proofs.lemmas.List.FromFn.{get_or-range_with_len, length-range_with_len}
+use Rattle.std.specs.Bool.{MatchBool}
+use Rattle.std.specs.List.{AllWithin, HoldsAt, range_with_len}
 use borrow.Author.Tests.{eq-eqb, le-leb, leb-true, lt-leb, ne_eqb}
 use lib.Dec.{leb, leb-zero}
 use lib.ListN.{drop, drop_of_length-le, get_or, length, take}
@@ -125,37 +127,21 @@ module _ {ts : ℕ} (L : Layout) (s : State) (y : Laid ts L) (x : Sound s) (t : 
         sym (short_rising (λ j. get_or ks j 0) (hub s h).waiters
         (entries_none 16 (hub s h).waiters 1 (omega arith) (sym (entry_word L s y x h u 1 (omega arith)) ∙ (rw (place, w) at e))))
 
--- ---- the hubs, up to hub h
+-- ---- the hubs in use: what `all` says of the numbers below n
 
-pub record Passing (ts : ℕ) (t ks : List ℕ) (m h : ℕ) : Type 0 where
-  pub inside : h ≤ m
-  pub each : Every ts t (λ s. (g : ℕ) → g < h → rising (λ j. get_or ks j 0) (hub s g).waiters ≡ true)
+number_at : (n i : ℕ) → i < n → get_or (range_with_len 0 n) i 0 ≡ i
+number_at n i l = get_or-range_with_len 0 n i 0 l ∙ omega arith
 
-module _ (ts : ℕ) (t ks : List ℕ) (m : ℕ) where
-  pub passing_begin : Passing ts t ks m 0
-  passing_begin = record { inside = zero-le; each = λ L s y x w. below_none _ }
-
-  module _ (many : m ≡ min (get_or t 2 0) 16) (h : ℕ) (p : Passing ts t ks m h) where
-    abbrev ordered : State → ℕ → Bool
-    ordered s g = rising (λ j. get_or ks j 0) (hub s g).waiters
-
-    pub passing_end : m ≤ h → Every ts t (λ s. true ≡ for_all (length s.hubs) (ordered s))
-    passing_end l L s y x w =
-        sym ((t_below_all (ordered s) (length s.hubs)).conv (λ g n. p.each L s y x w g (omega (arith, all-used t m many L s w x h l))))
-
-    module _ (l : h < m) (r : Bool) (is : Every ts t (λ s. h < length s.hubs → r ≡ ordered s h)) where
-      pub passing_no : r ≡ false → Every ts t (λ s. false ≡ for_all (length s.hubs) (ordered s))
-      passing_no e L s y x w =
-          let u = used t m many L s w h l in
-          bool_case (for_all (length s.hubs) (ordered s))
-          (λ b. absurd (false≢true (sym e ∙ (is L s y x w u ∙ (t_below_all (ordered s) (length s.hubs)).yes b h u))))
-          (λ b. sym b)
-
-      pub passing_step : r ≡ true → Passing ts t ks m (h + 1)
-      passing_step e = record {
-        inside = omega arith;
-        each = λ L s y x w. below_more (λ (g : ℕ). ordered s g ≡ true) h (p.each L s y x w) (sym (is L s y x w (used t m many L s w h l)) ∙ e);
-      }
+pub every_number : (p : ℕ → Bool) (n : ℕ) (r : Bool)
+    → MatchBool r (AllWithin (λ h. h < n → p h ≡ true) (range_with_len 0 n) 0 (length (range_with_len 0 n)))
+    ((k : ℕ) × (k < length (range_with_len 0 n)) × HoldsAt (λ h. h < n → p h ≡ false) (range_with_len 0 n) k)
+    → r ≡ for_all n p
+every_number p n true all =
+    sym ((t_below_all p n).conv (λ i l. (rw (number_at n i l) at (all i 0 zero-le (omega (arith, length-range_with_len 0 n)))) l))
+every_number p n false (k, l, fails) =
+    let inside : k < n = omega (arith, length-range_with_len 0 n) in
+    let here : p k ≡ false = (rw (number_at n k inside) at (fails 0)) inside in
+    bool_case (for_all n p) (λ b. absurd (false≢true (sym here ∙ (t_below_all p n).yes b k inside))) (λ b. sym b)
 
 -- ---- the whole: the ready list's answer r, then the hubs' answer q
 

@@ -11,6 +11,7 @@ use Rattle.lists.proofs.Laws.{bool_case}
 use Rattle.rules.proofs.Least.{none_urgent}
 use Rattle.rules.specs.Effective.{effective, over_task}
 use Rattle.rules.specs.Table.{task}
+use Rattle.std.proofs.lemmas.List.{set-get_or}
 use borrow.Author.Count.{below_more, below_none}
 use borrow.Author.Tests.{ltb-false, ltb-true}
 use lib.Dec.{ltb}
@@ -69,9 +70,9 @@ module _ (ts : ℕ) (t ks : List ℕ) where
       rest = λ L s y x w j g h. get_or-set_other ks i j k 0 (λ e. omega arith) ∙ f.rest L s y x w j (omega arith) h;
     }
 
-    -- who is asked nowhere keeps its own
-    pub filling_none : i < 16 → (ls : List ℕ) → Linked ts t ls → 16 ≤ get_or ls i 0 → Filling ts t ks (i + 1)
-    filling_none l ls k none = record {
+    -- who is asked nowhere keeps its own: its key is written back
+    pub filling_none : i < 16 → (ls : List ℕ) → Linked ts t ls → 16 ≤ get_or ls i 0 → Filling ts t (set ks i (get_or ks i 0)) (i + 1)
+    filling_none l ls k none = rw set-get_or record {
       inside = omega arith;
       long = f.long;
       each = λ L s y x w. below_more (λ (j : ℕ). get_or ks j 0 ≡ effective s j) i (f.each L s y x w)

@@ -19,7 +19,8 @@ use Rattle.rules.specs.Effective.{over_owned, over_task, over_waiters}
 use Rattle.rules.specs.Table.{Layout, State, Task, hub, inactive, no_hub, task, words}
 use borrow.Author.Tests.{ltb-false, ltb-true}
 use lib.Dec.{ltb}
-use lib.ListN.{get_or-eq_default, drop, drop_of_length-le, get_or, length}
+use Rattle.std.proofs.lemmas.List.{get_or-drop, get_or-take, length-take}
+use lib.ListN.{get_or-eq_default, drop, drop_of_length-le, get_or, length, length-drop, take}
 use lib.Seq.{drop-cons}
 use mathlib.Core.List.{List, [], ◌∷◌}
 use mathlib.Core.Path.{◌∙◌, ◌≡◌, ap, refl, sym}
@@ -73,6 +74,9 @@ module _ (t : List ℕ) (m : ℕ) (is : m ≡ min (get_or t 2 0) 16) (L : Layout
   pub all-used : Sound s → (h : ℕ) → m ≤ h → length s.hubs ≤ h
   all-used x h l = omega (arith, x.hubs, ap (λ (r : List ℕ). get_or r 2 0) w, hubs-word L s)
 
+  pub many-used : Sound s → m ≡ length s.hubs
+  many-used x = omega (arith, x.hubs, ap (λ (r : List ℕ). get_or r 2 0) w, hubs-word L s)
+
 -- ---- the allowance
 
 pub allowance_none : (d : ℕ) (s : State) (i p : ℕ) → d ≡ 0 → p ≡ over_task d s i p
@@ -120,7 +124,13 @@ module _ (ts : ℕ) (t ks : List ℕ) (k : Linked ts t ks) (depth p i : ℕ) whe
           (o.rest L s y x w u ∙ (mine ∙ passed i s.hubs x.hubs ask b behind (suc h) refl));
     }
 
--- ---- over the waiting list of hub h, which starts at word `at`, from place k on
+-- ---- over the waiting list of hub h, which starts at word `at`, from place k on; the loop goes over its words, lent
+
+pub lent_long : (t : List ℕ) (at : ℕ) → at + 16 ≤ length t → length (take (at + 16 - at) (drop at t)) ≡ 16
+lent_long t at l = omega (arith, length-take (at + 16 - at) (drop at t), length-drop at t)
+
+pub lent_word : (t : List ℕ) (at k : ℕ) → k < 16 → get_or (take (at + 16 - at) (drop at t)) k 0 ≡ get_or t (at + k) 0
+lent_word t at k l = get_or-take (at + 16 - at) (drop at t) k 0 (omega arith) ∙ get_or-drop at t k 0
 
 pub record Asking (ts : ℕ) (t : List ℕ) (depth p at best k : ℕ) : Type 0 where
   pub inside : k ≤ 16
@@ -146,17 +156,16 @@ module _ (ts : ℕ) (t : List ℕ) (depth p at : ℕ) where
     pub asking_end : k < 16 → get_or t (at + k) 0 ≡ 0 → Answer
     asking_end l z = ended (λ L s y x w u. entries_none 16 (hub s h).waiters k l (sym (entry_word L s y x h u k l) ∙ (rw (e, w) at z)))
 
-  module _ (best k : ℕ) (a : Asking ts t depth p at best k) (l : k < 16) where
-    pub asking_step : (get_or t (at + k) 0 ≡ 0 → ⊥) → (b : ℕ)
-        → Every ts t (λ s. get_or t (at + k) 0 - 1 < 16 → b ≡ over_task depth s (get_or t (at + k) 0 - 1) best)
-        → Asking ts t depth p at b (k + 1)
+  module _ (best k : ℕ) (a : Asking ts t depth p at best k) (l : k < 16) (n : ℕ) (is : n ≡ get_or t (at + k) 0) where
+    pub asking_step : (n ≡ 0 → ⊥) → (b : ℕ) → Every ts t (λ s. n - 1 < 16 → b ≡ over_task depth s (n - 1) best) → Asking ts t depth p at b (k + 1)
     unfolding over_waiters
-    asking_step n b asked = record {
+    asking_step some b asked = record {
       inside = omega arith;
       rest = λ h e L s y x w u.
-          let j : ℕ = get_or t (at + k) 0 - 1 in
-          let here : get_or t (at + k) 0 ≡ suc j = omega arith in
-          let word : get_or (entries 16 (hub s h).waiters) k 0 ≡ get_or t (at + k) 0 = rw (w, e) (sym (entry_word L s y x h u k l)) in
-          let some : drop k (hub s h).waiters ≡ j ∷ drop (suc k) (hub s h).waiters = entries-some 16 (hub s h).waiters k j l (word ∙ here) in
-          rw (add-one, asked L s y x w (waiter-low L s y x h u k j some)) (a.rest h e L s y x w u ∙ rw some);
+          let j : ℕ = n - 1 in
+          let here : n ≡ suc j = omega arith in
+          let there : get_or (entries 16 (hub s h).waiters) k 0 ≡ get_or t (at + k) 0 = rw (w, e) (sym (entry_word L s y x h u k l)) in
+          let word : get_or (entries 16 (hub s h).waiters) k 0 ≡ n = there ∙ sym is in
+          let more : drop k (hub s h).waiters ≡ j ∷ drop (suc k) (hub s h).waiters = entries-some 16 (hub s h).waiters k j l (word ∙ here) in
+          rw (add-one, asked L s y x w (waiter-low L s y x h u k j more)) (a.rest h e L s y x w u ∙ rw more);
     }

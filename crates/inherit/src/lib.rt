@@ -18,6 +18,7 @@ ghost use Rattle.rules.specs.Table.{Layout, State, hub, words};
 ghost use Rattle.rules.specs.WellFormed.{for_all, in_order_by, rising};
 
 use records::{COUNT, HUB_SIZE, HUBS, HubNo, LIST_SIZE, PRIORITY, TaskNo};
+use rules::Kind;
 
 // How many hubs are in use, on any table at most 16.
 fn hubs_in(t: &[u32], ts: usize) -> usize
@@ -37,7 +38,7 @@ fn is_asked(t: &[u32], ts: usize, h: usize) -> bool
         → result ≡ is_asked (hub s h) }
 {
     let b = records::hubs_at(ts) + h * HUB_SIZE;
-    (t[b] == rules::RESOURCE) & (t[records::waits_at(ts, HubNo(h))] != 0)
+    (Kind::of(t[b]) == Some(Kind::Resource)) & (t[records::waits_at(ts, HubNo(h))] != 0)
 }
 
 // Whether no hub in use is a Resource with a waiter: the common case, in which every task has its own priority.
@@ -47,10 +48,8 @@ fn nobody_asked(t: &[u32], ts: usize) -> bool
 {
     let m = hubs_in(t, ts);
     let mut nobody = true;
-    let mut h = 0;
-    while h < m {
+    for h in 0..m {
         nobody = !is_asked(t, ts, h) & nobody;
-        h += 1;
     }
     nobody
 }
@@ -76,9 +75,7 @@ fn links(t: &[u32], ts: usize) -> [u32; 32]
     ensures { Linked ts t.now result }
 {
     let mut ks = [16u32; 32];
-    let mut h = hubs_in(t, ts);
-    while 0 < h {
-        h -= 1;
+    for h in (0..hubs_in(t, ts)).rev() {
         let o = asked_owner(t, ts, h) as usize;
         if (1 <= o) & (o <= 16) {
             let next = ks[o - 1];
@@ -91,6 +88,7 @@ fn links(t: &[u32], ts: usize) -> [u32; 32]
 
 // Over a task: the smallest of p, its own priority, and those that the waiters of its Resources find. A number above 15,
 // which a damaged list may have, is no task.
+// The `while` counts nothing: it follows the links.
 #[cycle(over_task_over_waiters)]
 fn over_task(t: &[u32], ts: usize, links: &[u32; 32], i: TaskNo, depth: usize, p: u32) -> u32
     requires table { Table ts t.now }
@@ -127,14 +125,11 @@ fn over_waiters(t: &[u32], ts: usize, links: &[u32; 32], h: HubNo, depth: usize,
 {
     let at = records::waits_at(ts, h);
     let mut best = p;
-    let mut k = 0;
-    while k < LIST_SIZE {
-        let e = t[at + k] as usize;
-        if e == 0 {
+    for e in &t[at..at + LIST_SIZE] {
+        if *e == 0 {
             return best;
         }
-        best = over_task(t, ts, links, TaskNo(e - 1), depth, best);
-        k += 1;
+        best = over_task(t, ts, links, TaskNo((*e - 1) as usize), depth, best);
     }
     best
 }
@@ -146,10 +141,8 @@ fn own_keys(t: &[u32], ts: usize, keys: &mut [u32; 16])
     requires keys_len { length keys.old ≡ 16 }
     ensures { Owned ts t.now keys.new }
 {
-    let mut i = 0;
-    while i < 16 {
-        keys[i] = t[records::task_at(ts, TaskNo(i)) + PRIORITY];
-        i += 1;
+    for (i, key) in keys.iter_mut().enumerate() {
+        *key = t[records::task_at(ts, TaskNo(i)) + PRIORITY];
     }
 }
 
@@ -161,13 +154,10 @@ fn asked_keys(t: &[u32], ts: usize, keys: &mut [u32; 16])
 {
     let ls = links(t, ts);
     own_keys(t, ts, keys);
-    let mut i = 0;
-    while i < 16 {
+    for (i, key) in keys.iter_mut().enumerate() {
         if ls[i] < 16 {
-            let p = keys[i];
-            keys[i] = over_task(t, ts, &ls, TaskNo(i), 16, p);
+            *key = over_task(t, ts, &ls, TaskNo(i), 16, *key);
         }
-        i += 1;
     }
 }
 
@@ -199,18 +189,15 @@ fn list_rising(list: &[u32], keys: &[u32]) -> bool
     ensures { result ≡ rising (λ j. get_or keys.now j 0) (numbers list.now) }
 {
     let mut last = 0;
-    let mut k = 0;
-    while k < list.len() {
-        let e = list[k] as usize;
-        if e == 0 {
+    for e in list {
+        if *e == 0 {
             return true;
         }
-        let q = lists::word(keys, e - 1);
+        let q = lists::word(keys, (*e - 1) as usize);
         if q < last {
             return false;
         }
         last = q;
-        k += 1;
     }
     true
 }
@@ -235,15 +222,7 @@ fn hubs_rising(t: &[u32], ts: usize, keys: &[u32]) -> bool
     ensures { (L : Layout) (s : State) → Laid ts L → Sound s → t.now ≡ words L s
         → result ≡ for_all (length s.hubs) (λ h. rising (λ j. get_or keys.now j 0) (hub s h).waiters) }
 {
-    let m = hubs_in(t, ts);
-    let mut h = 0;
-    while h < m {
-        if !hub_rising(t, ts, keys, h) {
-            return false;
-        }
-        h += 1;
-    }
-    true
+    (0..hubs_in(t, ts)).all(|h| hub_rising(t, ts, keys, h))
 }
 
 // "Lists are ordered by effective priority, and well formed says so too", where these are the keys: asked once the lists are

@@ -1,5 +1,5 @@
 -- What the functions of this crate read off a table and write into it, in the terms of the rules. In order: what a met request
--- rests on; the word that is kept; a verdict that meets nobody; whether a request updates a Board; how many are ahead of the caller.
+-- rests on; a verdict that meets nobody; whether a request updates a Board; how many are ahead of the caller.
 -- Not here: what every request rests on (verdicts, Laws), the store (stores), the moves (moves, Laws). Assumes nothing.
 use Prim.Native.Nat.{◌<◌, ◌≤◌, ℕ}
 use Rattle.hubtable.specs.Says.{met_with, says, store_after}
@@ -12,13 +12,12 @@ use Rattle.rules.proofs.Ahead.{ahead_told}
 use Rattle.rules.proofs.Cases.{and_l, and_r}
 use Rattle.rules.proofs.Changes.{hub-leave, length-set_hub}
 use Rattle.rules.proofs.Listed.{listed_answer, listed-hold}
-use Rattle.rules.proofs.Numbers.{bears_number}
 use Rattle.rules.proofs.Room.{waiters-room}
 use Rattle.rules.proofs.Settled.{InUse, length-answer, partners, partners_in}
 use Rattle.rules.proofs.Valid.{Held, Range, Sound, Valid}
 use Rattle.rules.proofs.Verdicts.{Each, held-side, hub_after, range-side, update-row, waiters_met}
-use Rattle.rules.specs.Calls.{HubRequest, hold, kept, meet_all, serve, settle, wait}
-use Rattle.rules.specs.HubTable.{Verdict, fail, message, not_now, verdict}
+use Rattle.rules.specs.Calls.{HubRequest, hold, meet_all, serve, settle, wait}
+use Rattle.rules.specs.HubTable.{Verdict, fail, not_now, verdict}
 use Rattle.rules.specs.Lists.{answer, holding, leave, queued, unqueue}
 use Rattle.rules.specs.Refusals.{refusal_for}
 use Rattle.rules.specs.Reply.{ahead_for}
@@ -30,7 +29,7 @@ use Rattle.verdicts.proofs.Laws.{asked, caller-used, first-used, held, range}
 use borrow.Author.Tests.{eq-eqb, eqb-true, ne_eqb}
 use lib.Dec.{eqb}
 use lib.ListN.{length}
-use mathlib.Core.Bool.{Bool, ◌&&◌, ◌||◌, cond, false, false≢true, true}
+use mathlib.Core.Bool.{◌&&◌, false, false≢true, true}
 use mathlib.Core.List.{List}
 use mathlib.Core.Option.{Option, some}
 use mathlib.Core.Path.{◌∙◌, ◌≡◌, ap, refl, subst, sym}
@@ -77,21 +76,6 @@ module _ (s : State) (g : Valid s) (c : Call) (a : refusal_for HubRequest s c �
 -- an answer keeps the tasks in use
 pub told_in : (s : State) (c : Call) (x : ℕ) (s₁ : State) → s₁.tasks ≡ s.tasks → {w : ℕ} → w < length s.tasks → w < length (answer c.caller 1 x s₁).tasks
 told_in s c x s₁ e h = rw (length-answer s₁ c.caller 1 x, e) h
-
--- ---- the word that is kept
-
--- the kinds whose puts bear a word, by their numbers
-abbrev pub bears : ℕ → Bool
-bears k = eqb k 3 || (eqb k 4 || (eqb k 6 || eqb k 7))
-
-module _ (h : Hub) (c : Call) where
-  pub kept_get : (c.side ≡ 1 → ⊥) → 0 ≡ kept h c
-  unfolding kept
-  kept_get n = rw (ne_eqb c.side 1 n) refl
-
-  pub kept_put : c.side ≡ 1 → (b : Bool) → bears h.kind ≡ b → cond b (message c) 0 ≡ kept h c
-  unfolding kept
-  kept_put e b q = rw (eq-eqb c.side 1 e, bears_number h.kind, q) refl
 
 -- ---- a verdict that meets nobody
 

@@ -21,7 +21,7 @@ ghost use Rattle.rules.specs.Table.{Hub, Layout, State, hub, set_task, task, wor
 
 use hubtable::{Meeting, Store, Verdict};
 use records::{HubNo, TaskNo, TaskRecord};
-use rules::{Call, Served};
+use rules::{Call, Kind, Served};
 
 // "A request that is met answers 1." The waiter met with it, if there is one, becomes ready.
 fn meet(t: &mut [u32], ts: usize, keys: &[u32], c: Call, m: Meeting)
@@ -69,10 +69,8 @@ fn meet_all(t: &mut [u32], ts: usize, keys: &[u32], h: HubNo, w: u64)
     ensures { (L : Layout) (s : State) → Laid ts L → Sound s → h.0 < length s.hubs → t.old ≡ words L s
         → t.new ≡ words L (meet_all (key_of keys.now) (meetings w (hub s h.0).waiters) s) }
 {
-    let mut k = 0;
-    while k < records::LIST_SIZE {
+    for _ in 0..records::LIST_SIZE {
         meet_first(t, ts, keys, h, w);
-        k += 1;
     }
 }
 
@@ -106,12 +104,7 @@ fn kept_word(kind: u32, side: u32, word: u64) -> u64
     ensures upper_bound { result ≤ word }
     ensures value { (h : Hub) (c : Call) → kind ≡ h.kind → side ≡ c.side → word ≡ message c → result ≡ kept h c }
 {
-    if side != rules::PUT {
-        return 0;
-    }
-    if (kind == rules::PORT)
-        | ((kind == rules::FIFO) | ((kind == rules::BOARD) | (kind == rules::MEMORY)))
-    {
+    if (side == rules::PUT) & rules::bears_word(kind) {
         word
     } else {
         0
@@ -136,13 +129,12 @@ fn make_waiting(t: &mut [u32], ts: usize, c: Call, word: u64)
         caller,
         TaskRecord {
             state: rules::WAITING,
-            suspended: x.suspended,
-            priority: x.priority,
             hub: c.target + 1,
             ticks: c.ticks,
             side: c.side,
             word,
             answer: 0,
+            ..x
         },
     );
 }
@@ -221,7 +213,7 @@ pub fn request(t: &mut [u32], ts: usize, keys: &[u32], c: Call) -> Served
         → Leaves L (serve (key_of keys.now) HubRequest s c) c result.ahead t.new }
 {
     let x = stores::hub_at(&*t, ts, HubNo(c.target as usize));
-    if (x.kind == rules::BOARD) & (c.side == rules::PUT) {
+    if (Kind::of(x.kind) == Some(Kind::Board)) & (c.side == rules::PUT) {
         update(t, ts, keys, c);
         Served { ahead: 0 }
     } else {

@@ -45,3 +45,4 @@ pub mod Verdicts
 pub mod Waiting
 pub mod Worked
 pub mod Written
+pub mod KindNumbers

@@ -9,3 +9,4 @@ pub mod Calls
 pub mod Refusals
 pub mod Reply
 pub mod Editions
+pub mod Kinds

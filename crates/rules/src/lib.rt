@@ -6,6 +6,10 @@ ghost use Rattle.rules.specs.Reply.{answer_number, refusal_number};
 ghost use Rattle.rules.specs.Table.{kind_of, stored};
 ghost use Rattle.std.specs.Prelude.{◌≡◌};
 
+mod kinds;
+
+pub use kinds::{Kind, bears_word};
+
 // The services.
 pub const BLANK: u32 = 0;
 
@@ -186,9 +190,12 @@ pub fn answer_number(a: Answer) -> u32
 pub fn stored(kind: u32, count: u32, limit: u32) -> u32
     ensures { result ≡ stored (kind_of kind) count limit }
 {
-    match kind {
-        FIFO | BOARD => count,
-        MEMORY => limit,
-        _ => 0,
+    match Kind::of(kind) {
+        Some(k) => match k {
+            Kind::Fifo | Kind::Board => count,
+            Kind::Memory => limit,
+            Kind::Event | Kind::Semaphore | Kind::Port | Kind::Resource => 0,
+        },
+        None => 0,
     }
 }

@@ -3,7 +3,7 @@
 // Not here: what the hub says of a request (crate verdicts), its list of waiters (crate moves).
 #![tactic(auto)]
 
-ghost use Rattle.std.specs.Prelude.{◌<◌, ◌≤◌, pred, drop, get_or, length, set, [], ◌++◌, ◌∷◌, ◌≡◌};
+ghost use Rattle.std.specs.Prelude.{◌<◌, ◌≤◌, drop, get_or, length, set, [], ◌++◌, ◌∷◌, ◌≡◌};
 ghost use Rattle.hubtable.specs.Says.{RecordOf, StoreBelow, store_after};
 ghost use Rattle.messages.specs.Messages.{messages};
 ghost use Rattle.records.specs.Records.{Table, width};
@@ -65,14 +65,12 @@ pub fn lowest_free(t: &[u32], ts: usize, h: HubNo) -> u64
         → t.now ≡ words L s
         → result ≡ lowest_free (hub s h.0) }
 {
-    let mut b = 0;
-    while b < records::STORE_MESSAGES {
+    for b in 0..records::STORE_MESSAGES {
         if held_at(t, ts, h, b) == 0 {
             return b as u64;
         }
-        b += 1;
     }
-    b as u64
+    records::STORE_MESSAGES as u64
 }
 
 // The oldest message goes out of hub h's store.
@@ -122,13 +120,6 @@ fn set_mark(t: &mut [u32], ts: usize, h: HubNo, n: usize, b: u64, m: u64)
     }
 }
 
-// How many words are left when the oldest of n is taken.
-fn less_one(n: usize) -> usize
-    ensures { result ≡ pred n }
-{
-    if n == 0 { 0 } else { n - 1 }
-}
-
 // What a verdict does to hub h's store, which holds n messages.
 fn change_store(t: &mut [u32], ts: usize, h: HubNo, n: usize, store: Store)
     requires table { Table ts t.old }
@@ -149,7 +140,7 @@ fn change_store(t: &mut [u32], ts: usize, h: HubNo, n: usize, store: Store)
         }
         Store::TakeAppend(w) => {
             take_oldest(t, ts, h);
-            append_word(t, ts, h, less_one(n), w);
+            append_word(t, ts, h, n.saturating_sub(1), w);
         }
         Store::Out(b) => {
             set_mark(t, ts, h, n, b, 1);

@@ -17,7 +17,7 @@ ghost use Rattle.std.proofs.Math.Option.{some};
 
 use hubtable::Verdict;
 use records::{HubNo, HubRecord, TaskNo};
-use rules::Call;
+use rules::{Call, Kind};
 
 // The message of the task that a list's entry names.
 fn word_of(t: &[u32], ts: usize, e: u32) -> u64
@@ -70,7 +70,7 @@ pub fn judge(t: &[u32], ts: usize, c: Call) -> Verdict
     if c.side == rules::WIPE {
         return hubtable::on_wipe(x);
     }
-    if x.kind == rules::MEMORY {
+    if Kind::of(x.kind) == Some(Kind::Memory) {
         return judge_block(t, ts, x, c);
     }
     if c.side == rules::PUT {

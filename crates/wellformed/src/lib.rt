@@ -17,6 +17,7 @@ use records::{
     COUNT, HUB, HUB_SIZE, HUBS, HubNo, LIMIT, LIST_SIZE, PRIORITY, SIDE, STATE, SUSPENDED, TASKS,
     TICKS, TaskNo, WORD,
 };
+use rules::Kind;
 
 // Entry e of a list: a task in use, at this hub and on this side, and not the owner. A task whose record names another hub,
 // or none, is refused here; one in the wrong state by its record.
@@ -50,18 +51,14 @@ fn walk(
         → Marked result (walks (read L t.now) hub side owner list.now)
         (λ j. occ j (numbers list.now)) marks.old marks.new }
 {
-    let mut k = 0;
-    while k < LIST_SIZE {
-        let e = list[k];
-        if e == 0 {
+    for (k, e) in list.iter().enumerate() {
+        if *e == 0 {
             return lists::zeros(&list[k..]);
         }
-        if !entry_right(t, ts, e, hub, side, owner) {
+        if !entry_right(t, ts, *e, hub, side, owner) {
             return false;
         }
-        let i = (e - 1) as usize;
-        marks[i] = marks[i] + 1;
-        k += 1;
+        marks[(*e - 1) as usize] += 1;
     }
     true
 }
@@ -71,12 +68,16 @@ fn walk(
 fn may_wait(side: u32, kind: u32, count: u32, limit: u32) -> bool
     ensures { result ≡ may side kind count limit }
 {
-    ((side == rules::PUT)
-        & (((kind != rules::RESOURCE) & ((kind != rules::BOARD) & (kind != rules::MEMORY)))
-            & (count == limit)))
-        | ((side == rules::GET)
-            & (((kind == rules::RESOURCE) & (count != 0))
-                | ((kind != rules::RESOURCE) & (count == 0))))
+    let get = (side == rules::GET) & (count == 0);
+    let either = ((side == rules::PUT) & (count == limit)) | get;
+    let Some(kind) = Kind::of(kind) else {
+        return either;
+    };
+    match kind {
+        Kind::Resource => (side == rules::GET) & (count != 0),
+        Kind::Board | Kind::Memory => get,
+        Kind::Event | Kind::Semaphore | Kind::Port | Kind::Fifo => either,
+    }
 }
 
 // Hub h's list: empty, or the first entry's side may wait, and no entry is on the other. Most lists are empty, so that comes
@@ -127,13 +128,10 @@ fn queues_right(t: &[u32], ts: usize, marks: &mut [u32; 16]) -> bool
         → Marked result (for_all (get_or t.now 2 0) (queue_test L t.now))
         (met_at (read L t.now) (get_or t.now 2 0)) marks.old marks.new }
 {
-    let m = t[HUBS] as usize;
-    let mut h = 0;
-    while h < m {
+    for h in 0..t[HUBS] as usize {
         if !queue_right(t, ts, h, marks) {
             return false;
         }
-        h += 1;
     }
     true
 }
@@ -185,11 +183,7 @@ fn waiting_right(t: &[u32], ts: usize, hub: u32, side: u32, word: u64, answer: u
     // a hub's number plus 1 stands in the record
     let kind = t[records::hubs_at(ts) - HUB_SIZE + (hub as usize) * HUB_SIZE];
     ((rules::PUT <= side) & (side <= rules::GET))
-        & ((answer == 0)
-            & (((side == rules::PUT)
-                & ((kind == rules::PORT)
-                    | ((kind == rules::FIFO) | ((kind == rules::BOARD) | (kind == rules::MEMORY)))))
-                | (word == 0)))
+        & ((answer == 0) & (((side == rules::PUT) & rules::bears_word(kind)) | (word == 0)))
 }
 
 // The message of a task's record is 0. The word before the answer is its last, so no edition is asked for.
@@ -300,16 +294,10 @@ fn tasks_right(t: &[u32], ts: usize, marks: &[u32; 16]) -> bool
     ensures { (L : Layout) → Laid ts L → result ≡ for_all (get_or t.now 1 0)
         (λ i. task_right (read L t.now) i (get_or marks.now i 0)) }
 {
-    let n = t[TASKS] as usize;
-    let mut i = 0;
-    while i < n {
+    (0..t[TASKS] as usize).all(|i| {
         let b = records::task_at(ts, TaskNo(i));
-        if !task_right(t, ts, &t[b..b + ts], marks[i]) {
-            return false;
-        }
-        i += 1;
-    }
-    true
+        task_right(t, ts, &t[b..b + ts], marks[i])
+    })
 }
 
 // All of "well formed" but the order of lists: the table of words is written as the paper has it, and what is read from it is

@@ -1,25 +1,19 @@
--- `bodies::bodies_right` meets its contract. The loop's invariant: the hubs so far are right but for their lists, in every
--- layout. Assumes nothing.
-use Rattle.bodies.proofs.Turns.{for_all_end, for_all-fail, for_all-none, for_all-step}
+-- `bodies::bodies_right` meets its contract: a test of all hubs in use. Assumes nothing.
+use Prim.Native.Nat.{◌<◌}
+use Rattle.bodies.proofs.Turns.{every_number}
 use Rattle.bodies.specs.Bodies.{body_test}
-use mathlib.Core.Path.{◌∙◌, sym}
+use Rattle.std.proofs.Common.{rules}
+use Rattle.std.proofs.lemmas.Iterator.{YieldsList-from_range, cases_from_all}
+use borrow.Author.Tests.{tests}
+use lib.ListN.{get_or}
+use mathlib.Core.Bool.{false, true}
+use mathlib.Core.Path.{◌≡◌}
 use native.Mathlib.Omega.{arith}
 use Rattle.bodies.proofs.bodies_right.Goals as goal
 
-pub loop-h-init : goal.loop-h-init
-loop-h-init c = (omega arith, λ L y. for_all-none _)
-
-pub returns-then-not-body_right : goal.returns-then-not-body_right
-returns-then-not-body_right c L y =
-    let l = c.loop-h in
-    sym (for_all-fail (body_test L _) _ l.h c.loop-h-test.true (sym (c.body_right.ensures L y) ∙ c.if-not-body_right.true))
-
-pub loop-h-preserved : goal.loop-h-preserved
-loop-h-preserved c =
-    let l = c.loop-h in
-    (omega arith, λ L y. for_all-step _ l.h (l.invariant.1 L y) (sym (c.body_right.ensures L y) ∙ c.if-not-body_right.false))
-
 pub returns : goal.returns
 returns c L y =
-    let l = c.loop-h in
-    sym (for_all_end _ _ l.h l.invariant.0 c.loop-h-test.false (l.invariant.1 L y))
+    let m = get_or c.args.t.now 2 0 in
+    every_number (body_test L c.args.t.now) m c.all.result
+    (cases_from_all _ _ _ (λ h. h < m → body_test L c.args.t.now h ≡ true) (λ h. h < m → body_test L c.args.t.now h ≡ false) c.all.ensures.ran
+    (YieldsList-from_range 0 m m (cc) (omega arith)) (λ h q k. search (rules, tests)) (λ h q k. search (rules, tests)))

@@ -1,32 +1,17 @@
 -- `bodies::marks_right` meets its contract. The loop's invariant is `Counting`, in every layout: the marks below b, and how many
 -- of them are 0. Assumes nothing.
-use Prim.Native.Nat.{◌*◌, ◌-◌, ◌≤◌, ℕ}
 use Rattle.bodies.proofs.Blocks.{counting_begin, counting_end, counting_no, counting_turn, mark_read}
-use mathlib.Core.Path.{◌∙◌, ◌≡◌}
-use native.Mathlib.Nat.{mul-le-mul}
+use mathlib.Core.Path.{◌∙◌}
 use native.Mathlib.Omega.{arith}
 use Rattle.bodies.proofs.marks_right.Goals as goal
 
--- at most 8 messages of at most 2 words stand before the place
-few : (b v ts : ℕ) → b ≤ 8 → v ≡ ts - 7 → ts ≤ 9 → b * v ≤ 8 * 2
-few b v ts h e l = mul-le-mul {n₁ = b} {m₁ = v} {n₂ = 8} {m₂ = 2} h (omega arith)
-
 pub loop-b-init : goal.loop-b-init
-loop-b-init c = (omega arith, omega arith, λ L y. counting_begin L _ _ _)
-
-pub overflow_mul-b : goal.overflow_mul-b
-overflow_mul-b c = omega (arith, few c.loop-b.b _ _ (omega (arith, c.loop-b.invariant.1, c.requires.limit_bound)) c.width_of-v.ensures c.requires.used.high)
-
-pub overflow_add-at : goal.overflow_add-at
-overflow_add-at c = omega (arith, few c.loop-b.b _ _ (omega (arith, c.loop-b.invariant.1, c.requires.limit_bound)) c.width_of-v.ensures c.requires.used.high)
-
-pub message-m-requires : goal.message-m-requires
-message-m-requires c = omega (arith, few c.loop-b.b _ _ (omega (arith, c.loop-b.invariant.1, c.requires.limit_bound)) c.width_of-v.ensures c.requires.used.high)
+loop-b-init c = (omega arith, λ L y. counting_begin L _ _ _)
 
 pub returns-then-m-gt1 : goal.returns-then-m-gt1
 returns-then-m-gt1 c L y =
     let l = c.loop-b in
-    counting_no L _ _ _ l.free l.b (l.invariant.2 L y) c.loop-b-test.true _ (c.message-m.ensures.value
+    counting_no L _ _ _ l.free l.b (l.invariant.1 L y) c.loop-b-test.true _ (c.message-m.ensures.value
     ∙ mark_read L c.args.t.now c.args.h c.args.limit y c.requires.used.low c.requires.limit_bound c.loop-b.b _ _ c.loop-b-test.true
     c.store_at-at.ensures.place c.width_of-v.ensures) c.if-m-gt1.true _
 
@@ -34,8 +19,7 @@ pub loop-b-preserved : goal.loop-b-preserved
 loop-b-preserved c =
     let l = c.loop-b in (
       omega (arith, l.invariant.0),
-      omega arith,
-      λ L y. counting_turn L _ _ _ l.free l.b (l.invariant.2 L y) c.loop-b-test.true _ (c.message-m.ensures.value
+      λ L y. counting_turn L _ _ _ l.free l.b (l.invariant.1 L y) c.loop-b-test.true _ (c.message-m.ensures.value
           ∙ mark_read L c.args.t.now c.args.h c.args.limit y c.requires.used.low c.requires.limit_bound c.loop-b.b _ _ c.loop-b-test.true
           c.store_at-at.ensures.place c.width_of-v.ensures) (omega arith),
     )
@@ -43,4 +27,4 @@ loop-b-preserved c =
 pub returns : goal.returns
 returns c L y =
     let l = c.loop-b in
-    counting_end L _ _ _ l.free l.b (l.invariant.2 L y) (omega (arith, c.loop-b-test.false)) _
+    counting_end L _ _ _ l.free l.b (l.invariant.1 L y) (omega (arith, c.loop-b-test.false)) _

@@ -1,13 +1,10 @@
 -- `bodies::marks_right` meets its contract. The loop's invariant is `Counting`, in every layout: the marks below b, and how many
 -- of them are 0. Assumes nothing.
-use Prim.Native.Nat.{◌-◌, ◌≤◌}
+use Prim.Native.Nat.{◌≤◌}
 use Rattle.bodies.proofs.Blocks.{Counting}
 use Rattle.rules.proofs.Layouts.{Laid}
 use Rattle.rules.specs.Table.{Layout}
 use Rattle.bodies.proofs.marks_right.Given as goal
 
 abbrev pub invariant-loop-b : goal.invariant-loop-b
-invariant-loop-b l = (l.free ≤ l.b) × (l.b ≤ l.limit) × ((L : Layout) → Laid l.ts L → Counting L l.t l.h l.limit l.free l.b)
-
-abbrev pub decreases-loop-b : goal.decreases-loop-b
-decreases-loop-b l = l.n - l.b
+invariant-loop-b l = (l.free ≤ l.b) × ((L : Layout) → Laid l.ts L → Counting L l.t l.h l.limit l.free l.b)

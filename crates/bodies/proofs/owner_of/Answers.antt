@@ -1,9 +1,11 @@
 -- `bodies::owner_of` meets its contract. Assumes nothing.
-use borrow.Author.Tests.{eq-eqb, ne_eqb}
+use Rattle.rules.proofs.KindNumbers.{same_kind}
+use Rattle.rules.specs.declared.kinds.Kind.TheVariants.{Resource}
+use mathlib.Core.Path.{◌∙◌, sym}
 use Rattle.bodies.proofs.owner_of.Goals as goal
 
-pub returns-then-kind-eq-RESOURCE : goal.returns-then-kind-eq-RESOURCE
-returns-then-kind-eq-RESOURCE c = rw (eq-eqb _ 5 c.if-kind-eq-RESOURCE.true)
+pub returns-then-eq : goal.returns-then-eq
+returns-then-eq c = rw (sym (c.eq.ensures ∙ same_kind c.of.result Resource c.args.kind c.of.ensures) ∙ c.if-eq.true)
 
-pub returns-else-kind-eq-RESOURCE : goal.returns-else-kind-eq-RESOURCE
-returns-else-kind-eq-RESOURCE c = rw (ne_eqb _ 5 c.if-kind-eq-RESOURCE.false)
+pub returns-else-eq : goal.returns-else-eq
+returns-else-eq c = rw (sym (c.eq.ensures ∙ same_kind c.of.result Resource c.args.kind c.of.ensures) ∙ c.if-eq.false)

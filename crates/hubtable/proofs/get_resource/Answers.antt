@@ -14,6 +14,6 @@ pub returns-then-owns : goal.returns-then-owns
 unfolding Below get_resource says
 returns-then-owns c = record { result_value = (λ x e. rw (← e.count, ne_eqb _ _ c.if-h-eq0.false, ← c.owns.ensures, c.if-owns.true)); by_index = λ b z. tt }
 
-pub returns : goal.returns
+pub returns-else-owns : goal.returns-else-owns
 unfolding Below get_resource says
-returns c = record { result_value = (λ x e. rw (← e.count, ne_eqb _ _ c.if-h-eq0.false, ← c.owns.ensures, c.if-owns.false)); by_index = λ b z. tt }
+returns-else-owns c = record { result_value = (λ x e. rw (← e.count, ne_eqb _ _ c.if-h-eq0.false, ← c.owns.ensures, c.if-owns.false)); by_index = λ b z. tt }

@@ -1,43 +1,50 @@
 -- `hubtable::on_put` meets its contract, kind by kind. Assumes nothing.
-use Rattle.hubtable.proofs.Rows.{counted-put, no_more}
+use Rattle.hubtable.proofs.Rows.{event-put}
 use Rattle.hubtable.specs.Says.{Below, says}
+use Rattle.rules.proofs.KindNumbers.{number_of}
+use Rattle.rules.proofs.Valid.{Range}
 use Rattle.rules.specs.HubTable.{on_put}
-use Rattle.rules.specs.Table.{kind_of}
-use mathlib.Core.Path.{◌∙◌, ◌≡◌, ap, sym}
-use native.Mathlib.Omega.{arith}
+use Rattle.rules.specs.Table.{Board, Memory, kind_of}
+use mathlib.Core.Logic.{inl, inr}
+use mathlib.Core.Path.{◌∙◌, ap, refl, sym}
 use Rattle.hubtable.proofs.on_put.Goals as goal
 
-pub returns-in-3 : goal.returns-in-3
-unfolding kind_of on_put
-returns-in-3 c = record { result_value = (λ x s T e r b m. rw (ap kind_of (sym e.kind ∙ c.in-3.is)) (c.put_port.ensures.result_value x e)); by_index = c.put_port.ensures.by_index }
+pub returns-in_default : goal.returns-in_default
+unfolding Below on_put says
+returns-in_default c = record { result_value = (λ x s T e r b m. rw (← ap kind_of e.kind, ← c.in_default.ensures) refl); by_index = λ b z w. tt }
 
-pub returns-in-4 : goal.returns-in-4
-unfolding kind_of on_put
-returns-in-4 c = record { result_value = (λ x s T e r b m. rw (ap kind_of (sym e.kind ∙ c.in-4.is)) (c.put_fifo.ensures.result_value x e)); by_index = c.put_fifo.ensures.by_index }
-
-pub returns-in-5 : goal.returns-in-5
-unfolding kind_of on_put
-returns-in-5 c = record { result_value = (λ x s T e r b m. rw (ap kind_of (sym e.kind ∙ c.in-5.is)) (c.put_resource.ensures.result_value x e)); by_index = λ b z w. c.put_resource.ensures.by_index b z }
-
-pub returns-in-1 : goal.returns-in-1
-returns-in-1 c =
+pub returns-in-Event : goal.returns-in-Event
+unfolding Range on_put
+returns-in-Event c =
     record {
       result_value = (λ x s T e r b m.
-          c.put_counted.ensures.result_value x e
-          ∙ counted-put _ x T _ _ x.kind (omega arith) (omega arith) r s);
+          elim c.in-Event.is [
+            | inl k ↦ (let is = ap kind_of (sym e.kind) ∙ sym (rw k at c.in-Some.ensures) in rw is (c.put_counted.ensures.result_value x e ∙ event-put _ x (rw is at r).0 (rw is at r).1))
+            | inr k ↦ (let is = ap kind_of (sym e.kind) ∙ sym (rw k at c.in-Some.ensures) in rw is (c.put_counted.ensures.result_value x e))
+          ]);
       by_index = λ b z w. c.put_counted.ensures.by_index b z;
     }
 
-pub returns-in_default : goal.returns-in_default
-unfolding Below kind_of on_put says
-returns-in_default c =
+pub returns-in-Port : goal.returns-in-Port
+unfolding on_put
+returns-in-Port c = record { result_value = (λ x s T e r b m. rw (← ap kind_of e.kind, ← c.in-Some.ensures, c.in-Port.is) (c.put_port.ensures.result_value x e)); by_index = c.put_port.ensures.by_index }
+
+pub returns-in-Fifo : goal.returns-in-Fifo
+unfolding on_put
+returns-in-Fifo c = record { result_value = (λ x s T e r b m. rw (← ap kind_of e.kind, ← c.in-Some.ensures, c.in-Fifo.is) (c.put_fifo.ensures.result_value x e)); by_index = c.put_fifo.ensures.by_index }
+
+pub returns-in-Resource : goal.returns-in-Resource
+unfolding on_put
+returns-in-Resource c = record { result_value = (λ x s T e r b m. rw (← ap kind_of e.kind, ← c.in-Some.ensures, c.in-Resource.is) (c.put_resource.ensures.result_value x e)); by_index = λ b z w. c.put_resource.ensures.by_index b z }
+
+pub returns-in-Board : goal.returns-in-Board
+unfolding Below says
+returns-in-Board c =
     record {
       result_value = (λ x s T e r b m.
-          let unused : x.kind ≡ 0 = omega arith in
-          rw (ap kind_of unused));
+          elim c.in-Board.is [
+            | inl k ↦ absurd (b (sym e.kind ∙ number_of Board c.args.h.kind (rw k at c.in-Some.ensures) (λ z. cc)))
+            | inr k ↦ absurd (m (sym e.kind ∙ number_of Memory c.args.h.kind (rw k at c.in-Some.ensures) (λ z. cc)))
+          ]);
       by_index = λ b z w. tt;
     }
-
-pub returns-in_default-2 : goal.returns-in_default-2
-unfolding Below on_put says
-returns-in_default-2 c = record { result_value = (λ x s T e r b m. rw (no_more x.kind (omega arith) b m)); by_index = λ b z w. tt }

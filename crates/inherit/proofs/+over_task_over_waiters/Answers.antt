@@ -2,8 +2,9 @@
 -- `over_task` at d calls `over_waiters` at d - 1, which calls `over_task` at the same d - 1. So the measures are 2d and 2d + 1.
 -- The loops' invariants are `Owning` and `Asking`: what is left to ask comes to what the whole comes to. Links rise, so that
 -- whoever follows them ends. Assumes nothing.
-use Rattle.std.proofs.Common.{arith}
-use Rattle.inherit.proofs.Turns.{allowance_none, asking_begin, asking_end, asking_full, asking_step, owning_begin, owning_end, owning_step}
+use Rattle.std.proofs.Common.{◌<◌, ◌≤◌, arith}
+use Rattle.inherit.proofs.Turns.{allowance_none, asking_begin, asking_end, asking_full, asking_step, lent_long, lent_word, owning_begin, owning_end, owning_step}
+use mathlib.Core.Path.{◌∙◌, sym}
 use Rattle.inherit.proofs.+over_task_over_waiters.Goals.{over_task-then-q-p, over_task-else-q-p}
 use Rattle.inherit.proofs.+over_task_over_waiters.Goals as goal
 
@@ -34,23 +35,29 @@ over_task-returns t c =
     let l = c.loop-h in
     owning_end _ _ _ c.requires.linked _ _ _ l.best l.h l.invariant c.loop-h-test.false
 
-pub over_waiters-loop-k-init : goal.over_waiters-loop-k-init
-over_waiters-loop-k-init t c = asking_begin _ _ _ _ _
+pub over_waiters-loop-e-init : goal.over_waiters-loop-e-init
+over_waiters-loop-e-init t c = asking_begin _ _ _ _ _
 
 pub over_waiters-returns-then-e-eq0 : goal.over_waiters-returns-then-e-eq0
 over_waiters-returns-then-e-eq0 t c =
-    let l = c.loop-k in
-    asking_end _ _ _ _ _ l.best l.k l.invariant _ c.waits_at-at.ensures c.loop-k-test.true c.if-e-eq0.true
+    let l = c.loop-e in
+    let at = c.waits_at-at.result in
+    let low : l.e-index < 16 = omega (arith, c.loop-e-test.true, lent_long c.args.t.now at (omega (arith, c.requires.h_bound, c.waits_at-at.ensures))) in
+    asking_end _ _ _ _ _ l.best l.e-index l.invariant _ c.waits_at-at.ensures low (sym (lent_word c.args.t.now at l.e-index low) ∙ c.if-e-eq0.true)
 
 pub over_waiters-over_task-best-requires : goal.over_waiters-over_task-best-requires
 over_waiters-over_task-best-requires t c = (omega (arith, c.decreases), (c.requires.table, c.requires.linked))
 
-pub over_waiters-loop-k-preserved : goal.over_waiters-loop-k-preserved
-over_waiters-loop-k-preserved t c =
-    let l = c.loop-k in
-    asking_step _ _ _ _ _ l.best l.k l.invariant c.loop-k-test.true c.if-e-eq0.false c.over_task-best.result c.over_task-best.ensures
+pub over_waiters-loop-e-preserved : goal.over_waiters-loop-e-preserved
+over_waiters-loop-e-preserved t c =
+    let l = c.loop-e in
+    let at = c.waits_at-at.result in
+    let low : l.e-index < 16 = omega (arith, c.loop-e-test.true, lent_long c.args.t.now at (omega (arith, c.requires.h_bound, c.waits_at-at.ensures))) in
+    asking_step _ _ _ _ _ l.best l.e-index l.invariant low _ (lent_word c.args.t.now at l.e-index low) c.if-e-eq0.false c.over_task-best.result c.over_task-best.ensures
 
 pub over_waiters-returns : goal.over_waiters-returns
 over_waiters-returns t c =
-    let l = c.loop-k in
-    asking_full _ _ _ _ _ l.best l.k l.invariant _ c.waits_at-at.ensures c.loop-k-test.false
+    let l = c.loop-e in
+    let at = c.waits_at-at.result in
+    let past : 16 ≤ l.e-index = omega (arith, c.loop-e-test.false, lent_long c.args.t.now at (omega (arith, c.requires.h_bound, c.waits_at-at.ensures))) in
+    asking_full _ _ _ _ _ l.best l.e-index l.invariant _ c.waits_at-at.ensures past

@@ -18,8 +18,5 @@ invariant-over_task-loop-h l = Owning l.ts l.t l.depth l.p l.n l.best l.h
 abbrev pub decreases-over_task-loop-h : goal.decreases-over_task-loop-h
 decreases-over_task-loop-h l = 16 - l.h
 
-abbrev pub invariant-over_waiters-loop-k : goal.invariant-over_waiters-loop-k
-invariant-over_waiters-loop-k l = Asking l.ts l.t l.depth l.p l.at l.best l.k
-
-abbrev pub decreases-over_waiters-loop-k : goal.decreases-over_waiters-loop-k
-decreases-over_waiters-loop-k l = 16 - l.k
+abbrev pub invariant-over_waiters-loop-e : goal.invariant-over_waiters-loop-e
+invariant-over_waiters-loop-e l = Asking l.ts l.t l.depth l.p l.at l.best l.e-index

@@ -1,14 +1,8 @@
 -- `inherit::asked_keys` meets its contract. The loop's invariant is `Filling`: the keys below i are the effective priorities, the others
 -- own ones still. Assumes nothing.
-use Rattle.inherit.proofs.Sixteen.{filling_asked, filling_begin, filling_end, filling_none}
+use Rattle.inherit.proofs.Sixteen.{filling_asked, filling_end, filling_none}
 use Rattle.inherit.proofs.asked_keys.Goals.{else-ls-i-lt16, then-ls-i-lt16}
 use Rattle.inherit.proofs.asked_keys.Goals as goal
-
-pub loop-i-init : goal.loop-i-init
-loop-i-init c = filling_begin _ _ _ c.own_keys.ensures
-
-pub over_task-requires : goal.over_task-requires
-over_task-requires c = record { table = c.requires.table; linked = c.links-ls.ensures }
 
 pub loop-i-preserved : goal.loop-i-preserved
 loop-i-preserved c =

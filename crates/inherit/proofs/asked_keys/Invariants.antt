@@ -1,11 +1,7 @@
 -- `inherit::asked_keys` meets its contract. The loop's invariant is `Filling`: the keys below i are the effective priorities, the others
 -- own ones still. Assumes nothing.
-use Prim.Native.Nat.{◌-◌}
 use Rattle.inherit.proofs.Sixteen.{Filling}
 use Rattle.inherit.proofs.asked_keys.Given as goal
 
 abbrev pub invariant-loop-i : goal.invariant-loop-i
 invariant-loop-i l = Filling l.ts l.t l.keys l.i
-
-abbrev pub decreases-loop-i : goal.decreases-loop-i
-decreases-loop-i l = 16 - l.i

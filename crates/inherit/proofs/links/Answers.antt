@@ -1,23 +1,11 @@
 -- `inherit::links` meets its contract. The loop's invariant is `Linking`: the links of the hubs from h on. Assumes nothing.
+use Rattle.inherit.proofs.Linking.{among, linking_asked, linking_begin, linking_none}
 use Prim.Native.Nat.{◌-◌}
-use Rattle.inherit.proofs.Linking.{among, linking_asked, linking_begin, linking_end, linking_none}
 use native.Mathlib.Omega.{arith}
 use Rattle.inherit.proofs.links.Goals as goal
 
 pub loop-h-init : goal.loop-h-init
 loop-h-init c = linking_begin _ _ _ c.hubs_in-h.ensures
-
-pub overflow_sub-next : goal.overflow_sub-next
-overflow_sub-next c = omega (arith, (among c.asked_owner-o.result c.if-o.true).0)
-
-pub bounds-ks-o : goal.bounds-ks-o
-bounds-ks-o c = omega (arith, (among c.asked_owner-o.result c.if-o.true).1)
-
-pub overflow_sub-ks : goal.overflow_sub-ks
-overflow_sub-ks c = omega (arith, (among c.asked_owner-o.result c.if-o.true).0)
-
-pub bounds-ks-o-then-o : goal.bounds-ks-o-then-o
-bounds-ks-o-then-o c = omega (arith, (among c.asked_owner-o.result c.if-o.true).1)
 
 pub loop-h-preserved-then-o : goal.loop-h-preserved-then-o
 loop-h-preserved-then-o c =
@@ -31,6 +19,3 @@ loop-h-preserved c =
     let l = c.loop-h in
     let o = c.asked_owner-o in
     linking_none _ _ l.ks l.h (l.h - 1) l.invariant (omega (arith, c.loop-h-test.true)) o.result o.ensures c.if-o.false
-
-pub returns : goal.returns
-returns c = linking_end _ _ c.loop-h.ks c.loop-h.h c.loop-h.invariant c.loop-h-test.false

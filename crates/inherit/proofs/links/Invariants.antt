@@ -4,6 +4,3 @@ use Rattle.inherit.proofs.links.Given as goal
 
 abbrev pub invariant-loop-h : goal.invariant-loop-h
 invariant-loop-h l = Linking l.ts l.t l.ks l.h
-
-abbrev pub decreases-loop-h : goal.decreases-loop-h
-decreases-loop-h l = l.h

@@ -1,10 +1,6 @@
 -- `inherit::nobody_asked` meets its contract. The loop's invariant is `Unasked`: the hubs so far. Assumes nothing.
-use Prim.Native.Nat.{◌-◌}
 use Rattle.inherit.proofs.Linking.{Unasked}
 use Rattle.inherit.proofs.nobody_asked.Given as goal
 
 abbrev pub invariant-loop-h : goal.invariant-loop-h
 invariant-loop-h l = Unasked l.ts l.t l.m l.nobody l.h
-
-abbrev pub decreases-loop-h : goal.decreases-loop-h
-decreases-loop-h l = l.m - l.h

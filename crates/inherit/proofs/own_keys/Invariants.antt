@@ -1,10 +1,6 @@
 -- `inherit::own_keys` meets its contract. The loop's invariant is `Reading`: the keys below i are own priorities. Assumes nothing.
-use Prim.Native.Nat.{◌-◌}
 use Rattle.inherit.proofs.Sixteen.{Reading}
 use Rattle.inherit.proofs.own_keys.Given as goal
 
 abbrev pub invariant-loop-i : goal.invariant-loop-i
 invariant-loop-i l = Reading l.ts l.t l.keys l.i
-
-abbrev pub decreases-loop-i : goal.decreases-loop-i
-decreases-loop-i l = 16 - l.i

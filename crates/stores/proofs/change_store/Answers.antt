@@ -1,9 +1,11 @@
 -- `stores::change_store` meets its contract. Assumes nothing.
 use Rattle.hubtable.specs.Says.{StoreBelow, store_after}
 use Rattle.stores.proofs.Stores.{after_told, as_held, below_told, fits_told, taken, taken_grown, taken_many, taken-used}
+use Rattle.rules.specs.Table.{hub}
 use Rattle.stores.specs.Fits.{StoreFits}
 use borrow.Author.Rules.{rules}
-use mathlib.Core.Path.{◌∙◌}
+use lib.ListN.{length}
+use mathlib.Core.Path.{◌∙◌, ◌≡◌}
 use native.Mathlib.Omega.{arith}
 use Rattle.stores.proofs.change_store.Goals as goal
 
@@ -43,8 +45,8 @@ returns-in-TakeAppend c =
     let low = c.requires.h_bound in
     let f = fits_told told _ fits in
     let gone = c.take_oldest-in-TakeAppend.ensures L s y used f e in
-    let left = c.less_one.ensures ∙ taken_many s h low used _ many in
-    c.append_word-in-TakeAppend.ensures L (taken s h low used) y (taken-used s h low used) left (omega (arith, many, f, c.less_one.ensures)) gone
+    let left : c.saturating_sub.result ≡ length (hub (taken s h low used) h).held = omega (arith, c.saturating_sub.ensures, taken_many s h low used _ many) in
+    c.append_word-in-TakeAppend.ensures L (taken s h low used) y (taken-used s h low used) left (omega (arith, many, f, c.saturating_sub.ensures)) gone
     ∙ taken_grown s h low used L _ ∙ after_told told L s h
 
 pub returns-in-Out : goal.returns-in-Out

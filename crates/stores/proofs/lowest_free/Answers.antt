@@ -1,7 +1,7 @@
 -- `stores::lowest_free` meets its contract. The loop's invariant is `Looking`, in every layout and state: no mark below b is 0.
 -- Assumes nothing.
 use Rattle.stores.proofs.Blocks.{looking_begin, looking_end, looking_found, looking_turn}
-use mathlib.Core.Path.{◌∙◌, sym}
+use mathlib.Core.Path.{◌∙◌, ◌≡◌, sym}
 use native.Mathlib.Omega.{arith}
 use Rattle.stores.proofs.lowest_free.Goals as goal
 
@@ -17,4 +17,7 @@ loop-b-preserved c =
     (omega arith, λ L s y used few e. looking_turn _ l.b (l.invariant.1 L s y used few e) (λ z. c.if-held_at-eq0.false (c.held_at.ensures.value L s y used e ∙ z)))
 
 pub returns : goal.returns
-returns c = let l = c.loop-b in record { upper_bound = omega arith; value = λ L s y used few e. looking_end _ l.b (l.invariant.1 L s y used few e) (omega (arith, c.loop-b-test.false)) }
+returns c =
+    let l = c.loop-b in
+    let all : 8 ≡ l.b = omega (arith, c.loop-b-test.false, l.invariant.0) in
+    record { upper_bound = omega arith; value = λ L s y used few e. all ∙ looking_end _ l.b (l.invariant.1 L s y used few e) (omega (arith, all)) }

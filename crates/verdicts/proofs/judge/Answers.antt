@@ -1,8 +1,11 @@
 -- `verdicts::judge` meets its contract. Assumes nothing.
 use Rattle.moves.proofs.Laws.{valid_sound}
 use Rattle.verdicts.proofs.Laws.{asked, first-used}
+use Rattle.rules.proofs.KindNumbers.{same_kind}
 use Rattle.rules.specs.HubTable.{on_side, verdict}
 use Rattle.rules.specs.Table.{hub, side_of}
+use Rattle.rules.specs.declared.kinds.Kind.TheVariants.{Memory}
+use borrow.Author.Tests.{eqb-false, eqb-true}
 use lib.ListN.{length}
 use mathlib.Core.Logic.{⊎_elim}
 use mathlib.Core.Path.{◌∙◌, ◌≡◌, refl, sym}
@@ -22,14 +25,14 @@ returns-then-c-eq-WIPE c =
           ∙ rw c.if-c-eq-WIPE.true refl;
     }
 
-pub returns-then-x-eq-MEMORY : goal.returns-then-x-eq-MEMORY
-returns-then-x-eq-MEMORY c =
+pub returns-then-eq : goal.returns-then-eq
+returns-then-eq c =
     record {
       below = c.judge_block.ensures.below;
       result_value = λ L s y g a n e.
           let k = c.args.c in
           let r = c.hub_at-x.ensures L s y g.hubs (asked s g k a).named e in
-          c.judge_block.ensures.result_value L s y g a r (sym r.kind ∙ c.if-x-eq-MEMORY.true) e;
+          c.judge_block.ensures.result_value L s y g a r (sym r.kind ∙ eqb-true _ 7 (sym (c.eq.ensures ∙ same_kind c.of.result Memory _ c.of.ensures) ∙ c.if-eq.true)) e;
     }
 
 pub returns-then-c-eq-PUT : goal.returns-then-c-eq-PUT
@@ -44,7 +47,7 @@ returns-then-c-eq-PUT c =
           let r = c.hub_at-x.ensures L s y g.hubs q.named e in
           let w = c.first_waiter-waiter.ensures L s y (valid_sound s g) g.waits q.named e in
           let put = c.if-c-eq-PUT.true in
-          c.on_put.ensures.result_value x s (length s.tasks) r (g.ranges.range k.target q.named) (λ b. n b put) (λ m. c.if-x-eq-MEMORY.false (r.kind ∙ m))
+          c.on_put.ensures.result_value x s (length s.tasks) r (g.ranges.range k.target q.named) (λ b. n b put) (λ m. eqb-false _ 7 (sym (c.eq.ensures ∙ same_kind c.of.result Memory _ c.of.ensures) ∙ c.if-eq.false) (r.kind ∙ m))
           ∙ rw (w, put, c.joined.ensures) refl;
     }
 
@@ -60,7 +63,7 @@ returns c =
           let r = c.hub_at-x.ensures L s y g.hubs q.named e in
           let w = c.first_waiter-waiter-2.ensures L s y (valid_sound s g) g.waits q.named e in
           let get : k.side ≡ 2 = ⊎_elim (λ p. absurd (c.if-c-eq-PUT.false p)) (λ z. ⊎_elim (λ p. p) (λ p. absurd (c.if-c-eq-WIPE.false p.0)) z) q.side in
-          c.on_get.ensures.result_value x s (length s.tasks) r (g.ranges.range k.target q.named) (g.ranges.held k.target q.named) (λ m. c.if-x-eq-MEMORY.false (r.kind ∙ m))
+          c.on_get.ensures.result_value x s (length s.tasks) r (g.ranges.range k.target q.named) (g.ranges.held k.target q.named) (λ m. eqb-false _ 7 (sym (c.eq.ensures ∙ same_kind c.of.result Memory _ c.of.ensures) ∙ c.if-eq.false) (r.kind ∙ m))
           (λ i p. c.word_of-its.ensures.value L s i y g.tasks e p (first-used s g k a 1 i (sym w ∙ p))) (c.held_at-oldest.ensures.value L s y q.named e)
           ∙ rw (w, get) refl;
     }

@@ -1,6 +1,5 @@
 -- `wellformed::queues_right` meets its contract. The loop's invariant is `Passing`, in every layout: the lists so far are
 -- right, and marked. Assumes nothing.
-use Prim.Native.Nat.{◌-◌}
 use Rattle.rules.proofs.Layouts.{Laid}
 use Rattle.rules.specs.Table.{Layout}
 use Rattle.wellformed.proofs.Hubs.{Passing}
@@ -8,6 +7,3 @@ use Rattle.wellformed.proofs.queues_right.Given as goal
 
 abbrev pub invariant-loop-h : goal.invariant-loop-h
 invariant-loop-h l = (L : Layout) → Laid l.ts L → Passing L l.t l.initial.marks l.marks l.h
-
-abbrev pub decreases-loop-h : goal.decreases-loop-h
-decreases-loop-h l = l.m - l.h

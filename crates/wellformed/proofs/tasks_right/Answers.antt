@@ -1,34 +1,25 @@
--- `wellformed::tasks_right` meets its contract. The loop's invariant: the tasks so far are right, in every layout.
--- Assumes nothing.
-use Rattle.bodies.proofs.Parts.{lent-long}
-use Rattle.bodies.proofs.Turns.{for_all_end, for_all-fail, for_all-none, for_all-step}
+-- `wellformed::tasks_right` meets its contract: a test of all tasks in use. Assumes nothing.
+use Prim.Native.Nat.{◌<◌, ℕ}
+use Rattle.bodies.proofs.Turns.{every_number}
+use Rattle.rules.specs.Table.{Layout, read}
+use Rattle.std.proofs.Common.{rules}
+use Rattle.std.proofs.lemmas.Iterator.{YieldsList-from_range, cases_from_all}
 use Rattle.wellformed.proofs.Turns.{record_task}
-use mathlib.Core.Path.{◌∙◌, sym}
+use Rattle.wellformed.specs.Walks.{task_right}
+use borrow.Author.Tests.{tests}
+use lib.ListN.{get_or}
+use mathlib.Core.Bool.{Bool, false, true}
+use mathlib.Core.List.{List}
+use mathlib.Core.Path.{◌≡◌}
 use native.Mathlib.Omega.{arith}
-use Rattle.wellformed.proofs.tasks_right.Invariants.{passes}
 use Rattle.wellformed.proofs.tasks_right.Goals as goal
 
-pub loop-i-init : goal.loop-i-init
-loop-i-init c = (omega arith, λ L y. for_all-none _)
-
-pub task_right-requires : goal.task_right-requires
-task_right-requires c = let p = c.task_at-b in record { used = c.requires; x_len = lent-long c.args.t.now p.result c.args.ts (omega arith) }
-
-pub returns-then-not-task_right : goal.returns-then-not-task_right
-returns-then-not-task_right c L y =
-    let l = c.loop-i in
-    let p = c.task_at-b in
-    let u = c.loop-i-test.true in
-    sym (for_all-fail (passes L c.args.t.now c.args.marks.now) _ l.i u (sym (record_task L y c.args.t.now l.i p.result u p.ensures.place _) ∙ sym (c.task_right.ensures L y) ∙ c.if-not-task_right.true))
-
-pub loop-i-preserved : goal.loop-i-preserved
-loop-i-preserved c =
-    let l = c.loop-i in
-    let p = c.task_at-b in
-    let u = c.loop-i-test.true in
-    (omega arith, λ L y. for_all-step _ l.i (l.invariant.1 L y) (sym (record_task L y c.args.t.now l.i p.result u p.ensures.place _) ∙ sym (c.task_right.ensures L y) ∙ c.if-not-task_right.false))
+abbrev passes : Layout → List ℕ → List ℕ → ℕ → Bool
+passes L t marks i = task_right (read L t) i (get_or marks i 0)
 
 pub returns : goal.returns
 returns c L y =
-    let l = c.loop-i in
-    sym (for_all_end _ _ l.i l.invariant.0 c.loop-i-test.false (l.invariant.1 L y))
+    let n = get_or c.args.t.now 1 0 in
+    every_number (passes L c.args.t.now c.args.marks.now) n c.all.result
+    (cases_from_all _ _ _ (λ i. i < n → passes L c.args.t.now c.args.marks.now i ≡ true) (λ i. i < n → passes L c.args.t.now c.args.marks.now i ≡ false) c.all.ensures.ran
+    (YieldsList-from_range 0 n n (cc) (omega arith)) (λ i q k. search (rules, tests, record_task L y c.args.t.now i)) (λ i q k. search (rules, tests, record_task L y c.args.t.now i)))

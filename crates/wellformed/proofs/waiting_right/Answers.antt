@@ -1,7 +1,6 @@
 -- `wellformed::waiting_right` meets its contract: the hub that a waiting task names is in use before its kind is read.
 -- Assumes nothing.
 use Prim.Native.Nat.{◌*◌, ◌+◌, ◌-◌}
-use Rattle.rules.proofs.Numbers.{bears_number}
 use Rattle.rules.proofs.Reading.{read-hubs}
 use Rattle.rules.specs.WellFormed.{stage_right}
 use Rattle.wellformed.proofs.Turns.{hub-kind}
@@ -38,5 +37,5 @@ returns c L x y eh es ew ea =
       le-leb 1 a.hub (omega arith),
       le-leb a.hub (get_or t 2 0) u,
       hub-kind L t a.hub (p.result - 4 + a.hub * 4) n u (omega arith),
-      bears_number (get_or t (p.result - 4 + a.hub * 4) 0),
+      c.bears_word.ensures,
     )

@@ -2,54 +2,32 @@
 -- the whole comes to, and what is left to mark makes up the marks. Assumes nothing.
 use Prim.Native.Nat.{◌-◌, ◌≤◌}
 use Rattle.rules.proofs.Layouts.{in_some}
-use Rattle.wellformed.proofs.Turns.{walking_begin, walking_end, walking_full, walking_hit, walking_low, walking_miss, walking_used}
+use Rattle.wellformed.proofs.Turns.{walking_end, walking_full, walking_hit, walking_low, walking_miss, walking_used}
 use lib.ListN.{get_or}
 use mathlib.Core.Path.{◌∙◌, sym}
 use native.Mathlib.Omega.{arith}
+use Rattle.wellformed.proofs.walk.Goals.{Else-not-entry_right}
 use Rattle.wellformed.proofs.walk.Goals as goal
-
-pub loop-k-init : goal.loop-k-init
-loop-k-init c L y = walking_begin _ _ _ _ _ _ _ c.requires.marks
 
 pub returns-then-e-eq0 : goal.returns-then-e-eq0
 returns-then-e-eq0 c L y =
     let l = c.loop-k in
-    walking_end L c.args.t.now c.args.list.now c.args.hub c.args.side c.args.owner c.args.marks.now l.marks l.k (l.invariant L y) c.requires.list_len c.loop-k-test.true c.if-e-eq0.true c.zeros.result c.zeros.ensures
-
-pub entry_right-requires : goal.entry_right-requires
-entry_right-requires c = record { used = c.requires.used; e_nonzero = omega arith }
+    walking_end L c.args.t.now c.args.list.now c.args.hub c.args.side c.args.owner c.args.marks.now l.marks l.k (l.invariant L y) c.requires.list_len (omega (arith, c.loop-k-test.true, c.requires.list_len)) c.if-e-eq0.true c.zeros.result c.zeros.ensures
 
 pub returns-then-not-entry_right : goal.returns-then-not-entry_right
 returns-then-not-entry_right c L y =
     let l = c.loop-k in
-    walking_miss L c.args.t.now c.args.list.now c.args.hub c.args.side c.args.owner c.args.marks.now l.marks l.k (l.invariant L y) c.requires.list_len c.loop-k-test.true c.if-e-eq0.false (sym (c.entry_right.ensures L y) ∙ c.if-not-entry_right.true)
+    walking_miss L c.args.t.now c.args.list.now c.args.hub c.args.side c.args.owner c.args.marks.now l.marks l.k (l.invariant L y) c.requires.list_len (omega (arith, c.loop-k-test.true, c.requires.list_len)) c.if-e-eq0.false (sym (c.entry_right.ensures L y) ∙ c.if-not-entry_right.true)
 
-pub overflow_cast-i : goal.overflow_cast-i
-overflow_cast-i c =
-    -- the entry is a task in use
+-- the entry is a task in use
+used : (c : Else-not-entry_right) → get_or c.args.list.now c.loop-k.k 0 ≤ 16
+used c =
     let l = c.loop-k in
-    let used : get_or c.args.list.now l.k 0 ≤ 16 =
     in_some c.args.ts c.requires.used.low c.requires.used.high
-    (λ L y. omega (arith, walking_used L c.args.t.now c.args.list.now c.args.hub c.args.side c.args.owner c.args.marks.now l.marks l.k (l.invariant L y) c.requires.list_len c.loop-k-test.true c.if-e-eq0.false (sym (c.entry_right.ensures L y) ∙ c.if-not-entry_right.false))) in
-    omega arith
+    (λ L y. omega (arith, walking_used L c.args.t.now c.args.list.now c.args.hub c.args.side c.args.owner c.args.marks.now l.marks l.k (l.invariant L y) c.requires.list_len (omega (arith, c.loop-k-test.true, c.requires.list_len)) c.if-e-eq0.false (sym (c.entry_right.ensures L y) ∙ c.if-not-entry_right.false)))
 
-pub offset_bounds-marks-i : goal.offset_bounds-marks-i
-offset_bounds-marks-i c =
-    -- the entry is a task in use
-    let l = c.loop-k in
-    let used : get_or c.args.list.now l.k 0 ≤ 16 =
-    in_some c.args.ts c.requires.used.low c.requires.used.high
-    (λ L y. omega (arith, walking_used L c.args.t.now c.args.list.now c.args.hub c.args.side c.args.owner c.args.marks.now l.marks l.k (l.invariant L y) c.requires.list_len c.loop-k-test.true c.if-e-eq0.false (sym (c.entry_right.ensures L y) ∙ c.if-not-entry_right.false))) in
-    omega arith
-
-pub bounds-marks-i : goal.bounds-marks-i
-bounds-marks-i c =
-    -- the entry is a task in use
-    let l = c.loop-k in
-    let used : get_or c.args.list.now l.k 0 ≤ 16 =
-    in_some c.args.ts c.requires.used.low c.requires.used.high
-    (λ L y. omega (arith, walking_used L c.args.t.now c.args.list.now c.args.hub c.args.side c.args.owner c.args.marks.now l.marks l.k (l.invariant L y) c.requires.list_len c.loop-k-test.true c.if-e-eq0.false (sym (c.entry_right.ensures L y) ∙ c.if-not-entry_right.false))) in
-    omega arith
+pub bounds-marks-e : goal.bounds-marks-e
+bounds-marks-e c = omega (arith, used (goal.at.bounds-marks-e c).Else-not-entry_right)
 
 pub overflow_add-marks : goal.overflow_add-marks
 overflow_add-marks c =
@@ -57,30 +35,15 @@ overflow_add-marks c =
     in_some c.args.ts c.requires.used.low c.requires.used.high
     (λ L y. omega (arith, walking_low L c.args.t.now c.args.list.now c.args.hub c.args.side c.args.owner c.args.marks.now l.marks l.k (l.invariant L y) c.requires.list_len c.requires.marks (get_or c.args.list.now l.k 0 - 1)))
 
-pub offset_bounds-marks-i-in-loop-k : goal.offset_bounds-marks-i-in-loop-k
-offset_bounds-marks-i-in-loop-k c =
-    -- the entry is a task in use
-    let l = c.loop-k in
-    let used : get_or c.args.list.now l.k 0 ≤ 16 =
-    in_some c.args.ts c.requires.used.low c.requires.used.high
-    (λ L y. omega (arith, walking_used L c.args.t.now c.args.list.now c.args.hub c.args.side c.args.owner c.args.marks.now l.marks l.k (l.invariant L y) c.requires.list_len c.loop-k-test.true c.if-e-eq0.false (sym (c.entry_right.ensures L y) ∙ c.if-not-entry_right.false))) in
-    omega arith
-
-pub bounds-marks-i-in-loop-k : goal.bounds-marks-i-in-loop-k
-bounds-marks-i-in-loop-k c =
-    -- the entry is a task in use
-    let l = c.loop-k in
-    let used : get_or c.args.list.now l.k 0 ≤ 16 =
-    in_some c.args.ts c.requires.used.low c.requires.used.high
-    (λ L y. omega (arith, walking_used L c.args.t.now c.args.list.now c.args.hub c.args.side c.args.owner c.args.marks.now l.marks l.k (l.invariant L y) c.requires.list_len c.loop-k-test.true c.if-e-eq0.false (sym (c.entry_right.ensures L y) ∙ c.if-not-entry_right.false))) in
-    omega arith
+pub bounds-marks-e-in-loop-k : goal.bounds-marks-e-in-loop-k
+bounds-marks-e-in-loop-k c = omega (arith, used (goal.at.bounds-marks-e-in-loop-k c).Else-not-entry_right)
 
 pub loop-k-preserved : goal.loop-k-preserved
 loop-k-preserved c L y =
     let l = c.loop-k in
-    walking_hit L c.args.t.now c.args.list.now c.args.hub c.args.side c.args.owner c.args.marks.now l.marks l.k (l.invariant L y) c.requires.list_len c.loop-k-test.true c.if-e-eq0.false (sym (c.entry_right.ensures L y) ∙ c.if-not-entry_right.false) c.requires.marks.long c.requires.used.tasks
+    walking_hit L c.args.t.now c.args.list.now c.args.hub c.args.side c.args.owner c.args.marks.now l.marks l.k (l.invariant L y) c.requires.list_len (omega (arith, c.loop-k-test.true, c.requires.list_len)) c.if-e-eq0.false (sym (c.entry_right.ensures L y) ∙ c.if-not-entry_right.false) c.requires.marks.long c.requires.used.tasks
 
 pub returns : goal.returns
 returns c L y =
     let l = c.loop-k in
-    walking_full L c.args.t.now c.args.list.now c.args.hub c.args.side c.args.owner c.args.marks.now l.marks l.k (l.invariant L y) c.requires.list_len c.loop-k-test.false
+    walking_full L c.args.t.now c.args.list.now c.args.hub c.args.side c.args.owner c.args.marks.now l.marks l.k (l.invariant L y) c.requires.list_len (omega (arith, c.loop-k-test.false, c.requires.list_len))

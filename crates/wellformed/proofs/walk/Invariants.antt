@@ -1,6 +1,5 @@
 -- `wellformed::walk` meets its contract. The loop's invariant is `Walking`, in every layout: what is left of the list is what
 -- the whole comes to, and what is left to mark makes up the marks. Assumes nothing.
-use Prim.Native.Nat.{◌-◌}
 use Rattle.rules.proofs.Layouts.{Laid}
 use Rattle.rules.specs.Table.{Layout}
 use Rattle.wellformed.proofs.Turns.{Walking}
@@ -8,6 +7,3 @@ use Rattle.wellformed.proofs.walk.Given as goal
 
 abbrev pub invariant-loop-k : goal.invariant-loop-k
 invariant-loop-k l = (L : Layout) → Laid l.ts L → Walking L l.t l.list l.hub l.side l.owner l.initial.marks l.marks l.k
-
-abbrev pub decreases-loop-k : goal.decreases-loop-k
-decreases-loop-k l = 16 - l.k
