@@ -5,15 +5,18 @@
 use Prim.Native.Nat.{◌*◌, ◌+◌, ◌<◌, ◌≤◌, suc, zero, ℕ}
 use Rattle.differences.proofs.Passes.{entry_at, length-words}
 use Rattle.differences.proofs.Ways.{Formed, formed_most, long_enough, other_edition, short_buffer, table_to}
-use Rattle.differences.specs.Differences.{Compares, Entry, buffer_after, compare_refusal, compare_reply, entries, entries_from, entry_words, put_new}
-use Rattle.differences.specs.declared.Compared.{Compared}
+use Rattle.differences.specs.Differences.{Compares, Entry, buffer_after, compare_refusal, compare_reply, entries, entries_from, entry_words, put_new, table_refusal}
 use Rattle.lists.proofs.Laws.{bool_case}
+use Rattle.rules.proofs.Coded.{coded, given-number, given_0, need-all, number_given-0}
+use Rattle.rules.specs.Reply.{given, number_given, refusal_number, refusal_with}
 use Rattle.rules.specs.Table.{size, two}
+use Rattle.rules.specs.declared.Refusal.{Refusal}
+use Rattle.std.specs.Prelude.{Ok, Result}
 use borrow.Author.Tests.{eq-eqb, eqb-false, eqb-true, leb-false, leb-true, ne_eqb}
 use lib.Dec.{eqb, leb}
 use lib.ListN.{drop, get_or, length, length-append}
 use lib.Seq.{append_snoc, set_at}
-use mathlib.Core.Bool.{false}
+use mathlib.Core.Bool.{false, true}
 use mathlib.Core.List.Memᴰ
 use mathlib.Core.List.{List, Memᴰ, [], ◌++◌, ◌∷◌, map}
 use mathlib.Core.Logic.{⊎_elim}
@@ -275,35 +278,43 @@ module _ (a b : List ℕ) (room : ℕ) where
       let z = short_buffer a b room o.first o.second o.same (leb-false (3 * length (entries a b)) room q) ∙ e in
       absurd (omega (arith, z)))
 
+-- every refusal number of a comparison is a refusal's
+compare-coded : (a b : List ℕ) (room : ℕ) → coded (compare_refusal a b room) ≡ true
+unfolding compare_refusal refusal_with table_refusal
+compare-coded a b room =
+    let behind = need-all coded _ 13 _ refl (need-all coded _ 8 0 refl refl) in
+    need-all coded _ 1 _ refl (need-all coded _ 2 _ refl (need-all coded _ 1 _ refl (need-all coded _ 2 _ refl behind)))
+
 -- ---- what a comparison gives back
 
-module _ (a b buffer : List ℕ) (r : Compared) (buffer' : List ℕ) (c : Compares a b buffer r buffer') where
-  refusal_is : r.refusal ≡ compare_refusal a b (length buffer)
+module _ (a b buffer : List ℕ) (r : Result ℕ Refusal) (buffer' : List ℕ) (c : Compares a b buffer r buffer') where
+  pub refusal_is : refusal_number r ≡ compare_refusal a b (length buffer)
   unfolding compare_reply
-  refusal_is = ap (λ (x : Compared). x.refusal) c.reply
+  refusal_is = ap refusal_number c.reply ∙ given-number _ _ (compare-coded a b (length buffer))
 
   -- "A refusal writes nothing and reports 0"
-  pub refused_leaves : (r.refusal ≡ 0 → ⊥) → (r.count ≡ 0) × (buffer' ≡ buffer)
+  pub refused_leaves : (refusal_number r ≡ 0 → ⊥) → (number_given r ≡ 0) × (buffer' ≡ buffer)
   unfolding buffer_after compare_reply
   refused_leaves d =
-      let more : eqb (compare_refusal a b (length buffer)) 0 ≡ false = ne_eqb _ 0 (λ z. d (refusal_is ∙ z)) in
-      (rw more at (ap (λ (x : Compared). x.count) c.reply), rw more at c.words)
+      let some : compare_refusal a b (length buffer) ≡ 0 → ⊥ = λ z. d (refusal_is ∙ z) in
+      let more : eqb (compare_refusal a b (length buffer)) 0 ≡ false = ne_eqb _ 0 some in
+      (ap number_given c.reply ∙ number_given-0 _ _ some, rw more at c.words)
 
-  module _ (z : r.refusal ≡ 0) where
+  module _ (z : refusal_number r ≡ 0) where
     pub of_one_edition : OneEdition a b
     of_one_edition = (only-accepted a b (length buffer) (sym refusal_is ∙ z)).0
 
     -- "report how many"
-    pub count_entries : r.count ≡ length (entries a b)
+    pub count_entries : number_given r ≡ length (entries a b)
     unfolding compare_reply
-    count_entries = ap (λ (x : Compared). x.count) c.reply ∙ rw (sym refusal_is ∙ z)
+    count_entries = ap number_given (c.reply ∙ given_0 _ _ (sym refusal_is ∙ z))
 
     -- the entries stand first, and "words past the last entry stay"
-    pub words_are : buffer' ≡ entry_words (entries a b) ++ drop (3 * r.count) buffer
+    pub words_are : buffer' ≡ entry_words (entries a b) ++ drop (3 * number_given r) buffer
     unfolding buffer_after
     words_are = c.words ∙ rw (sym refusal_is ∙ z, count_entries)
 
-    pub room_enough : 3 * r.count ≤ length buffer
+    pub room_enough : 3 * number_given r ≤ length buffer
     room_enough = rw count_entries (only-accepted a b (length buffer) (sym refusal_is ∙ z)).1
 
     -- "Putting the new words into the first table must give the second"
@@ -311,14 +322,14 @@ module _ (a b buffer : List ℕ) (r : Compared) (buffer' : List ℕ) (c : Compar
     gives_second = put-new a b of_one_edition.same
 
 -- any two results that fit are equal
-pub compares_agree : (a b buffer : List ℕ) (r r₁ : Compared) (buffer' buffer₁ : List ℕ) → Compares a b buffer r buffer' → Compares a b buffer r₁ buffer₁
+pub compares_agree : (a b buffer : List ℕ) (r r₁ : Result ℕ Refusal) (buffer' buffer₁ : List ℕ) → Compares a b buffer r buffer' → Compares a b buffer r₁ buffer₁
     → (r ≡ r₁) × (buffer' ≡ buffer₁)
 compares_agree a b buffer r r₁ buffer' buffer₁ c d = (c.reply ∙ sym d.reply, c.words ∙ sym d.words)
 
 -- a well-formed table and itself: no refusal, no entry, and the buffer as it was, whatever its length
-pub same_compared : (t buffer : List ℕ) (r : Compared) (buffer' : List ℕ) → Formed t → Compares t t buffer r buffer'
-    → (r ≡ record { refusal = 0; count = 0 }) × (buffer' ≡ buffer)
-unfolding buffer_after compare_reply entry_words
+pub same_compared : (t buffer : List ℕ) (r : Result ℕ Refusal) (buffer' : List ℕ) → Formed t → Compares t t buffer r buffer'
+    → (r ≡ Ok 0) × (buffer' ≡ buffer)
+unfolding buffer_after compare_reply entry_words given
 same_compared t buffer r buffer' f c =
     let none = same_none t in
     let zero-long : length (entries t t) ≡ 0 = ap length none in

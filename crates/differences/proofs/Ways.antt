@@ -4,11 +4,14 @@
 use Prim.Native.Nat.{◌*◌, ◌+◌, ◌<◌, ◌≤◌, ℕ}
 use Rattle.differences.proofs.Passes.{length-words}
 use Rattle.differences.specs.Differences.{Compares, buffer_after, compare_refusal, compare_reply, entries, entry_words, table_refusal}
-use Rattle.differences.specs.declared.Compared.{Compared}
 use Rattle.lists.proofs.Laws.{bool_case}
+use Rattle.rules.proofs.Coded.{code-some, given_err}
 use Rattle.rules.specs.Refusals.{need}
+use Rattle.rules.specs.Reply.{code, given}
 use Rattle.rules.specs.Table.{edition_of, size, two}
 use Rattle.rules.specs.WellFormed.{well_formed}
+use Rattle.rules.specs.declared.Refusal.{Refusal}
+use Rattle.std.specs.Prelude.{IsErrAnd, Ok, Result}
 use borrow.Author.Tests.{eq-eqb, eqb-true, le-leb, lt-leb, ne_eqb}
 use lib.Dec.{eqb, leb}
 use lib.ListN.{drop, length}
@@ -115,40 +118,32 @@ module _ (a b : List ℕ) (room : ℕ) (f : Formed a) (g : Formed b) where
 -- ---- the ways out
 
 module _ (a b buffer : List ℕ) where
-  -- a number given back by `refused`, with nothing written
-  refused_by : (n : ℕ) (r : Compared) → r.refusal ≡ n → r.count ≡ 0 → (n ≡ 0 → ⊥) → n ≡ compare_refusal a b (length buffer) → Compares a b buffer r buffer
+  -- a refusal, with nothing written
+  pub refused_by : (e : Refusal) (r : Result ℕ Refusal) → IsErrAnd r (λ y. y ≡ e) → code e ≡ compare_refusal a b (length buffer) → Compares a b buffer r buffer
   unfolding buffer_after compare_reply
-  refused_by n r e z d q =
-      let same : r ≡ record { refusal = n; count = 0 } = λ i. record { refusal = e i; count = z i } in
-      let more : eqb n 0 ≡ false = ne_eqb n 0 d in
-      record { reply = same ∙ rw (← q, more) refl; words = rw (← q, more) refl }
+  refused_by e r h q =
+      let more : eqb (code e) 0 ≡ false = ne_eqb (code e) 0 (code-some e) in
+      record { reply = given_err r e _ _ h q; words = rw (← q, more) refl }
 
-  pub refused_first : (n : ℕ) → n ≡ table_refusal a 0 → (n ≡ 0 → ⊥) → (r : Compared) → (r.refusal ≡ n) × (r.count ≡ 0) → Compares a b buffer r buffer
+  pub refused_first : (e : Refusal) → code e ≡ table_refusal a 0 → code e ≡ compare_refusal a b (length buffer)
   unfolding compare_refusal
-  refused_first n e d r q = refused_by n r q.0 q.1 d (table_refused a _ n e d)
+  refused_first e h = table_refused a _ (code e) h (code-some e)
 
   module _ (f : Formed a) where
-    pub refused_second : (n : ℕ) → n ≡ table_refusal b 0 → (n ≡ 0 → ⊥) → (r : Compared) → (r.refusal ≡ n) × (r.count ≡ 0) → Compares a b buffer r buffer
+    pub refused_second : (e : Refusal) → code e ≡ table_refusal b 0 → code e ≡ compare_refusal a b (length buffer)
     unfolding compare_refusal
-    refused_second n e d r q = refused_by n r q.0 q.1 d (table_refused b _ n e d ∙ table-passed a _ f)
+    refused_second e h = table_refused b _ (code e) h (code-some e) ∙ table-passed a _ f
 
-    module _ (g : Formed b) where
-      pub refused_13 : (length a ≡ length b → ⊥) → (r : Compared) → (r.refusal ≡ 13) × (r.count ≡ 0) → Compares a b buffer r buffer
-      refused_13 d r q = refused_by 13 r q.0 q.1 (λ z. omega (arith, z)) (other_edition a b (length buffer) f g d)
-
-      module _ (same : length a ≡ length b) where
-        pub refused_8 : length buffer < 3 * length (entries a b) → (r : Compared) → (r.refusal ≡ 8) × (r.count ≡ 0) → Compares a b buffer r buffer
-        refused_8 h r q = refused_by 8 r q.0 q.1 (λ z. omega (arith, z)) (short_buffer a b (length buffer) f g same h)
-
-        pub compared : (n : ℕ) (buffer' : List ℕ) → n ≡ length (entries a b) → 3 * n ≤ length buffer → buffer' ≡ sets buffer 0 (entry_words (entries a b))
-            → Compares a b buffer (record { refusal = 0; count = n }) buffer'
-        unfolding buffer_after compare_reply
-        compared n buffer' e h w =
-            let z : 0 ≡ compare_refusal a b (length buffer) = long_enough a b (length buffer) f g same (omega arith) in
-            let long = length-words (entries a b) in
-            let whole : sets buffer 0 (entry_words (entries a b)) ≡ entry_words (entries a b) ++ drop (0 + length (entry_words (entries a b))) buffer =
-            sets-eq (entry_words (entries a b)) buffer 0 (omega arith) in
-            record {
-              reply = rw (← z, e) refl;
-              words = w ∙ rw (← z) (whole ∙ rw (zero-add, long));
-            }
+    module _ (g : Formed b) (same : length a ≡ length b) where
+      pub compared : (n : ℕ) (buffer' : List ℕ) → n ≡ length (entries a b) → 3 * n ≤ length buffer → buffer' ≡ sets buffer 0 (entry_words (entries a b))
+          → Compares a b buffer (Ok n) buffer'
+      unfolding buffer_after compare_reply given
+      compared n buffer' e h w =
+          let z : 0 ≡ compare_refusal a b (length buffer) = long_enough a b (length buffer) f g same (omega arith) in
+          let long = length-words (entries a b) in
+          let whole : sets buffer 0 (entry_words (entries a b)) ≡ entry_words (entries a b) ++ drop (0 + length (entry_words (entries a b))) buffer =
+          sets-eq (entry_words (entries a b)) buffer 0 (omega arith) in
+          record {
+            reply = rw (← z, e) refl;
+            words = w ∙ rw (← z) (whole ∙ rw (zero-add, long));
+          }

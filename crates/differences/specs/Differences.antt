@@ -1,11 +1,11 @@
 -- M-106, "Compare two tables": the places at which two tables differ. In the paper's order: an entry, and the entries of two lists of
 -- words; the new words put into the first; when a comparison is refused; what is given back, and what the buffer holds afterwards.
 -- Not here: that the entries are exactly the differing places, and that they take the first table to the second (proofs/Promise).
-use Rattle.std.specs.Prelude.{◌*◌, suc, ℕ, eqb, leb, drop, length, set, cond, List, [], ◌++◌, ◌∷◌, ◌≡◌}
-use Rattle.differences.specs.declared.Compared.{Compared}
-use Rattle.rules.specs.Refusals.{need}
-use Rattle.rules.specs.Table.{edition_of, size}
-use Rattle.rules.specs.WellFormed.{well_formed}
+use Rattle.std.specs.Prelude.{◌*◌, suc, ℕ, eqb, leb, drop, length, set, cond, List, [], ◌++◌, ◌∷◌, Result, ◌≡◌}
+use Rattle.rules.specs.Refusals.{need, on_table}
+use Rattle.rules.specs.Reply.{given}
+use Rattle.rules.specs.Table.{edition_of}
+use Rattle.rules.specs.declared.Refusal.{Refusal}
 
 -- ---- "the differing places in rising order, each as place (from 0), old word, new word"
 
@@ -40,7 +40,7 @@ put_new a (e ∷ es) = put_new (set a e.place e.new) es
 
 -- 1 and 2 for one table, in the edition that fits its length; `rest` is what is tested then
 unfoldable pub table_refusal : List ℕ → ℕ → ℕ
-table_refusal t rest = need (eqb (length t) (size (edition_of t))) 1 (need (well_formed t) 2 rest)
+table_refusal t rest = on_table (edition_of t) t rest
 
 -- where the buffer has `room` words
 unfoldable pub compare_refusal : List ℕ → List ℕ → ℕ → ℕ
@@ -49,14 +49,10 @@ compare_refusal a b room =
     (need (eqb (edition_of a).edition (edition_of b).edition) 13
     (need (leb (3 * length (entries a b)) room) 8 0)))
 
--- ---- "report how many"; "A refusal writes nothing and reports 0; words past the last entry stay"
+-- ---- "report how many"; "A refusal writes nothing and reports 0" (`number_given`, of rules); "words past the last entry stay"
 
-unfoldable pub compare_reply : List ℕ → List ℕ → ℕ → Compared
-compare_reply a b room =
-    record {
-      refusal = compare_refusal a b room;
-      count = cond (eqb (compare_refusal a b room) 0) (length (entries a b)) 0;
-    }
+unfoldable pub compare_reply : List ℕ → List ℕ → ℕ → Result ℕ Refusal
+compare_reply a b room = given (compare_refusal a b room) (length (entries a b))
 
 unfoldable pub buffer_after : List ℕ → List ℕ → List ℕ → List ℕ
 buffer_after a b buffer =
@@ -65,6 +61,6 @@ buffer_after a b buffer =
     buffer
 
 -- what is given back, and every word of the buffer
-pub record Compares (a b buffer : List ℕ) (r : Compared) (buffer' : List ℕ) : Type 0 where
+pub record Compares (a b buffer : List ℕ) (r : Result ℕ Refusal) (buffer' : List ℕ) : Type 0 where
   pub reply : r ≡ compare_reply a b (length buffer)
   pub words : buffer' ≡ buffer_after a b buffer

@@ -12,9 +12,11 @@ use Rattle.records.specs.Records.{Table, width}
 use Rattle.rules.proofs.After.{words_in}
 use Rattle.rules.proofs.Layouts.{Laid, one_laid, two_laid}
 use Rattle.rules.proofs.Tests.{Tests, t_and, t_iff}
-use Rattle.rules.specs.Refusals.{need}
-use Rattle.rules.specs.Table.{Layout, State, one, read, stores_at, task_size, tasks_at, two, words}
+use Rattle.lists.proofs.Laws.{bool_case}
+use Rattle.rules.specs.Refusals.{need, on_table}
+use Rattle.rules.specs.Table.{Layout, State, one, read, size, stores_at, task_size, tasks_at, two, words}
 use borrow.Author.Tests.{ne_eqb}
+use lib.Dec.{eqb}
 use lib.ListN.{get_or, length}
 use mathlib.Core.Bool.{false, true}
 use mathlib.Core.List.{List}
@@ -140,3 +142,9 @@ module _ (from to : List ℕ) (r : ℕ) where
           let table : from ≡ words two (read two from) = words_in two from p.formed two_laid low in
           let below = (high_zero_lem (read two from)).yes (rw (← table) h) in
           moved_done (moved_down from) to to' (rw h at down_tested) (copied two one (read two from) two_laid one_laid below table)
+
+-- ---- the tests of a move, where the destination has the right size: those of the source
+
+pub room_right : (L M : Layout) (from : List ℕ) (room rest : ℕ) → eqb room (size M) ≡ true → on_table L from rest ≡ move_refusal L M from room rest
+unfolding move_refusal need
+room_right L M from room rest e = bool_case (eqb (length from) (size L)) (λ b. rw (b, e)) (λ b. rw b)

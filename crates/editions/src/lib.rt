@@ -10,13 +10,12 @@ ghost use Rattle.rules.specs.Editions.{Moved, down_refusal, high_zero, move_refu
 ghost use Rattle.messages.specs.Messages.{messages};
 ghost use Rattle.records.specs.Records.{Table, stores_at, width};
 ghost use Rattle.rules.proofs.Layouts.{Laid};
+ghost use Rattle.rules.specs.Reply.{refusal_number};
 ghost use Rattle.rules.specs.Table.{Layout, State, words};
 ghost use Rattle.std.proofs.lemmas.List.Edits.{sets};
 
 use records::{HubNo, TaskNo};
-
-// What a move answers when it is done; its refusals are those of crate rules.
-const DONE: u32 = 0;
+use rules::Refusal;
 
 // Where the high word stands in a task record of edition 2, and in a message.
 const HIGH_IN_TASK: usize = 7;
@@ -51,11 +50,9 @@ fn set_tasks(from: &[u32], fs: usize, to: &mut [u32], ts: usize)
     requires le_ts { (8 ≤ ts) × (ts ≤ 9) }
     ensures { to.new ≡ sets to.old 8 (tasks_from fs ts from.now) }
 {
-    let mut i = 0;
-    while i < 16 {
+    for i in 0..16 {
         let x = records::task(from, fs, TaskNo(i));
         records::set_task(to, ts, TaskNo(i), x);
-        i += 1;
     }
 }
 
@@ -69,11 +66,9 @@ fn set_stores(from: &[u32], fs: usize, to: &mut [u32], ts: usize)
     let v = records::width_of(fs);
     let b = records::stores_at(ts);
     let w = records::width_of(ts);
-    let mut k = 0;
-    while k < MESSAGES {
+    for k in 0..MESSAGES {
         let m = messages::message(from, a + k * v, v);
         messages::set_message(to, b + k * w, w, m);
-        k += 1;
     }
 }
 
@@ -92,22 +87,15 @@ fn copy(from: &[u32], fs: usize, to: &mut [u32], ts: usize)
     set_stores(from, fs, to, ts);
 }
 
-// Refusals 1 and 2, where the destination has `room` words; else 0.
-fn refusal_of(from: &[u32], fs: usize, room: usize, ts: usize) -> u32
+// Refusals 1 and 2, where the destination has `room` words.
+fn refusal_of(from: &[u32], fs: usize, room: usize, ts: usize) -> Result<(), Refusal>
     requires le_fs { (8 ≤ fs) × (fs ≤ 9) }
     requires le_ts { (8 ≤ ts) × (ts ≤ 9) }
-    ensures { (L M : Layout) → Laid fs L → Laid ts M → result ≡ move_refusal L M from.now room 0 }
+    ensures { (L M : Layout) → Laid fs L → Laid ts M
+        → refusal_number result ≡ move_refusal L M from.now room 0 }
 {
-    if from.len() != records::table_size(fs) {
-        return rules::WRONG_LENGTH;
-    }
-    if room != records::table_size(ts) {
-        return rules::WRONG_LENGTH;
-    }
-    if !wellformed::well_formed(from, fs) {
-        return rules::NOT_WELL_FORMED;
-    }
-    0
+    rules::need(room == records::table_size(ts), Refusal::WrongLength)?;
+    refusals::for_table(from, fs)
 }
 
 // Word f of n records of `size` words is 0 in each, where the first starts at word `at`.
@@ -118,12 +106,10 @@ fn zeros_at(t: &[u32], at: usize, size: usize, n: usize, f: usize) -> bool
     requires f_bound { f ≤ 65535 }
     ensures { result ≡ zeros_at at size n f t.now }
 {
-    let mut i = 0;
-    while i < n {
+    for i in 0..n {
         if records::field(t, at, size, i, f) != 0 {
             return false;
         }
-        i += 1;
     }
     true
 }
@@ -142,31 +128,23 @@ fn high_zero(t: &[u32]) -> bool
     ) & zeros_at(t, stores, 2, MESSAGES, HIGH)
 }
 
-// "One call moves a table from edition 1 to 2 with high words 0." The refusal, 0 if it is done.
-pub fn move_up(from: &[u32], to: &mut [u32]) -> u32
+// "One call moves a table from edition 1 to 2 with high words 0."
+pub fn move_up(from: &[u32], to: &mut [u32]) -> Result<(), Refusal>
     ensures { Moved (up_refusal from.now (length to.old)) (moved_up from.now)
-        to.old result to.new }
+        to.old (refusal_number result) to.new }
 {
-    let refusal = refusal_of(from, records::TASK_SIZE, to.len(), records::TASK_SIZE_TWO);
-    if refusal != 0 {
-        return refusal;
-    }
+    refusal_of(from, records::TASK_SIZE, to.len(), records::TASK_SIZE_TWO)?;
     copy(from, records::TASK_SIZE, to, records::TASK_SIZE_TWO);
-    DONE
+    Ok(())
 }
 
 // "One moves it back, refused with new number 9 exactly if some high word isn't 0."
-pub fn move_down(from: &[u32], to: &mut [u32]) -> u32
+pub fn move_down(from: &[u32], to: &mut [u32]) -> Result<(), Refusal>
     ensures { Moved (down_refusal from.now (length to.old)) (moved_down from.now)
-        to.old result to.new }
+        to.old (refusal_number result) to.new }
 {
-    let earlier = refusal_of(from, records::TASK_SIZE_TWO, to.len(), records::TASK_SIZE);
-    if earlier != 0 {
-        return earlier;
-    }
-    if !high_zero(from) {
-        return rules::HIGH_WORD;
-    }
+    refusal_of(from, records::TASK_SIZE_TWO, to.len(), records::TASK_SIZE)?;
+    rules::need(high_zero(from), Refusal::HighWord)?;
     copy(from, records::TASK_SIZE_TWO, to, records::TASK_SIZE);
-    DONE
+    Ok(())
 }

@@ -13,6 +13,7 @@ use Rattle.rules.proofs.Ahead.{ahead_other, ahead-reordered, ahead_request}
 use Rattle.rules.proofs.Calm.{calm_number, calm_still}
 use Rattle.rules.proofs.Cases.{same_or}
 use Rattle.rules.proofs.Changes.{in_use}
+use Rattle.rules.proofs.Coded.{code-some, with-code}
 use Rattle.rules.proofs.Inherited.{kept-reordered}
 use Rattle.rules.proofs.Kept.{unsorted_serve, unsorted_sound, valid_unsorted}
 use Rattle.rules.proofs.Layouts.{Laid, store_place}
@@ -26,14 +27,15 @@ use Rattle.rules.specs.HubTable.{message}
 use Rattle.rules.specs.Lists.{next}
 use Rattle.rules.specs.Refusals.{behind, good_message, need, refusal, refusal_at, refusal_for, refusal_in}
 use Rattle.rules.specs.Reorder.{reordered}
-use Rattle.rules.specs.Reply.{ahead, ahead_for, outcome, outcome_of, reply_by, reply_in, table_by, table_in}
+use Rattle.rules.specs.Reply.{ahead, ahead_for, code, outcome, outcome_of, refusal_with, reply_by, reply_in, table_by, table_in}
 use Rattle.rules.specs.Table.{Layout, State, hub, is_resource, read, size, task, words}
 use Rattle.rules.specs.WellFormed.{well_formed_in}
-use Rattle.rules.specs.declared.Answer.TheVariants.{Accepted, Refused}
 use Rattle.rules.specs.declared.Call.{Call}
 use Rattle.rules.specs.declared.Outcome.TheVariants.{NothingYet}
 use Rattle.rules.specs.declared.Outcome.{Outcome}
+use Rattle.rules.specs.declared.Refusal.{Refusal}
 use Rattle.rules.specs.declared.Served.{Served}
+use Rattle.std.specs.Prelude.{Err, Ok}
 use borrow.Author.Tests.{eq-eqb, eqb-true, leb-false, leb-true, ne_eqb}
 use lib.Dec.{eqb, leb}
 use lib.ListN.{get_or-eq_default, get_or, length, set}
@@ -95,12 +97,9 @@ module _ (L : Layout) (t : List ℕ) (c : Call) where
       unfolding need refusal_in
       refused_by_service e = rw (eq-eqb (length t) (size L) long, ne_eqb c.service 0 n, e) refl
 
--- a refused call has no keys to tell; an accepted one has
+-- a refused call has no keys to tell
 pub judged_no : (L : Layout) (t : List ℕ) (c : Call) {ks : List ℕ} (r : ℕ) → r ≡ refusal_in L t c → (r ≡ 0 → ⊥) → Judged L t c r ks
 judged_no L t c r e n = record { refusal = e; long = λ z. absurd (n z); keys = λ z m j. absurd (n z) }
-
-pub judged_yes : {L : Layout} {t : List ℕ} {c : Call} {ks : List ℕ} {r : ℕ} → Judged L t c r ks → r ≡ 0 → Judged L t c 0 ks
-judged_yes j z = record { refusal = sym z ∙ j.refusal; long = λ _. j.long z; keys = λ _. j.keys z }
 
 -- ---- what an accepted call knows: the table's size; of any but Blank, that the table holds a valid state
 
@@ -272,14 +271,17 @@ outcome_other (suc (suc zero)) p q = absurd (q refl)
 outcome_other (suc (suc (suc a))) p q = refl
 
 module _ (L : Layout) (t : List ℕ) (c : Call) where
-  pub called_refused : (r : ℕ) → r ≡ refusal_in L t c → (r ≡ 0 → ⊥) → CalledIn L t c (record { answer = Refused r; next = 0; ahead = 0 }) t
-  called_refused r e n = go r e n
+  pub called_refused : (e : Refusal) → code e ≡ refusal_in L t c → CalledIn L t c (record { answer = Err e; next = 0; ahead = 0 }) t
+  called_refused e h = go (code e) refl
     where
-      go : (m : ℕ) → m ≡ refusal_in L t c → (m ≡ 0 → ⊥) → CalledIn L t c (record { answer = Refused m; next = 0; ahead = 0 }) t
-      go zero e n = absurd (n refl)
-      go (suc m) e n = record { reply = unfold reply_in reply_by in rw (← e) refl; table = unfold table_in table_by in rw (← e) refl }
+      go : (m : ℕ) → m ≡ code e → CalledIn L t c (record { answer = Err e; next = 0; ahead = 0 }) t
+      go zero z = absurd (code-some e (sym z))
+      go (suc m) z = record {
+        reply = unfold reply_in reply_by in rw (← h, ← z) (ap (λ (x : Refusal). record { answer = Err x; next = 0; ahead = 0 }) (sym (with-code e) ∙ ap refusal_with (sym z)));
+        table = unfold table_in table_by in rw (← h, ← z) refl;
+      }
 
-  pub called-accepted : refusal_in L t c ≡ 0 → (o : Outcome) (n : ℕ) (r : Served) (t' : List ℕ) → o ≡ outcome (served (read L t) c) c → n ≡ next (served (read L t) c) → ServedIn L (served (read L t) c) c r t' → CalledIn L t c (record { answer = Accepted o; next = n; ahead = r.ahead }) t'
+  pub called-accepted : refusal_in L t c ≡ 0 → (o : Outcome) (n : ℕ) (r : Served) (t' : List ℕ) → o ≡ outcome (served (read L t) c) c → n ≡ next (served (read L t) c) → ServedIn L (served (read L t) c) c r t' → CalledIn L t c (record { answer = Ok o; next = n; ahead = r.ahead }) t'
   called-accepted a o n r t' eo en e = record {
     reply = unfold reply_in reply_by in rw (a, eo, en, e.ahead) refl;
     table = unfold table_in table_by in rw a e.table;

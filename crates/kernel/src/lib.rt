@@ -12,29 +12,28 @@ ghost use Rattle.rules.proofs.Valid.{Valid};
 ghost use Rattle.rules.specs.Calls.{AddTask, add_started, serve, served, service_of};
 ghost use Rattle.rules.specs.Effective.{effective};
 ghost use Rattle.rules.specs.Refusals.{refusal, refusal_in};
-ghost use Rattle.rules.specs.Reply.{outcome, summary_of};
+ghost use Rattle.rules.specs.Reply.{outcome, refusal_number, summary_of};
 ghost use Rattle.rules.specs.Table.{Layout, State, read, words};
 
 use records::TaskNo;
-use rules::{Answer, Call, Outcome, Reply, Served, Summary};
+use rules::{Call, Outcome, Refusal, Reply, Served, Summary};
 
-// "Refusal numbers, tested in this order": 1 and 2 here, then the service's own. 0 is no refusal. Of a table that is well formed
-// `keys` then holds each task's effective priority, which the test of order has asked for: the call joins lists by them.
-fn refusal_of(t: &[u32], ts: usize, c: Call, keys: &mut [u32; 16]) -> u32
+// "Refusal numbers, tested in this order": 1 and 2 here, then the service's own. Of a table that is well formed `keys` then holds each
+// task's effective priority, which the test of order has asked for: the call joins lists by them.
+fn refusal_of(t: &[u32], ts: usize, c: Call, keys: &mut [u32; 16]) -> Result<(), Refusal>
     requires le_ts { 8 ≤ ts }
     requires ts_bound { ts ≤ 9 }
     requires keys_len { length keys.old ≡ 16 }
-    ensures { (L : Layout) → Laid ts L → Judged L t.now c result keys.new }
+    ensures { (L : Layout) → Laid ts L → Judged L t.now c (refusal_number result) keys.new }
 {
-    if t.len() != records::table_size(ts) {
-        return rules::WRONG_LENGTH;
-    }
+    rules::need(t.len() == records::table_size(ts), Refusal::WrongLength)?;
     if c.service == rules::BLANK {
-        return 0;
+        return Ok(());
     }
-    if !wellformed::well_formed_keys(t, ts, keys) {
-        return rules::NOT_WELL_FORMED;
-    }
+    rules::need(
+        wellformed::well_formed_keys(t, ts, keys),
+        Refusal::NotWellFormed,
+    )?;
     refusals::for_service(t, ts, c)
 }
 
@@ -222,18 +221,17 @@ fn call_in(t: &mut [u32], ts: usize, c: Call) -> Reply
     ensures { (L : Layout) → Laid ts L → CalledIn L t.old c result t.new }
 {
     let mut keys = [0u32; 16];
-    let refused = refusal_of(&*t, ts, c, &mut keys);
-    if refused != 0 {
+    if let Err(refusal) = refusal_of(&*t, ts, c, &mut keys) {
         return Reply {
-            answer: Answer::Refused(refused),
+            answer: Err(refusal),
             next: 0,
             ahead: 0,
         };
     }
     let served = serve_call(t, ts, &keys, c);
     Reply {
-        answer: Answer::Accepted(outcome_of(&*t, ts, c)),
-        next: refusals::running(&*t, ts),
+        answer: Ok(outcome_of(&*t, ts, c)),
+        next: refusals::next(&*t, ts),
         ahead: served.ahead,
     }
 }
@@ -247,7 +245,7 @@ pub fn call(t: &mut [u32], c: Call) -> Reply
 }
 
 // "Hub summary: given a table and a hub, one word with bit i set when task i waits there, and the number of set bits as count."
-pub fn summary(t: &[u32], hub: u32) -> Summary
+pub fn summary(t: &[u32], hub: u32) -> Result<Summary, Refusal>
     ensures { result ≡ summary_of t.now hub }
 {
     let ts = records::task_size(t.len());

@@ -4,18 +4,21 @@ use Prim.Native.Nat.{◌*◌, ◌+◌, ◌-◌, ◌<◌, ◌≤◌, suc, zero, �
 use Rattle.lines.specs.Lines.{Put}
 use Rattle.lists.proofs.Laws.{bool_case}
 use Rattle.listing.specs.Listing.{ListedFrom, ListedIn, blank_line, hub_line, hub_set_up, line_at, lines_at, listing, listing_in, listing_refusal_in, listing_reply_in, priority_of, set_up, set_up_lines, set_up_text, task_line, text_in, text_of_lines}
-use Rattle.listing.specs.declared.Listed.{Listed}
+use Rattle.rules.proofs.Coded.{code-some, coded, given-number, given_0, given_err, given_ok, need-all, number_given-0, on_table_err, on_table_then}
 use Rattle.rules.proofs.After.{valid_in, words_in}
 use Rattle.rules.proofs.Layouts.{Laid, sized}
 use Rattle.rules.proofs.Places.{hub-word, hubs-word, task-word, tasks-word}
 use Rattle.rules.proofs.Reading.{read-hubs, read-tasks}
-use Rattle.rules.specs.Refusals.{need}
-use Rattle.rules.specs.Table.{Layout, State, edition_of, hub, inactive, no_hub, read, size, tab, task, words}
+use Rattle.rules.specs.Refusals.{need, on_table}
+use Rattle.rules.specs.Reply.{code, number_given, refusal_number, refusal_with}
+use Rattle.rules.specs.Table.{Layout, State, edition_of, hub, inactive, no_hub, read, tab, task, words}
 use Rattle.rules.specs.WellFormed.{well_formed_in}
-use borrow.Author.Tests.{eq-eqb, le-leb, lt-leb, ne_eqb}
+use Rattle.rules.specs.declared.Refusal.{Refusal}
+use Rattle.std.specs.Prelude.{IsErrAnd, Ok, Result}
+use borrow.Author.Tests.{eqb-false, eqb-true, le-leb, lt-leb, ne_eqb}
 use lib.Dec.{eqb}
 use lib.ListN.{drop, get_or, length, length-append}
-use mathlib.Core.Bool.{false, true}
+use mathlib.Core.Bool.{cond, false, true}
 use mathlib.Core.List.{List, [], ◌++◌, ◌∷◌, map}
 use mathlib.Core.Path.{◌∙◌, ◌≡◌, ap, ap₂, refl, sym}
 use native.Mathlib.Nat.{add-zero, zero-add}
@@ -100,44 +103,57 @@ counts L t w = let v = valid_in L t w in (rw (read-tasks L t) at v.tasks, rw (re
 -- ---- the ways out
 
 module _ (L : Layout) (t text : List ℕ) where
-  refused_by : (n : ℕ) (r : Listed) → r.refusal ≡ suc n → r.length ≡ 0 → listing_refusal_in L t (length text) ≡ suc n → ListedIn L t text r text
+  refused_by : (e : Refusal) (r : Result ℕ Refusal) → IsErrAnd r (λ y. y ≡ e) → code e ≡ listing_refusal_in L t (length text) → ListedIn L t text r text
   unfolding listing_reply_in text_in
-  refused_by n r e z q =
-      let same : r ≡ record { refusal = suc n; length = 0 } = λ i. record { refusal = e i; length = z i } in
-      let more : eqb (suc n) 0 ≡ false = ne_eqb (suc n) 0 (λ z. omega arith) in
-      record { reply = same ∙ rw (q, more) refl; bytes = rw (q, more) }
+  refused_by e r h q =
+      let more : eqb (code e) 0 ≡ false = ne_eqb (code e) 0 (code-some e) in
+      record { reply = given_err r e _ _ h q; bytes = rw (← q, more) refl }
 
-  pub listed_1 : (r : Listed) → (r.refusal ≡ 1) × (r.length ≡ 0) → (length t ≡ size L → ⊥) → ListedIn L t text r text
-  unfolding listing_refusal_in need
-  listed_1 r e n = refused_by 0 r e.0 e.1 (rw (ne_eqb (length t) (size L) n))
+  pub listed-refused : (e : Refusal) (r : Result ℕ Refusal) → IsErrAnd r (λ y. y ≡ e) → code e ≡ on_table L t 0 → ListedIn L t text r text
+  unfolding listing_refusal_in
+  listed-refused e r h q = refused_by e r h (on_table_err L t e _ q)
 
-  module _ (long : length t ≡ size L) where
-    pub listed_2 : (r : Listed) → (r.refusal ≡ 2) × (r.length ≡ 0) → well_formed_in L t ≡ false → ListedIn L t text r text
+  module _ (good : 0 ≡ on_table L t 0) where
+    pub listed_8 : (e : Refusal) (r : Result ℕ Refusal) → IsErrAnd r (λ y. y ≡ e) → code e ≡ 8 → length text < length (listing_in L t) → ListedIn L t text r text
     unfolding listing_refusal_in need
-    listed_2 r e w = refused_by 1 r e.0 e.1 (rw (eq-eqb (length t) (size L) long, w))
+    listed_8 e r h q less = refused_by e r h (on_table_then L t (code e) _ good (q ∙ rw (lt-leb (length (listing_in L t)) (length text) less) refl))
 
-    module _ (w : well_formed_in L t ≡ true) where
-      pub listed_8 : (r : Listed) → (r.refusal ≡ 8) × (r.length ≡ 0) → length text < length (listing_in L t) → ListedIn L t text r text
-      unfolding listing_refusal_in need
-      listed_8 r e h = refused_by 7 r e.0 e.1 (rw (eq-eqb (length t) (size L) long, w, lt-leb (length (listing_in L t)) (length text) h))
-
-      pub listed-all : (n : ℕ) (text' : List ℕ) → n ≡ length (listing_in L t) → n ≤ length text → Put text 0 (listing_in L t) n text'
-          → ListedIn L t text (record { refusal = 0; length = n }) text'
-      unfolding listing_refusal_in listing_reply_in need text_in
-      listed-all n text' e h p =
-          let fits : length (listing_in L t) ≤ length text = omega arith in
-          record {
-            reply = rw (eq-eqb (length t) (size L) long, w, le-leb (length (listing_in L t)) (length text) fits, e);
-            bytes = p.bytes ∙ rw (eq-eqb (length t) (size L) long, w, le-leb (length (listing_in L t)) (length text) fits, zero-add);
-          }
+    pub listed-all : (n : ℕ) (text' : List ℕ) → n ≡ length (listing_in L t) → n ≤ length text → Put text 0 (listing_in L t) n text'
+        → ListedIn L t text (Ok n) text'
+    unfolding listing_refusal_in listing_reply_in need text_in
+    listed-all n text' e h p =
+        let fits : length (listing_in L t) ≤ length text = omega arith in
+        let z = on_table_then L t 0 _ good (rw (le-leb (length (listing_in L t)) (length text) fits) refl) in
+        record {
+          reply = ap Ok e ∙ given_ok _ _ z;
+          bytes = p.bytes ∙ rw (← z, zero-add) refl;
+        }
 
 -- ---- in the table's own edition
 
+-- every refusal number of a listing is a refusal's
+pub listing-coded : (L : Layout) (t : List ℕ) (room : ℕ) → coded (listing_refusal_in L t room) ≡ true
+unfolding listing_refusal_in refusal_with
+listing-coded L t room = need-all coded _ 1 _ refl (need-all coded _ 2 _ refl (need-all coded _ 8 0 refl refl))
+
+-- what is given back: the refusal's number, and the listing's length or 0
+pub listing-number : (L : Layout) (t : List ℕ) (room : ℕ) → refusal_number (listing_reply_in L t room) ≡ listing_refusal_in L t room
+unfolding listing_reply_in
+listing-number L t room = given-number _ _ (listing-coded L t room)
+
+pub listing-length : (L : Layout) (t : List ℕ) (room : ℕ) → number_given (listing_reply_in L t room) ≡ cond (eqb (listing_refusal_in L t room) 0) (length (listing_in L t)) 0
+unfolding listing_reply_in
+listing-length L t room =
+    let n = listing_refusal_in L t room in
+    bool_case (eqb n 0)
+    (λ b. rw b (ap number_given (given_0 n _ (eqb-true n 0 b))))
+    (λ b. rw b (number_given-0 n _ (eqb-false n 0 b)))
+
 -- what is given back as length is in the buffer
-pub listed-fits : (t text : List ℕ) (r : Listed) (text' : List ℕ) → ListedFrom t text r text' → r.length ≤ length text'
-unfolding listing_reply_in text_in
+pub listed-fits : (t text : List ℕ) (r : Result ℕ Refusal) (text' : List ℕ) → ListedFrom t text r text' → number_given r ≤ length text'
+unfolding text_in
 listed-fits t text r text' e =
-    let size = ap (λ (x : Listed). x.length) e.reply in
+    let size = ap number_given e.reply ∙ listing-length (edition_of t) t (length text) in
     let whole = listing t in
     bool_case (eqb (listing_refusal_in (edition_of t) t (length text)) 0)
     (λ b. omega (arith, rw b at size, ap length (rw b at e.bytes), length-append whole (drop (length whole) text)))

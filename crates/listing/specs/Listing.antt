@@ -2,13 +2,14 @@
 -- its lines; the listing; what it builds; when it is refused, and what the buffer holds afterwards. The table is of either edition
 -- (M-105): the one that fits its length.
 -- Not here: that the drill runner builds it, and that it is the only such text (proofs/).
-use Rattle.std.specs.Prelude.{◌*◌, ◌+◌, ◌-◌, ℕ, eqb, leb, drop, get_or, length, replicate, cond, List, [], ◌++◌, ◌∷◌, map, ◌≡◌}
+use Rattle.std.specs.Prelude.{◌*◌, ◌+◌, ◌-◌, ℕ, eqb, leb, drop, get_or, length, replicate, cond, List, [], ◌++◌, ◌∷◌, map, Result, ◌≡◌}
 use Rattle.lines.specs.Lines.{printed}
-use Rattle.listing.specs.declared.Listed.{Listed}
 use Rattle.records.specs.Records.{hubs_at}
 use Rattle.rules.specs.Refusals.{need}
+use Rattle.rules.specs.Reply.{given}
 use Rattle.rules.specs.Table.{Hub, Layout, State, Task, edition_of, inactive, kind_of, read, size, stored, tab}
 use Rattle.rules.specs.WellFormed.{well_formed_in}
+use Rattle.rules.specs.declared.Refusal.{Refusal}
 
 -- ---- the set-up: the priorities of the tasks, and of the hubs kind, limit and start, all in number order
 
@@ -87,31 +88,27 @@ unfoldable pub listing_refusal_in : Layout → List ℕ → ℕ → ℕ
 listing_refusal_in L t room =
     need (eqb (length t) (size L)) 1 (need (well_formed_in L t) 2 (need (leb (length (listing_in L t)) room) 8 0))
 
--- "Then nothing is written and the length given back is 0. Bytes after the listing keep what they held."
-unfoldable pub listing_reply_in : Layout → List ℕ → ℕ → Listed
-listing_reply_in L t room =
-    record {
-      refusal = listing_refusal_in L t room;
-      length = cond (eqb (listing_refusal_in L t room) 0) (length (listing_in L t)) 0;
-    }
+-- "Then nothing is written and the length given back is 0" (`number_given`, of rules). "Bytes after the listing keep what they held."
+unfoldable pub listing_reply_in : Layout → List ℕ → ℕ → Result ℕ Refusal
+listing_reply_in L t room = given (listing_refusal_in L t room) (length (listing_in L t))
 
 unfoldable pub text_in : Layout → List ℕ → List ℕ → List ℕ
 text_in L t text =
     cond (eqb (listing_refusal_in L t (length text)) 0) (listing_in L t ++ drop (length (listing_in L t)) text) text
 
 -- in the edition that fits the table's length: a length that is neither edition's is refusal 1
-abbrev pub listing_reply : List ℕ → ℕ → Listed
+abbrev pub listing_reply : List ℕ → ℕ → Result ℕ Refusal
 listing_reply t room = listing_reply_in (edition_of t) t room
 
 abbrev pub text_after : List ℕ → List ℕ → List ℕ
 text_after t text = text_in (edition_of t) t text
 
 -- what is given back, and every byte of the buffer
-pub record ListedFrom (t text : List ℕ) (r : Listed) (text' : List ℕ) : Type 0 where
+pub record ListedFrom (t text : List ℕ) (r : Result ℕ Refusal) (text' : List ℕ) : Type 0 where
   pub reply : r ≡ listing_reply t (length text)
   pub bytes : text' ≡ text_after t text
 
-pub record ListedIn (L : Layout) (t text : List ℕ) (r : Listed) (text' : List ℕ) : Type 0 where
+pub record ListedIn (L : Layout) (t text : List ℕ) (r : Result ℕ Refusal) (text' : List ℕ) : Type 0 where
   pub reply : r ≡ listing_reply_in L t (length text)
   pub bytes : text' ≡ text_in L t text
 

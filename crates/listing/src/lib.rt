@@ -10,13 +10,7 @@ ghost use Rattle.rules.proofs.Layouts.{Laid};
 ghost use Rattle.rules.specs.Table.{Layout};
 
 use records::HubNo;
-
-// The refusal, and the length of what was written.
-#[derive(Clone, Copy)]
-pub struct Listed {
-    pub refusal: u32,
-    pub length: u32,
-}
+use rules::Refusal;
 
 // Line k: the Blank line, then the tasks, n of them, then the hubs.
 fn line_at(t: &[u32], ts: usize, n: usize, k: usize) -> [u32; 8]
@@ -46,11 +40,9 @@ fn measure(t: &[u32], ts: usize, n: usize, m: usize) -> usize
     ensures upper_bound { result ≤ 2904 }
 {
     let mut bytes = 0;
-    let mut k = 0;
-    while k < 1 + n + m {
+    for k in 0..1 + n + m {
         let line = line_at(t, ts, n, k);
         bytes += lines::numbers_length(&line);
-        k += 1;
     }
     bytes
 }
@@ -66,51 +58,29 @@ fn write_lines(t: &[u32], ts: usize, n: usize, m: usize, text: &mut [u8])
         (length (text_of_lines (lines_at ts t.now n m))) text.new }
 {
     let mut at = 0;
-    let mut done = 0;
-    while done < 1 + n + m {
+    for done in 0..1 + n + m {
         let line = line_at(t, ts, n, done);
         at = lines::write_numbers(text, at, &line);
-        done += 1;
     }
 }
 
-// "Then nothing is written and the length given back is 0."
-fn refused(number: u32) -> Listed
-    ensures { (result.refusal ≡ number) × (result.length ≡ 0) }
-{
-    Listed {
-        refusal: number,
-        length: 0,
-    }
-}
-
-// The listing of a table whose task records have ts words.
-fn list_in(t: &[u32], ts: usize, text: &mut [u8]) -> Listed
+// The listing of a table whose task records have ts words, and its length. Refused, "nothing is written".
+fn list_in(t: &[u32], ts: usize, text: &mut [u8]) -> Result<u32, Refusal>
     requires le_ts { 8 ≤ ts }
     requires ts_bound { ts ≤ 9 }
     ensures { (L : Layout) → Laid ts L → ListedIn L t.now text.old result text.new }
 {
-    if t.len() != records::table_size(ts) {
-        return refused(rules::WRONG_LENGTH);
-    }
-    if !wellformed::well_formed(t, ts) {
-        return refused(rules::NOT_WELL_FORMED);
-    }
+    refusals::for_table(t, ts)?;
     let n = t[records::TASKS] as usize;
     let m = t[records::HUBS] as usize;
     let bytes = measure(t, ts, n, m);
-    if text.len() < bytes {
-        return refused(rules::SHORT_BUFFER);
-    }
+    rules::need(bytes <= text.len(), Refusal::ShortBuffer)?;
     write_lines(t, ts, n, m, text);
-    Listed {
-        refusal: 0,
-        length: bytes as u32,
-    }
+    Ok(bytes as u32)
 }
 
 // The listing of a table of either edition: the one that fits its length.
-pub fn list(t: &[u32], text: &mut [u8]) -> Listed
+pub fn list(t: &[u32], text: &mut [u8]) -> Result<u32, Refusal>
     ensures { ListedFrom t.now text.old result text.new }
 {
     let ts = records::task_size(t.len());

@@ -1,11 +1,8 @@
--- A number looked up in the words of a table: definitions alone. What is looked up is in use, and then comes back as its
--- kind of number, or it is not.
-use Rattle.std.specs.Prelude.{◌*◌, ◌+◌, ℕ, ltb, get_or, cond, List}
+-- What the tests of a call look up in the words of a table: definitions alone.
+use Rattle.std.specs.Prelude.{◌*◌, ◌+◌, suc, ℕ, ltb, get_or, cond, List, None, Option, Some}
 use Rattle.records.specs.Records.{hubs_at}
-use Rattle.refusals.specs.declared.FoundHub.TheVariants.{InUse as HubInUse, Unused as HubUnused}
-use Rattle.refusals.specs.declared.FoundHub.{FoundHub}
-use Rattle.refusals.specs.declared.FoundTask.TheVariants.{InUse as TaskInUse, Unused as TaskUnused}
-use Rattle.refusals.specs.declared.FoundTask.{FoundTask}
+use Rattle.records.specs.declared.HubNo.{HubNo}
+use Rattle.records.specs.declared.TaskNo.{TaskNo}
 
 -- "tasks T, hubs H"
 abbrev pub tasks_in : List ℕ → ℕ
@@ -19,8 +16,10 @@ abbrev pub kind_in : ℕ → List ℕ → ℕ → ℕ
 kind_in ts t h = get_or t (hubs_at ts + h * 4) 0
 
 -- "Records 0 to T-1 and 0 to H-1 are in use"
-unfoldable pub found_task : List ℕ → ℕ → FoundTask
-found_task t n = cond (ltb n (tasks_in t)) (TaskInUse (record { 0 = n })) TaskUnused
+unfoldable pub found_hub : List ℕ → ℕ → Option HubNo
+found_hub t n = cond (ltb n (hubs_in t)) (Some (record { 0 = n })) None
 
-unfoldable pub found_hub : List ℕ → ℕ → FoundHub
-found_hub t n = cond (ltb n (hubs_in t)) (HubInUse (record { 0 = n })) HubUnused
+-- "Next is the running task plus 1, or 0"
+abbrev pub next_number : Option TaskNo → ℕ
+next_number None = 0
+next_number (Some i) = suc i.0

@@ -1,52 +1,40 @@
-// "Refusal numbers, tested in this order": 3 to 7, and the running task, read from the words of a table.
+// "Refusal numbers, tested in this order": 1 and 2 of a table, 3 to 7 of a call on it, and the running task, read from words.
 // Any words, any length, any numbers: where the words are those of a state, the answer is the rules'.
-// Not here: 1 and 2, the tests of the table itself.
+// Not here: when a table is well formed (crate wellformed).
 #![tactic(auto)]
 
-ghost use Rattle.std.specs.Prelude.{◌≤◌, suc, eqb, leb, ltb, ◌&&◌, not, ◌≡◌};
+ghost use Rattle.std.specs.Prelude.{◌<◌, ◌≤◌, suc, eqb, leb, ltb, ◌&&◌, IfSome, not, ◌≡◌};
 ghost use Rattle.records.specs.Records.{task_at};
-ghost use Rattle.refusals.specs.Lookup.{found_hub, found_task, hubs_in, kind_in, tasks_in};
+ghost use Rattle.refusals.specs.Lookup.{found_hub, hubs_in, kind_in, next_number, tasks_in};
 ghost use Rattle.rules.proofs.Layouts.{Laid};
 ghost use Rattle.rules.proofs.Valid.{Listed, Room, Valid};
 ghost use Rattle.rules.specs.Lists.{next};
-ghost use Rattle.rules.specs.Refusals.{good_hub, good_message, good_request, good_wait, last_side, mode_of, need, refusal, refusal_at};
+ghost use Rattle.rules.specs.Refusals.{good_hub, good_message, good_request, good_wait, last_side, mode_of, need, on_table, refusal, refusal_at};
+ghost use Rattle.rules.specs.Reply.{refusal_number};
 ghost use Rattle.rules.specs.Table.{Layout, State, kind_of, words};
 ghost use Rattle.rules.specs.WellFormed.{within};
 
 use records::{HubNo, TaskNo};
-use rules::Call;
+use rules::{Call, Refusal};
 
-// What a lookup answers: the number as its own kind of number, or that it is not in use.
-#[derive(Clone, Copy)]
-pub enum FoundHub {
-    InUse(HubNo),
-    Unused,
+// "Length isn't 600 words", "not well formed": a table of words, before anything else is asked of it.
+pub fn for_table(t: &[u32], ts: usize) -> Result<(), Refusal>
+    requires le_ts { 8 ≤ ts }
+    requires ts_bound { ts ≤ 9 }
+    ensures { (L : Layout) → Laid ts L → refusal_number result ≡ on_table L t.now 0 }
+{
+    rules::need(t.len() == records::table_size(ts), Refusal::WrongLength)?;
+    rules::need(wellformed::well_formed(t, ts), Refusal::NotWellFormed)
 }
 
-#[derive(Clone, Copy)]
-enum FoundTask {
-    InUse(TaskNo),
-    Unused,
-}
-
-// "Records 0 to T-1 and 0 to H-1 are in use."
-pub fn find_hub(t: &[u32], n: u32) -> FoundHub
+// "Records 0 to T-1 and 0 to H-1 are in use": the number as a hub's, where it is.
+pub fn find_hub(t: &[u32], n: u32) -> Option<HubNo>
     ensures { result ≡ found_hub t.now n }
 {
     if n < lists::word(t, records::HUBS) {
-        FoundHub::InUse(HubNo(n as usize))
+        Some(HubNo(n as usize))
     } else {
-        FoundHub::Unused
-    }
-}
-
-fn find_task(t: &[u32], n: u32) -> FoundTask
-    ensures { result ≡ found_task t.now n }
-{
-    if n < lists::word(t, records::TASKS) {
-        FoundTask::InUse(TaskNo(n as usize))
-    } else {
-        FoundTask::Unused
+        None
     }
 }
 
@@ -61,37 +49,51 @@ fn is_suspended(t: &[u32], ts: usize, i: TaskNo) -> bool
     x.suspended != 0
 }
 
-// "The running task is the first task in the ready list that isn't suspended; there may be none": plus 1, or 0.
-pub fn running(t: &[u32], ts: usize) -> u32
+// "The running task is the first task in the ready list that isn't suspended; there may be none."
+fn running(t: &[u32], ts: usize) -> Option<TaskNo>
+    requires le_ts { 8 ≤ ts }
+    requires ts_bound { ts ≤ 9 }
+    ensures number { (L : Layout) (s : State) → Laid ts L → Room s → Listed s → t.now ≡ words L s
+        → next_number result ≡ next s }
+    ensures low { IfSome result (λ i. i.0 < 4294967295) }
+{
+    let at = records::ready_at(ts);
+    for k in 0..records::LIST_SIZE {
+        let e = lists::word(t, at + k);
+        if e == 0 {
+            return None;
+        }
+        let i = TaskNo((e - 1) as usize);
+        if !is_suspended(t, ts, i) {
+            return Some(i);
+        }
+    }
+    None
+}
+
+// "Next is the running task plus 1, or 0."
+pub fn next(t: &[u32], ts: usize) -> u32
     requires le_ts { 8 ≤ ts }
     requires ts_bound { ts ≤ 9 }
     ensures { (L : Layout) (s : State) → Laid ts L → Room s → Listed s → t.now ≡ words L s
         → result ≡ next s }
 {
-    let at = records::ready_at(ts);
-    let mut k = 0;
-    while k < records::LIST_SIZE {
-        let e = lists::word(t, at + k);
-        if e == 0 {
-            return 0;
-        }
-        if !is_suspended(t, ts, TaskNo((e - 1) as usize)) {
-            return e;
-        }
-        k += 1;
+    match running(t, ts) {
+        Some(i) => i.0 as u32 + 1,
+        None => 0,
     }
-    0
 }
 
-// The sum is wider than a number of a call, so that no caller is taken for none.
 fn is_running(t: &[u32], ts: usize, caller: u32) -> bool
     requires le_ts { 8 ≤ ts }
     requires ts_bound { ts ≤ 9 }
     ensures { (L : Layout) (s : State) → Laid ts L → Room s → Listed s → t.now ≡ words L s
         → result ≡ eqb (next s) (suc caller) }
 {
-    let r = running(t, ts);
-    r as u64 == caller as u64 + 1
+    match running(t, ts) {
+        Some(i) => i.0 == caller as usize,
+        None => false,
+    }
 }
 
 // "1 to 1,000,000"
@@ -146,109 +148,90 @@ fn good_hub(kind: u32, limit: u32, start: u32) -> bool
 }
 
 // 1 Hub request: "the hub is looked up before side, mode and ticks; an unused number ends the call there"
-fn for_request(t: &[u32], ts: usize, c: Call) -> u32
+fn for_request(t: &[u32], ts: usize, c: Call) -> Result<(), Refusal>
     requires le_ts { 8 ≤ ts }
     requires ts_bound { ts ≤ 9 }
-    ensures { result ≡ need (ltb c.target (hubs_in t.now)) 5
+    ensures { refusal_number result ≡ need (ltb c.target (hubs_in t.now)) 5
         (need (good_request (kind_of (kind_in ts t.now c.target)) c) 6 0) }
 {
-    let found = find_hub(t, c.target);
-    let FoundHub::InUse(h) = found else {
-        return rules::NOT_IN_USE;
-    };
+    let h = find_hub(t, c.target).ok_or(Refusal::NotInUse)?;
     let x = records::hub(t, records::hubs_at(ts), h);
-    if good_request(x.kind, c) {
-        0
-    } else {
-        rules::BAD_ARGUMENT
-    }
+    rules::need(good_request(x.kind, c), Refusal::BadArgument)
 }
 
 // 2 Start, 3 Stop, 4 Suspend, 5 Resume.
-fn for_task(t: &[u32], c: Call) -> u32
-    ensures { result ≡ need (ltb c.target (tasks_in t.now)) 5 0 }
+fn for_task(t: &[u32], c: Call) -> Result<(), Refusal>
+    ensures { refusal_number result ≡ need (ltb c.target (tasks_in t.now)) 5 0 }
 {
-    let found = find_task(t, c.target);
-    let FoundTask::InUse(_) = found else {
-        return rules::NOT_IN_USE;
-    };
-    0
+    rules::need(c.target < lists::word(t, records::TASKS), Refusal::NotInUse)
 }
 
 // 7 Sleep.
-fn for_sleep(c: Call) -> u32
-    ensures { result ≡ need (within 1 1000000 c.ticks) 6 0 }
+fn for_sleep(c: Call) -> Result<(), Refusal>
+    ensures { refusal_number result ≡ need (within 1 1000000 c.ticks) 6 0 }
 {
-    if good_ticks(c.ticks) {
-        0
-    } else {
-        rules::BAD_ARGUMENT
-    }
+    rules::need(good_ticks(c.ticks), Refusal::BadArgument)
 }
 
 // 9 Add task: "target is priority, side 1 starts it at once, side 0 doesn't".
-fn for_add_task(t: &[u32], c: Call) -> u32
-    ensures { result ≡ need (leb c.target 255 && leb c.side 1) 6
+fn for_add_task(t: &[u32], c: Call) -> Result<(), Refusal>
+    ensures { refusal_number result ≡ need (leb c.target 255 && leb c.side 1) 6
         (need (ltb (tasks_in t.now) 16) 7 0) }
 {
-    if !((c.target <= rules::LAST_PRIORITY) & (c.side <= 1)) {
-        return rules::BAD_ARGUMENT;
-    }
-    if lists::word(t, records::TASKS) < records::MOST_RECORDS {
-        0
-    } else {
-        rules::FULL
-    }
+    rules::need(
+        (c.target <= rules::LAST_PRIORITY) & (c.side <= 1),
+        Refusal::BadArgument,
+    )?;
+    rules::need(
+        lists::word(t, records::TASKS) < records::MOST_RECORDS,
+        Refusal::Full,
+    )
 }
 
 // 10 Add hub: "target is kind, ticks the limit, word the start".
-fn for_add_hub(t: &[u32], c: Call) -> u32
-    ensures { result ≡ need (good_hub (kind_of c.target) c.ticks c.word) 6
+fn for_add_hub(t: &[u32], c: Call) -> Result<(), Refusal>
+    ensures { refusal_number result ≡ need (good_hub (kind_of c.target) c.ticks c.word) 6
         (need (ltb (hubs_in t.now) 16) 7 0) }
 {
-    if !good_hub(c.target, c.ticks, c.word) {
-        return rules::BAD_ARGUMENT;
-    }
-    if lists::word(t, records::HUBS) < records::MOST_RECORDS {
-        0
-    } else {
-        rules::FULL
-    }
+    rules::need(good_hub(c.target, c.ticks, c.word), Refusal::BadArgument)?;
+    rules::need(
+        lists::word(t, records::HUBS) < records::MOST_RECORDS,
+        Refusal::Full,
+    )
 }
 
 // "services 1 to 7: caller isn't the running task". What a Yield asks besides is nothing.
-fn for_caller(t: &[u32], ts: usize, c: Call) -> u32
+fn for_caller(t: &[u32], ts: usize, c: Call) -> Result<(), Refusal>
     requires le_ts { 8 ≤ ts }
     requires ts_bound { ts ≤ 9 }
     ensures { 1 ≤ c.service → c.service ≤ 7
-        → (L : Layout) (s : State) → Laid ts L → Room s → Listed s → t.now ≡ words L s → result ≡ refusal s c }
+        → (L : Layout) (s : State) → Laid ts L → Room s → Listed s → t.now ≡ words L s
+        → refusal_number result ≡ refusal s c }
 {
-    if !is_running(t, ts, c.caller) {
-        return rules::NOT_RUNNING;
-    }
+    rules::need(is_running(t, ts, c.caller), Refusal::NotRunning)?;
     let service = c.service;
     match service {
         rules::HUB_REQUEST => for_request(t, ts, c),
-        rules::YIELD => 0,
+        rules::YIELD => Ok(()),
         rules::SLEEP => for_sleep(c),
         _ => for_task(t, c),
     }
 }
 
 // Document 01's tests of a call on a table that is well formed. Blank and Tick are never refused here.
-fn by_service(t: &[u32], ts: usize, c: Call) -> u32
+fn by_service(t: &[u32], ts: usize, c: Call) -> Result<(), Refusal>
     requires le_ts { 8 ≤ ts }
     requires ts_bound { ts ≤ 9 }
     ensures { (L : Layout) (s : State) → Laid ts L → Valid s → Room s → t.now ≡ words L s
-        → result ≡ refusal s c }
+        → refusal_number result ≡ refusal s c }
 {
     let service = c.service;
     match service {
-        rules::BLANK | rules::TICK => 0,
+        rules::BLANK | rules::TICK => Ok(()),
         rules::ADD_TASK => for_add_task(t, c),
         rules::ADD_HUB => for_add_hub(t, c),
         rules::HUB_REQUEST..=rules::SLEEP => for_caller(t, ts, c),
-        _ => rules::UNKNOWN_SERVICE,
+        _ => Err(Refusal::UnknownService),
     }
 }
 
@@ -260,20 +243,13 @@ fn good_message(ts: usize, c: Call) -> bool
     (c.service != rules::HUB_REQUEST) | ((2 <= records::width_of(ts)) | (c.high == 0))
 }
 
-// A call on a table that is well formed: its refusal number, or 0.
-pub fn for_service(t: &[u32], ts: usize, c: Call) -> u32
+// A call on a table that is well formed: refused, or not.
+pub fn for_service(t: &[u32], ts: usize, c: Call) -> Result<(), Refusal>
     requires le_ts { 8 ≤ ts }
     requires ts_bound { ts ≤ 9 }
     ensures { (L : Layout) (s : State) → Laid ts L → Valid s → Room s → t.now ≡ words L s
-        → result ≡ refusal_at L s c }
+        → refusal_number result ≡ refusal_at L s c }
 {
-    let refused = by_service(t, ts, c);
-    if refused != 0 {
-        return refused;
-    }
-    if good_message(ts, c) {
-        0
-    } else {
-        rules::BAD_ARGUMENT
-    }
+    by_service(t, ts, c)?;
+    rules::need(good_message(ts, c), Refusal::BadArgument)
 }

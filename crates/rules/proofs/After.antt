@@ -5,6 +5,7 @@ use Prim.Native.Nat.{◌<◌, ◌≤◌, suc, zero, ℕ}
 use Rattle.lists.proofs.Laws.{bool_case}
 use Rattle.rules.proofs.Accepted.{need-zero}
 use Rattle.rules.proofs.Answers.{answer_word}
+use Rattle.rules.proofs.Coded.{at_all}
 use Rattle.rules.proofs.Kept.{valid-blank, valid-served}
 use Rattle.rules.proofs.Layouts.{Laid, by_edition, edition_laid, edition-one, edition-two, one_laid, sized, two_laid}
 use Rattle.rules.proofs.Numbers.{bears_answer_lem}
@@ -15,8 +16,8 @@ use Rattle.rules.proofs.Still.{blank_still}
 use Rattle.rules.proofs.Tests.{test_valid, tested}
 use Rattle.rules.proofs.Valid.{Valid}
 use Rattle.rules.proofs.Written.{read_fits, words-read, written-says}
-use Rattle.rules.specs.Calls.{AddHub, AddTask, Blank, HubRequest, Resume, Service, Sleep, Start, Stop, Suspend, Tick, Unknown, Yield, serve, served, service_of}
-use Rattle.rules.specs.Refusals.{behind, by_running, good_message, is_blank, need, on_task, refusal, refusal_at, refusal_for, refusal_in, refusal_of}
+use Rattle.rules.specs.Calls.{serve, served, service_of}
+use Rattle.rules.specs.Refusals.{behind, good_message, is_blank, need, refusal, refusal_at, refusal_in, refusal_of}
 use Rattle.rules.specs.Reply.{outcome, outcome_number}
 use Rattle.rules.specs.Table.{Layout, State, edition_of, one, read, size, state_of, task, two, words}
 use Rattle.rules.specs.WellFormed.{valid, well_formed, well_formed_in, written}
@@ -131,45 +132,11 @@ after-answer t c e lo hi =
 abbrev late : ℕ → Bool
 late n = eqb n 0 || leb 3 n
 
-need_late : (b : Bool) (r rest : ℕ) → late r ≡ true → late rest ≡ true → late (need b r rest) ≡ true
-unfolding need
-need_late true r rest f g = g
-need_late false r rest f g = f
-
-refusal_late : (s : State) (c : Call) → late (refusal s c) ≡ true
-unfolding by_running on_task refusal refusal_for
-refusal_late s c = go (service_of c.service)
-  where
-    on_task_late : late (on_task s c) ≡ true
-    on_task_late = need_late _ 4 _ refl (need_late _ 5 0 refl refl)
-
-    go : (v : Service) → late (refusal_for v s c) ≡ true
-    go Blank = refl
-    go HubRequest = need_late _ 4 _ refl (need_late _ 5 _ refl (need_late _ 6 0 refl refl))
-    go Start = on_task_late
-    go Stop = on_task_late
-    go Suspend = on_task_late
-    go Resume = on_task_late
-    go Yield = need_late _ 4 0 refl refl
-    go Sleep = need_late _ 4 _ refl (need_late _ 6 0 refl refl)
-    go Tick = refl
-    go AddTask = need_late _ 6 _ refl (need_late _ 7 0 refl refl)
-    go AddHub = need_late _ 6 _ refl (need_late _ 7 0 refl refl)
-    go Unknown = refl
-
-at_late : (L : Layout) (s : State) (c : Call) → late (refusal_at L s c) ≡ true
-unfolding behind refusal_at
-at_late L s c = by (refusal s c) (refusal_late s c)
-  where
-    by : (n : ℕ) → late n ≡ true → late (behind n (need (good_message L c) 6 0)) ≡ true
-    by zero l = need_late (good_message L c) 6 0 refl refl
-    by (suc r) l = l
-
 pub well_formed-not_2 : (t : List ℕ) (c : Call) → well_formed t ≡ true → refusal_of t c ≢ 2
 unfolding need refusal_in
 well_formed-not_2 t c e q =
     let late-here : late (refusal_of t c) ≡ true =
     rw
     (eq-eqb (length t) (size (edition_of t)) (well_formed-long t e), e, or-true (is_blank c))
-    (at_late (edition_of t) (state_of t) c) in
+    (at_all late refl refl refl refl refl refl (edition_of t) (state_of t) c) in
     false≢true (rw q at late-here)

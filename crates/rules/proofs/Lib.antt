@@ -6,6 +6,7 @@ pub mod Blocks
 pub mod Calm
 pub mod Cases
 pub mod Changes
+pub mod Coded
 pub mod Cut
 pub mod Editions
 pub mod Handed

@@ -3,22 +3,24 @@
 -- equal. Each statement has a short proof here, by After.antt. `reply_to`, `table_after` and `summary_of` are in specs/Reply.antt.
 -- Not here: that the code does it (crate kernel). Assumes nothing.
 use Prim.Native.Nat.{◌≤◌, suc, zero, ℕ}
+use Rattle.std.specs.Prelude.{Err, Ok, Result}
 use Rattle.rules.proofs.After.{after-answer, after-valid, edition-words, well_formed-not_2, words_well_formed}
+use Rattle.rules.proofs.Coded.{coded, refusal-coded}
 use Rattle.rules.proofs.Layouts.{edition_laid}
 use Rattle.rules.proofs.Reading.{read-words}
 use Rattle.rules.proofs.Room.{valid-room}
 use Rattle.rules.specs.Calls.{served, service_of}
 use Rattle.rules.specs.Refusals.{behind, need, refusal, refusal_at, refusal_for, refusal_in, refusal_of}
-use Rattle.rules.specs.Reply.{answer_number, refusal_number, reply_by, reply_in, reply_to, summary_of, table_after, table_by, table_in}
+use Rattle.rules.specs.Reply.{answer_number, code, refusal_number, refusal_with, reply_by, reply_in, reply_to, summary_of, table_after, table_by, table_in}
 use Rattle.rules.specs.Table.{edition_of, size, state_of, task}
 use Rattle.rules.specs.WellFormed.{well_formed}
-use Rattle.rules.specs.declared.Answer.TheVariants.{Accepted, Refused}
-use Rattle.rules.specs.declared.Answer.{Answer}
 use Rattle.rules.specs.declared.Call.{Call}
-use Rattle.rules.specs.declared.Outcome.TheVariants.{Fail, NothingYet, Ok}
+use Rattle.rules.specs.declared.Outcome.TheVariants.{Fail, NothingYet, Ok as OK}
+use Rattle.rules.specs.declared.Outcome.{Outcome}
+use Rattle.rules.specs.declared.Refusal.{Refusal}
 use Rattle.rules.specs.declared.Reply.{Reply}
 use Rattle.rules.specs.declared.Summary.{Summary}
-use borrow.Author.Tests.{eq-eqb}
+use borrow.Author.Tests.{eq-eqb, eqb-true}
 use lib.ListN.{length}
 use mathlib.Core.Bool.{true}
 use mathlib.Core.List.{List, [], ◌∷◌}
@@ -31,17 +33,20 @@ use native.Mathlib.Omega.{arith}
 -- "An accepted call has refusal 0"
 pub refusal_is : (t : List ℕ) (c : Call) → refusal_number (reply_to t c).answer ≡ refusal_of t c
 unfolding reply_by reply_in
-refusal_is t c = by (refusal_of t c)
+refusal_is t c = by (refusal_of t c) (refusal-coded (edition_of t) t c)
   where
-    by : (n : ℕ) → refusal_number (reply_by n (served (state_of t) c) c).answer ≡ n
-    by zero = refl
-    by (suc r) = refl
+    by : (n : ℕ) → coded n ≡ true → refusal_number (reply_by n (served (state_of t) c) c).answer ≡ n
+    by zero e = refl
+    by (suc r) e = eqb-true _ (suc r) e
 
 -- "A refused call gives answer 0, next 0, and no word of the table changes." (M-104: "in every other case ... 0")
 
-pub refused_leaves : (t : List ℕ) (c : Call) (r : ℕ) → refusal_of t c ≡ suc r → (table_after t c ≡ t) × (reply_to t c ≡ record { answer = Refused (suc r); next = 0; ahead = 0 })
+pub refused_leaves : (t : List ℕ) (c : Call) (r : ℕ) → refusal_of t c ≡ suc r
+    → (table_after t c ≡ t)
+    × (reply_to t c ≡ record { answer = Err (refusal_with (suc r)); next = 0; ahead = 0 })
+    × (code (refusal_with (suc r)) ≡ suc r)
 unfolding reply_by reply_in table_by table_in
-refused_leaves t c r e = (rw e, rw e)
+refused_leaves t c r e = (rw e, rw e, eqb-true _ (suc r) (rw e at (refusal-coded (edition_of t) t c)))
 
 -- "0 Blank: ... whatever stood there"
 
@@ -98,16 +103,16 @@ answer_is_word t c e lo hi = rw (e, read-after t c e) (after-answer t c e lo hi)
 pub never_3 : (t : List ℕ) (c : Call) → answer_number (reply_to t c).answer ≤ 2
 never_3 t c = small (reply_to t c).answer
   where
-    small : (a : Answer) → answer_number a ≤ 2
-    small (Accepted NothingYet) = omega arith
-    small (Accepted Ok) = omega arith
-    small (Accepted Fail) = omega arith
-    small (Refused n) = omega arith
+    small : (a : Result Outcome Refusal) → answer_number a ≤ 2
+    small (Ok NothingYet) = omega arith
+    small (Ok OK) = omega arith
+    small (Ok Fail) = omega arith
+    small (Err e) = omega arith
 
 -- ---- "any two results that fit it are shown to be equal"
 
 pub calls_agree : (t : List ℕ) (c : Call) (r₁ r₂ : Reply) (t₁ t₂ : List ℕ) → (r₁ ≡ reply_to t c) × (t₁ ≡ table_after t c) → (r₂ ≡ reply_to t c) × (t₂ ≡ table_after t c) → (r₁ ≡ r₂) × (t₁ ≡ t₂)
 calls_agree t c r₁ r₂ t₁ t₂ a b = (a.0 ∙ sym b.0, a.1 ∙ sym b.1)
 
-pub summaries_agree : (t : List ℕ) (h : ℕ) (r₁ r₂ : Summary) → r₁ ≡ summary_of t h → r₂ ≡ summary_of t h → r₁ ≡ r₂
+pub summaries_agree : (t : List ℕ) (h : ℕ) (r₁ r₂ : Result Summary Refusal) → r₁ ≡ summary_of t h → r₂ ≡ summary_of t h → r₁ ≡ r₂
 summaries_agree t h r₁ r₂ a b = a ∙ sym b

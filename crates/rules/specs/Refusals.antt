@@ -11,6 +11,12 @@ unfoldable pub need : Bool → ℕ → ℕ → ℕ
 need true r rest = rest
 need false r rest = r
 
+-- ---- 1 "length isn't 600 words", with M-105 "a length that is neither size"; 2 "not well formed": of whatever reads a table in
+-- this layout; `rest` is what is tested then
+
+abbrev pub on_table : Layout → List ℕ → ℕ → ℕ
+on_table L t rest = need (eqb (length t) (size L)) 1 (need (well_formed_in L t) 2 rest)
+
 -- ---- 4 "services 1 to 7: caller isn't the running task"
 
 unfoldable pub by_running : State → Call → ℕ → ℕ

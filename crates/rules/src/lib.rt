@@ -2,9 +2,12 @@
 // order of document 01. Not here: the places and sizes of the table (crate records).
 #![tactic(auto)]
 
-ghost use Rattle.rules.specs.Reply.{answer_number, refusal_number};
+ghost use Rattle.rules.specs.Refusals.{need};
+ghost use Rattle.rules.specs.Reply.{answer_number, code, refusal_number};
 ghost use Rattle.rules.specs.Table.{kind_of, stored};
 ghost use Rattle.std.specs.Prelude.{◌≡◌};
+
+use std::fmt;
 
 mod kinds;
 
@@ -88,28 +91,63 @@ pub const MOST_COUNT: u32 = 65535;
 
 pub const MOST_HELD: u32 = 8;
 
-// The refusal numbers, in the order in which they are tested; 0 is none.
+// The refusals by their numbers, in the order in which they are tested; 0 is none.
+#[derive(Clone, Copy, Debug, PartialEq, Eq)]
+pub enum Refusal {
+    WrongLength = 1,
+    NotWellFormed = 2,
+    UnknownService = 3,
+    NotRunning = 4,
+    NotInUse = 5,
+    BadArgument = 6,
+    Full = 7,
+    // M-100, M-106: the lent buffer is shorter than what is to be written
+    ShortBuffer = 8,
+    // M-105, of a move back to edition 1: some high word isn't 0
+    HighWord = 9,
+    // M-106, of two tables that are compared: differing editions
+    OtherEdition = 13,
+}
+
+impl Refusal {
+    pub fn number(self) -> u32
+        ensures { result ≡ code self }
+    {
+        self as u32
+    }
+}
+
+impl fmt::Display for Refusal {
+    fn fmt<W: fmt::Write>(&self, f: &mut fmt::Formatter<W>) -> fmt::Result {
+        f.write_str(match self {
+            Refusal::WrongLength => "wrong length",
+            Refusal::NotWellFormed => "not well formed",
+            Refusal::UnknownService => "unknown service",
+            Refusal::NotRunning => "the caller isn't the running task",
+            Refusal::NotInUse => "not in use",
+            Refusal::BadArgument => "bad argument",
+            Refusal::Full => "16 already",
+            Refusal::ShortBuffer => "the buffer is too short",
+            Refusal::HighWord => "a high word isn't 0",
+            Refusal::OtherEdition => "differing editions",
+        })
+    }
+}
+
+// The test must pass, or the call is refused.
+#[tactic(auto, unfolding(crate::specs::Refusals::need))]
+pub fn need(holds: bool, refusal: Refusal) -> Result<(), Refusal>
+    ensures { refusal_number result ≡ need holds (code refusal) 0 }
+{
+    if holds { Ok(()) } else { Err(refusal) }
+}
+
 pub const WRONG_LENGTH: u32 = 1;
 
 pub const NOT_WELL_FORMED: u32 = 2;
 
-pub const UNKNOWN_SERVICE: u32 = 3;
-
-pub const NOT_RUNNING: u32 = 4;
-
-pub const NOT_IN_USE: u32 = 5;
-
-pub const BAD_ARGUMENT: u32 = 6;
-
-pub const FULL: u32 = 7;
-
-// M-100, M-106: the lent buffer is shorter than what is to be written
 pub const SHORT_BUFFER: u32 = 8;
 
-// M-105, of a move back to edition 1: some high word isn't 0
-pub const HIGH_WORD: u32 = 9;
-
-// M-106, of two tables that are compared: differing editions
 pub const OTHER_EDITION: u32 = 13;
 
 // "A call is seven numbers, each any 32-bit value", with M-105 eight: the message's high word.
@@ -133,17 +171,10 @@ pub enum Outcome {
     Fail,
 }
 
-// An accepted call carries its outcome; a refused one bears its number of the refusal table.
-#[derive(Clone, Copy)]
-pub enum Answer {
-    Accepted(Outcome),
-    Refused(u32),
-}
-
-// "Next is the running task plus 1, or 0." Ahead: how many requests stand before the caller's, where it has to wait at a hub; else 0.
+// An accepted call carries its outcome; a refused one bears its refusal. "Next is the running task plus 1, or 0." Ahead: how many requests stand before the caller's, where it has to wait at a hub; else 0.
 #[derive(Clone, Copy)]
 pub struct Reply {
-    pub answer: Answer,
+    pub answer: Result<Outcome, Refusal>,
     pub next: u32,
     pub ahead: u32,
 }
@@ -157,32 +188,31 @@ pub struct Served {
 // The hub summary: "one word with bit i set when task i waits there, and the number of set bits as count".
 #[derive(Clone, Copy)]
 pub struct Summary {
-    pub refusal: u32,
     pub mask: u32,
     pub count: u32,
 }
 
-// The paper's refusal number: 0 for an accepted call.
-pub fn refusal_number(a: Answer) -> u32
+// The paper's refusal number: 0 for what is not refused.
+pub fn refusal_number<T: Drop>(a: Result<T, Refusal>) -> u32
     ensures { result ≡ refusal_number a }
 {
     match a {
-        Answer::Accepted(_) => 0,
-        Answer::Refused(n) => n,
+        Ok(_) => 0,
+        Err(e) => e.number(),
     }
 }
 
 // The paper's answer number: nothing yet 0, OK 1, FAIL 2; 0 for a refused call.
-pub fn answer_number(a: Answer) -> u32
+pub fn answer_number(a: Result<Outcome, Refusal>) -> u32
     ensures { result ≡ answer_number a }
 {
     match a {
-        Answer::Accepted(o) => match o {
+        Ok(o) => match o {
             Outcome::NothingYet => 0,
             Outcome::Ok => OK,
             Outcome::Fail => FAIL,
         },
-        Answer::Refused(_) => 0,
+        Err(_) => 0,
     }
 }
 

@@ -7,20 +7,24 @@ use Rattle.lists.proofs.Laws.{bool_case}
 use Rattle.lists.proofs.Padding.{all_zero-numbers, packed_tail}
 use Rattle.lists.specs.Lists.{bit, numbers, occ, packed, without}
 use Rattle.records.specs.declared.HubNo.{HubNo}
-use Rattle.refusals.proofs.Found.{hub_in_use, hub-number}
+use Rattle.refusals.proofs.Found.{hub_found, hub_in_use, hub-number}
 use Rattle.refusals.specs.Lookup.{found_hub}
-use Rattle.refusals.specs.declared.FoundHub.TheVariants.{InUse}
 use Rattle.rules.proofs.After.{long_in, valid_in}
 use Rattle.rules.proofs.Cases.{and_l}
 use Rattle.rules.proofs.Changes.{in_use}
+use Rattle.rules.proofs.Coded.{on_table_ok}
 use Rattle.rules.proofs.Reading.{read-hub, read-hubs}
 use Rattle.rules.proofs.Standing.{listed-waits}
 use Rattle.rules.proofs.Valid.{Valid}
 use Rattle.rules.proofs.Written.{written-says}
+use Rattle.rules.specs.Refusals.{on_table}
 use Rattle.rules.specs.Reply.{mask_below}
 use Rattle.rules.specs.Table.{Hub, Layout, State, hub, hub_at, read, size, wait_part}
 use Rattle.rules.specs.WellFormed.{waits_for, well_formed_in}
 use Rattle.summaries.specs.Mask.{bit_of, mask_of}
+use Rattle.rules.specs.declared.Refusal.TheVariants.{NotInUse}
+use Rattle.std.specs.Option.{ok_or}
+use Rattle.std.specs.Prelude.{Ok, Some}
 use borrow.Author.Tests.{eqb-false, eqb-true, ltb-false, ltb-true, ne_eqb}
 use lib.Dec.{eqb, lit<, ltb}
 use lib.ListN.{drop, get_or, length}
@@ -157,7 +161,7 @@ pub record FoundIn (L : Layout) (t : List ℕ) (n h : ℕ) : Type 0 where
   pub packed : packed (wait_part L t h) ≡ true
   pub mask : mask_of (numbers (wait_part L t h)) ≡ mask_below 16 (waits_for (read L t) n)
 
-pub found_in : (L : Layout) (t : List ℕ) (n : ℕ) (h : HubNo) → well_formed_in L t ≡ true → InUse h ≡ found_hub t n → FoundIn L t n h.0
+pub found_in : (L : Layout) (t : List ℕ) (n : ℕ) (h : HubNo) → well_formed_in L t ≡ true → Some h ≡ found_hub t n → FoundIn L t n h.0
 unfolding found_hub hub_at well_formed_in
 found_in L t n h w e =
     let b = hub_in_use t n h e in
@@ -170,3 +174,7 @@ found_in L t n h w e =
       packed = rw same ((written-says L t (and_l _ _ w)).waiters n used);
       mask = rw same (ap (λ (x : Hub). mask_of x.waiters) (sym (read-hub L t n used)) ∙ waiters_mask (read L t) (valid_in L t w) n);
     }
+
+-- the same, where the tests of the table and of the hub passed
+pub found_here : (L : Layout) (t : List ℕ) (n : ℕ) (h : HubNo) → 0 ≡ on_table L t 0 → Ok h ≡ ok_or (found_hub t n) NotInUse → FoundIn L t n h.0
+found_here L t n h good e = found_in L t n h (on_table_ok L t good).1 (hub_found t n h e)

@@ -1,7 +1,6 @@
--- The word that stands for a list of tasks, a bit for each; and a refused summary. Definitions alone.
+-- The word that stands for a list of tasks, a bit for each. Definitions alone.
 -- Not here: the mask that a summary promises, by who waits (`mask_below` of rules), and that the two are the same (proofs/).
 use Rattle.std.specs.Prelude.{◌+◌, ◌^◌, suc, zero, ℕ, List, [], ◌∷◌}
-use Rattle.rules.specs.declared.Summary.{Summary}
 
 -- the bit of an entry, a task number plus 1; an empty entry has none
 unfoldable pub bit_of : ℕ → ℕ
@@ -12,7 +11,3 @@ bit_of (suc i) = 2 ^ i
 unfoldable pub mask_of : List ℕ → ℕ
 mask_of [] = 0
 mask_of (i ∷ is) = 2 ^ i + mask_of is
-
--- "Refused with 1, 2 or 5, then both are 0."
-abbrev pub refused_with : ℕ → Summary
-refused_with n = record { refusal = n; mask = 0; count = 0 }

@@ -7,21 +7,9 @@ ghost use Rattle.lists.specs.Lists.{numbers, packed};
 ghost use Rattle.rules.proofs.Layouts.{Laid};
 ghost use Rattle.rules.specs.Reply.{summary_in};
 ghost use Rattle.rules.specs.Table.{Layout};
-ghost use Rattle.summaries.specs.Mask.{bit_of, mask_of, refused_with};
+ghost use Rattle.summaries.specs.Mask.{bit_of, mask_of};
 
-use refusals::FoundHub;
-use rules::Summary;
-
-// "then both are 0"
-fn refused(number: u32) -> Summary
-    ensures { result ≡ refused_with number }
-{
-    Summary {
-        refusal: number,
-        mask: 0,
-        count: 0,
-    }
-}
+use rules::{Refusal, Summary};
 
 // The bit of an entry's task. An entry is a task number plus 1, and an empty one, 0, has no bit.
 fn bit_of(entry: u32) -> u32
@@ -38,34 +26,26 @@ fn mask_of(list: &[u32]) -> u32
     ensures { result ≡ mask_of (numbers list.now) }
 {
     let mut mask = 0;
-    let mut k = 0;
-    while k < list.len() && list[k] != 0 {
-        mask += bit_of(list[k]);
-        k += 1;
+    for entry in list {
+        if *entry == 0 {
+            return mask;
+        }
+        mask += bit_of(*entry);
     }
     mask
 }
 
-pub fn summarise(t: &[u32], ts: usize, hub: u32) -> Summary
+pub fn summarise(t: &[u32], ts: usize, hub: u32) -> Result<Summary, Refusal>
     requires le_ts { 8 ≤ ts }
     requires ts_bound { ts ≤ 9 }
     ensures { (L : Layout) → Laid ts L → result ≡ summary_in L t.now hub }
 {
-    if t.len() != records::table_size(ts) {
-        return refused(rules::WRONG_LENGTH);
-    }
-    if !wellformed::well_formed(t, ts) {
-        return refused(rules::NOT_WELL_FORMED);
-    }
-    let found = refusals::find_hub(t, hub);
-    let FoundHub::InUse(h) = found else {
-        return refused(rules::NOT_IN_USE);
-    };
+    refusals::for_table(t, ts)?;
+    let h = refusals::find_hub(t, hub).ok_or(Refusal::NotInUse)?;
     let at = records::waits_at(ts, h);
     let mask = mask_of(&t[at..at + records::LIST_SIZE]);
-    Summary {
-        refusal: 0,
-        mask: mask,
+    Ok(Summary {
+        mask,
         count: u32::count_ones(mask),
-    }
+    })
 }

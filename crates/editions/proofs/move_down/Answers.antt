@@ -1,26 +1,28 @@
 -- `editions::move_down` meets its contract, each way out by its tests. Assumes nothing.
 use Rattle.editions.proofs.Ways.{down_done, down_high, down_refused, down_tables}
-use mathlib.Core.Path.{◌∙◌, sym}
+use Rattle.rules.proofs.Coded.{code-some, fails, handed_on, passes}
+use mathlib.Core.Path.{◌∙◌, refl, sym}
 use native.Mathlib.Omega.{arith}
 use Rattle.editions.proofs.move_down.Goals as goal
 
-pub returns-then-earlier-ne0 : goal.returns-then-earlier-ne0
-returns-then-earlier-ne0 c =
+pub returns-in_err-refusal_of : goal.returns-in_err-refusal_of
+returns-in_err-refusal_of c =
     let a = c.args in
-    down_refused a.from.now a.to.now _ c.refusal_of-earlier.ensures c.if-earlier-ne0.true
+    rw (handed_on _ _ c.from_residual.ensures.1) (down_refused a.from.now a.to.now _ c.in_err-refusal_of.ensures (code-some _))
 
-pub returns-then-not-high_zero : goal.returns-then-not-high_zero
-returns-then-not-high_zero c =
+pub returns-in_err-need : goal.returns-in_err-need
+returns-in_err-need c =
     let a = c.args in
-    down_high a.from.now a.to.now _ c.refusal_of-earlier.ensures c.if-earlier-ne0.false (sym c.high_zero.ensures ∙ c.if-not-high_zero.true)
+    let no = fails _ _ 9 c.in_err-need.ensures in
+    rw (handed_on _ _ c.from_residual-in_err-need.ensures.1, no.1) (down_high a.from.now a.to.now _ c.in_ok-refusal_of.ensures refl (sym c.high_zero.ensures ∙ no.0))
 
-pub copy-requires : goal.copy-requires
-copy-requires c =
-    let a = c.args in
-    let both = down_tables a.from.now a.to.now _ c.refusal_of-earlier.ensures c.if-earlier-ne0.false in
-    record { table = both.0; table_2 = both.1 }
+pub copy-requires-clause-table : goal.copy-requires-clause-table
+copy-requires-clause-table c = (down_tables c.args.from.now c.args.to.now _ c.in_ok-refusal_of.ensures refl).0
+
+pub copy-requires-clause-table_2 : goal.copy-requires-clause-table_2
+copy-requires-clause-table_2 c = (down_tables c.args.from.now c.args.to.now _ c.in_ok-refusal_of.ensures refl).1
 
 pub returns : goal.returns
 returns c =
     let a = c.args in
-    down_done a.from.now a.to.now _ c.refusal_of-earlier.ensures c.if-earlier-ne0.false (sym c.high_zero.ensures ∙ c.if-not-high_zero.false) (λ k. omega (arith, c.type_inv.from k)) _ c.copy.ensures
+    down_done a.from.now a.to.now _ c.in_ok-refusal_of.ensures refl (sym c.high_zero.ensures ∙ passes _ 8 c.in_ok-need.ensures) (λ k. omega (arith, c.type_inv.from k)) _ c.copy.ensures

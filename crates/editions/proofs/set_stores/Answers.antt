@@ -11,7 +11,7 @@ use native.Mathlib.Omega.{arith}
 use Rattle.editions.proofs.set_stores.Goals as goal
 
 pub loop-k-init : goal.loop-k-init
-loop-k-init c = (omega arith, unfold joined in refl)
+loop-k-init c = unfold joined in refl
 
 pub overflow_mul-k : goal.overflow_mul-k
 overflow_mul-k c = let few : c.width_of-v.result ≤ 2 = omega arith in omega (arith, mul-le-mul_left c.loop-k.k few)
@@ -41,12 +41,12 @@ loop-k-preserved c =
     let from = c.stores_at-a.result in
     let some : 1 ≤ w = omega arith in
     let few : w ≤ 2 = omega arith in
-    (omega arith, c.set_message.ensures ∙ joined_turn w (λ j. message_words w (message_at v a.from.now (from + j * v))) (λ j. length-message w (message_at v a.from.now (from + j * v)) some few) a.to.now l.to _ b l.k l.invariant.1 (ap (message_words w) c.message-m.ensures.value))
+    (c.set_message.ensures ∙ joined_turn w (λ j. message_words w (message_at v a.from.now (from + j * v))) (λ j. length-message w (message_at v a.from.now (from + j * v)) some few) a.to.now l.to _ b l.k l.invariant (ap (message_words w) c.message-m.ensures.value))
 
 pub shape_of-to : goal.shape_of-to
-shape_of-to c = rw c.loop-k.invariant.1 (simp length-sets)
+shape_of-to c = rw c.loop-k.invariant (simp length-sets)
 
 pub returns : goal.returns
 returns c =
     let e : c.loop-k.k ≡ 128 = omega arith in
-    rw (e, c.width_of-w.ensures, c.stores_at-b.ensures, c.width_of-v.ensures, c.stores_at-a.ensures) at c.loop-k.invariant.1
+    rw (e, c.width_of-w.ensures, c.stores_at-b.ensures, c.width_of-v.ensures, c.stores_at-a.ensures) at c.loop-k.invariant

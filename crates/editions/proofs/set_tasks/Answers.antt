@@ -11,17 +11,17 @@ use native.Mathlib.Omega.{arith}
 use Rattle.editions.proofs.set_tasks.Goals as goal
 
 pub loop-i-init : goal.loop-i-init
-loop-i-init c = (omega arith, unfold joined in refl)
+loop-i-init c = unfold joined in refl
 
 pub loop-i-preserved : goal.loop-i-preserved
 loop-i-preserved c =
     let a = c.args in
     let l = c.loop-i in
     let wide : (j : ℕ) → length (task_words a.ts (task_at a.fs a.from.now j)) ≡ a.ts = λ j. length_record a.ts c.requires.le_ts.0 c.requires.le_ts.1 (task_at a.fs a.from.now j) in
-    (omega arith, c.set_task.ensures ∙ joined_turn a.ts (λ j. task_words a.ts (task_at a.fs a.from.now j)) wide a.to.now l.to _ 8 l.i l.invariant.1 (ap (task_words a.ts) c.task-x.ensures.value))
+    (c.set_task.ensures ∙ joined_turn a.ts (λ j. task_words a.ts (task_at a.fs a.from.now j)) wide a.to.now l.to _ 8 l.i l.invariant (ap (task_words a.ts) c.task-x.ensures.value))
 
 pub shape_of-to : goal.shape_of-to
-shape_of-to c = rw c.loop-i.invariant.1 (simp length-sets)
+shape_of-to c = rw c.loop-i.invariant (simp length-sets)
 
 pub returns : goal.returns
-returns c = let e : c.loop-i.i ≡ 16 = omega arith in rw e at c.loop-i.invariant.1
+returns c = let e : c.loop-i.i ≡ 16 = omega arith in rw e at c.loop-i.invariant

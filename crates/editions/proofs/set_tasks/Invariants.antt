@@ -1,5 +1,4 @@
 -- `editions::set_tasks` meets its contract: the records so far are one run of stores. Assumes nothing.
-use Prim.Native.Nat.{◌-◌, ◌≤◌}
 use Rattle.editions.specs.Editions.{joined}
 use Rattle.records.specs.Records.{task_at, task_words}
 use lib.Seq.{sets}
@@ -7,7 +6,4 @@ use mathlib.Core.Path.{◌≡◌}
 use Rattle.editions.proofs.set_tasks.Given as goal
 
 abbrev pub invariant-loop-i : goal.invariant-loop-i
-invariant-loop-i l = (l.i ≤ 16) × (l.to ≡ sets l.initial.to 8 (joined l.i (λ j. task_words l.ts (task_at l.fs l.from j))))
-
-abbrev pub decreases-loop-i : goal.decreases-loop-i
-decreases-loop-i l = 16 - l.i
+invariant-loop-i l = l.to ≡ sets l.initial.to 8 (joined l.i (λ j. task_words l.ts (task_at l.fs l.from j)))

@@ -1,36 +1,58 @@
 -- `listing::list_in` meets its contract, each way out by its tests. Assumes nothing.
-use Rattle.listing.proofs.SetUps.{counts, listed_1, listed_2, listed_8, listed-all, listing-lines}
-use Rattle.rules.proofs.Layouts.{in_some, store_place}
+use Rattle.listing.proofs.SetUps.{counts, listed_8, listed-all, listed-refused, listing-lines}
+use Rattle.rules.proofs.Coded.{fails, on_table_ok, passes}
+use Rattle.rules.proofs.Layouts.{edition_of_lem, in_some}
+use borrow.Author.Tests.{eqb-true, leb-false, leb-true}
 use lib.ListN.{length}
-use mathlib.Core.Path.{◌∙◌, ap, sym}
+use mathlib.Core.Path.{◌∙◌, ap}
 use native.Mathlib.Omega.{arith}
 use Rattle.listing.proofs.list_in.Goals as goal
 
-pub returns-then-t-table_size : goal.returns-then-t-table_size
-returns-then-t-table_size c = λ L y. listed_1 L _ _ _ c.refused.ensures (λ e. c.if-t-table_size.true (e ∙ sym (c.table_size.ensures ∙ store_place y 16)))
+pub returns-in_err-for_table : goal.returns-in_err-for_table
+returns-in_err-for_table c = λ L y. listed-refused L _ _ _ _ c.from_residual.ensures.1 (c.in_err-for_table.ensures L y)
 
-pub returns-then-not-well_formed : goal.returns-then-not-well_formed
-returns-then-not-well_formed c = λ L y. listed_2 L _ _ (c.if-t-table_size.false ∙ c.table_size.ensures ∙ store_place y 16) _ c.refused-then-not-well_formed.ensures (sym (c.well_formed-2.ensures L y) ∙ c.if-not-well_formed.true)
+pub measure-bytes-requires-clause-n_bound : goal.measure-bytes-requires-clause-n_bound
+measure-bytes-requires-clause-n_bound c = let few = in_some c.args.ts c.requires.le_ts c.requires.ts_bound (λ L y. counts L c.args.t.now (on_table_ok L _ (c.in_ok-for_table.ensures L y)).1) in few.0
 
-pub measure-bytes-requires : goal.measure-bytes-requires
-measure-bytes-requires c = let few = in_some c.args.ts c.requires.le_ts c.requires.ts_bound (λ L y. counts L c.args.t.now (sym (c.well_formed-2.ensures L y) ∙ c.if-not-well_formed.false)) in record { le_ts = c.requires.le_ts; ts_bound = c.requires.ts_bound; n_bound = few.0; m_bound = few.1 }
+pub measure-bytes-requires-clause-m_bound : goal.measure-bytes-requires-clause-m_bound
+measure-bytes-requires-clause-m_bound c = let few = in_some c.args.ts c.requires.le_ts c.requires.ts_bound (λ L y. counts L c.args.t.now (on_table_ok L _ (c.in_ok-for_table.ensures L y)).1) in few.1
 
-pub returns-then-text-bytes : goal.returns-then-text-bytes
-returns-then-text-bytes c =
+pub returns-in_err-need : goal.returns-in_err-need
+returns-in_err-need c =
     λ L y.
     let t = c.args.t.now in
-    let w = (sym (c.well_formed-2.ensures L y) ∙ c.if-not-well_formed.false) in
-    let text = listing-lines L y t (λ k. omega (arith, c.type_inv.t k)) w in
-    listed_8 L t _ (c.if-t-table_size.false ∙ c.table_size.ensures ∙ store_place y 16) w _ c.refused-then-text-bytes.ensures (omega (arith, c.if-text-bytes.true, c.measure-bytes.ensures.value, ap length text))
+    let good = c.in_ok-for_table.ensures L y in
+    let text = listing-lines L y t (λ k. omega (arith, c.type_inv.t k)) (on_table_ok L t good).1 in
+    let no = fails _ _ 8 c.in_err-need.ensures in
+    let short = leb-false _ _ no.0 in
+    listed_8 L t _ good _ _ c.from_residual-in_err-need.ensures.1 no.1 (omega (arith, short, c.measure-bytes.ensures.value, ap length text))
 
-pub write_lines-requires : goal.write_lines-requires
-write_lines-requires c = let few = in_some c.args.ts c.requires.le_ts c.requires.ts_bound (λ L y. counts L c.args.t.now (sym (c.well_formed-2.ensures L y) ∙ c.if-not-well_formed.false)) in record { le_ts = c.requires.le_ts; ts_bound = c.requires.ts_bound; n_bound = few.0; m_bound = few.1; m_in_bounds = omega (arith, c.if-text-bytes.false, c.measure-bytes.ensures.value) }
+pub write_lines-requires-clause-n_bound : goal.write_lines-requires-clause-n_bound
+write_lines-requires-clause-n_bound c = let few = in_some c.args.ts c.requires.le_ts c.requires.ts_bound (λ L y. counts L c.args.t.now (on_table_ok L _ (c.in_ok-for_table.ensures L y)).1) in few.0
+
+pub write_lines-requires-clause-m_bound : goal.write_lines-requires-clause-m_bound
+write_lines-requires-clause-m_bound c = let few = in_some c.args.ts c.requires.le_ts c.requires.ts_bound (λ L y. counts L c.args.t.now (on_table_ok L _ (c.in_ok-for_table.ensures L y)).1) in few.1
+
+pub write_lines-requires-clause-m_in_bounds : goal.write_lines-requires-clause-m_in_bounds
+write_lines-requires-clause-m_in_bounds c = omega (arith, leb-true _ _ (passes _ 7 c.in_ok-need.ensures), c.measure-bytes.ensures.value)
 
 pub returns : goal.returns
 returns c =
     λ L y.
     let t = c.args.t.now in
-    let w = (sym (c.well_formed-2.ensures L y) ∙ c.if-not-well_formed.false) in
-    let text = listing-lines L y t (λ k. omega (arith, c.type_inv.t k)) w in
+    let good = c.in_ok-for_table.ensures L y in
+    let text = listing-lines L y t (λ k. omega (arith, c.type_inv.t k)) (on_table_ok L t good).1 in
     let n = c.measure-bytes.ensures.value ∙ ap length text in
-    listed-all L t _ (c.if-t-table_size.false ∙ c.table_size.ensures ∙ store_place y 16) w _ _ n c.if-text-bytes.false (rw (n, ← text) c.write_lines.ensures)
+    listed-all L t _ good _ _ n (leb-true _ _ (passes _ 7 c.in_ok-need.ensures)) (rw (n, ← text) c.write_lines.ensures)
+
+pub bounds-t-1 : goal.bounds-t-1
+bounds-t-1 c =
+    let e = edition_of_lem c.args.ts c.requires.le_ts c.requires.ts_bound in
+    let long = eqb-true _ _ (on_table_ok e.layout c.args.t.now (c.in_ok-for_table.ensures e.layout e.laid)).0 in
+    omega (arith, long)
+
+pub bounds-t-2 : goal.bounds-t-2
+bounds-t-2 c =
+    let e = edition_of_lem c.args.ts c.requires.le_ts c.requires.ts_bound in
+    let long = eqb-true _ _ (on_table_ok e.layout c.args.t.now (c.in_ok-for_table.ensures e.layout e.laid)).0 in
+    omega (arith, long)

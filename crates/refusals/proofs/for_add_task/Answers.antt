@@ -1,19 +1,10 @@
 -- `refusals::for_add_task` meets its contract: the tests are the rules' own. Assumes nothing.
-use Rattle.rules.specs.Refusals.{need}
-use borrow.Author.Tests.{le-ltb, lt-ltb}
+use Rattle.rules.proofs.Coded.{handed_on, need_err, need_ok}
+use mathlib.Core.Path.{◌∙◌}
 use Rattle.refusals.proofs.for_add_task.Goals as goal
 
-pub returns-then-not-c : goal.returns-then-not-c
-unfolding need
-returns-then-not-c c =
-    rw (c.if-not-c.true)
+pub returns-in_err-need : goal.returns-in_err-need
+returns-in_err-need c = handed_on _ _ c.from_residual.ensures.1 ∙ need_err _ _ 6 _ c.in_err-need.ensures
 
-pub returns-then-word-lt-MOST_RECORDS : goal.returns-then-word-lt-MOST_RECORDS
-unfolding need
-returns-then-word-lt-MOST_RECORDS c =
-    rw (c.if-not-c.false, ← c.word.ensures, lt-ltb _ _ c.if-word-lt-MOST_RECORDS.true)
-
-pub returns-else-word-lt-MOST_RECORDS : goal.returns-else-word-lt-MOST_RECORDS
-unfolding need
-returns-else-word-lt-MOST_RECORDS c =
-    rw (c.if-not-c.false, ← c.word.ensures, le-ltb _ _ c.if-word-lt-MOST_RECORDS.false)
+pub returns : goal.returns
+returns c = need_ok _ _ 5 _ c.in_ok-need.ensures (rw (← c.word.ensures) c.need-2.ensures)

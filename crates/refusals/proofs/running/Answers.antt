@@ -9,7 +9,6 @@ use Rattle.rules.proofs.Layouts.{Laid}
 use Rattle.rules.proofs.Valid.{Listed, Room}
 use Rattle.rules.specs.Lists.{first_free, next}
 use Rattle.rules.specs.Table.{Layout, State, words}
-use borrow.Author.Rules.{rules}
 use lib.ListN.{drop, drop_of_length-le, get_or, length}
 use mathlib.Core.Bool.{Bool, cond, not}
 use mathlib.Core.Path.{◌≡◌, ◌∙◌, ap, refl, sym}
@@ -38,23 +37,23 @@ step {ts} L s y t at k w flag room listed e left inside place word some is =
 
 pub loop-k-init : goal.loop-k-init
 unfolding next
-loop-k-init c = (omega arith, λ L s y room listed e. refl)
+loop-k-init c = λ L s y room listed e. refl
 
-pub returns-then-e-eq0 : goal.returns-then-e-eq0
-returns-then-e-eq0 c L s y room listed e =
+pub returns-then-e-eq0-clause-number : goal.returns-then-e-eq0-clause-number
+returns-then-e-eq0-clause-number c L s y room listed e =
     let l = c.loop-k in
-    let none = running_none L y s listed room l.k (omega (arith, c.loop-k-test.true)) in
-    sym (l.invariant.1 L s y room listed e ∙ none (rw (e, c.ready_at-at.ensures) at (sym c.word-e.ensures ∙ c.if-e-eq0.true)))
+    let none = running_none L y s listed room l.k (omega arith) in
+    sym (l.invariant L s y room listed e ∙ none (rw (e, c.ready_at-at.ensures) at (sym c.word-e.ensures ∙ c.if-e-eq0.true)))
 
-pub returns-then-not-is_suspended : goal.returns-then-not-is_suspended
-returns-then-not-is_suspended c L s y room listed e = sym (step L s y c.args.t.now c.ready_at-at.result c.loop-k.k c.word-e.result c.is_suspended.result room listed e (c.loop-k.invariant.1 L s y room listed e) c.loop-k-test.true c.ready_at-at.ensures c.word-e.ensures c.if-e-eq0.false c.is_suspended.ensures ∙ rw (c.if-not-is_suspended.true))
+pub returns-then-not-is_suspended-clause-number : goal.returns-then-not-is_suspended-clause-number
+returns-then-not-is_suspended-clause-number c L s y room listed e = sym (step L s y c.args.t.now c.ready_at-at.result c.loop-k.k c.word-e.result c.is_suspended.result room listed e (c.loop-k.invariant L s y room listed e) (omega arith) c.ready_at-at.ensures c.word-e.ensures c.if-e-eq0.false c.is_suspended.ensures ∙ rw (c.if-not-is_suspended.true) (omega (arith, c.if-e-eq0.false)))
 
 pub loop-k-preserved : goal.loop-k-preserved
-loop-k-preserved c = (search rules, λ L s y room listed e. rw add-one (step L s y c.args.t.now c.ready_at-at.result c.loop-k.k c.word-e.result c.is_suspended.result room listed e (c.loop-k.invariant.1 L s y room listed e) c.loop-k-test.true c.ready_at-at.ensures c.word-e.ensures c.if-e-eq0.false c.is_suspended.ensures ∙ rw (c.if-not-is_suspended.false)))
+loop-k-preserved c = λ L s y room listed e. rw add-one (step L s y c.args.t.now c.ready_at-at.result c.loop-k.k c.word-e.result c.is_suspended.result room listed e (c.loop-k.invariant L s y room listed e) (omega arith) c.ready_at-at.ensures c.word-e.ensures c.if-e-eq0.false c.is_suspended.ensures ∙ rw (c.if-not-is_suspended.false))
 
-pub returns : goal.returns
+pub returns-clause-number : goal.returns-clause-number
 unfolding first_free
-returns c L s y room listed e =
+returns-clause-number c L s y room listed e =
     let l = c.loop-k in
-    let past : length s.ready ≤ l.k = omega (arith, room.ready, c.loop-k-test.false) in
-    sym (l.invariant.1 L s y room listed e ∙ ap (first_free s) (drop_of_length-le s.ready past))
+    let past : length s.ready ≤ l.k = omega (arith, room.ready) in
+    sym (l.invariant L s y room listed e ∙ ap (first_free s) (drop_of_length-le s.ready past))

@@ -1,6 +1,5 @@
 -- `refusals::running` meets its contract. The loop's invariant: the running task is the first free one of what is left of
 -- the ready list. Assumes nothing.
-use Prim.Native.Nat.{◌-◌, ◌≤◌}
 use Rattle.rules.proofs.Layouts.{Laid}
 use Rattle.rules.proofs.Valid.{Listed, Room}
 use Rattle.rules.specs.Lists.{first_free, next}
@@ -11,7 +10,4 @@ use Rattle.refusals.proofs.running.Given as goal
 
 abbrev pub invariant-loop-k : goal.invariant-loop-k
 invariant-loop-k l =
-    (l.k ≤ 16) × ((L : Layout) (s : State) → Laid l.ts L → Room s → Listed s → l.t ≡ words L s → next s ≡ first_free s (drop l.k s.ready))
-
-abbrev pub decreases-loop-k : goal.decreases-loop-k
-decreases-loop-k l = 16 - l.k
+    (L : Layout) (s : State) → Laid l.ts L → Room s → Listed s → l.t ≡ words L s → next s ≡ first_free s (drop l.k s.ready)

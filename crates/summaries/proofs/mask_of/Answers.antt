@@ -11,30 +11,30 @@ use native.Mathlib.Numerals.{add-one}
 use native.Mathlib.Omega.{arith}
 use Rattle.summaries.proofs.mask_of.Goals as goal
 
-pub loop-k-init : goal.loop-k-init
-loop-k-init c = (omega arith, c.requires.list_value, omega arith)
+pub loop-entry-init : goal.loop-entry-init
+loop-entry-init c = (c.requires.list_value, omega arith)
 
 pub bit_of-mask-requires : goal.bit_of-mask-requires
-bit_of-mask-requires c = (next_turn _ c.loop-k.k c.loop-k.mask c.requires.list_bound c.loop-k-test.true c.loop-k.invariant.1 c.loop-k.invariant.2).entry
+bit_of-mask-requires c = (next_turn _ c.loop-entry.entry-index c.loop-entry.mask c.requires.list_bound (omega arith) c.loop-entry.invariant.0 c.loop-entry.invariant.1).entry
 
 pub overflow_add-mask : goal.overflow_add-mask
-overflow_add-mask c = omega (arith, c.bit_of-mask.ensures, (next_turn _ c.loop-k.k c.loop-k.mask c.requires.list_bound c.loop-k-test.true c.loop-k.invariant.1 c.loop-k.invariant.2).fits)
+overflow_add-mask c = omega (arith, c.bit_of-mask.ensures, (next_turn _ c.loop-entry.entry-index c.loop-entry.mask c.requires.list_bound (omega arith) c.loop-entry.invariant.0 c.loop-entry.invariant.1).fits)
 
-pub loop-k-preserved : goal.loop-k-preserved
-loop-k-preserved c =
-    let t = next_turn _ c.loop-k.k c.loop-k.mask c.requires.list_bound c.loop-k-test.true c.loop-k.invariant.1 c.loop-k.invariant.2 in
-    rw (add-one, c.bit_of-mask.ensures) (c.loop-k-test.true, t.packed, t.mask)
+pub loop-entry-preserved : goal.loop-entry-preserved
+loop-entry-preserved c =
+    let t = next_turn _ c.loop-entry.entry-index c.loop-entry.mask c.requires.list_bound (omega arith) c.loop-entry.invariant.0 c.loop-entry.invariant.1 in
+    rw (add-one, c.bit_of-mask.ensures) (t.packed, t.mask)
 
-pub returns-else-list-k-ne0 : goal.returns-else-list-k-ne0
-returns-else-list-k-ne0 c =
-    let l = c.loop-k in
-    let none = mask_ended c.args.list.now l.k c.loop-k-test.true c.if-list-k-ne0.false in
-    omega (arith, none, l.invariant.2)
+pub returns-then-entry-eq0 : goal.returns-then-entry-eq0
+returns-then-entry-eq0 c =
+    let l = c.loop-entry in
+    let none = mask_ended c.args.list.now l.entry-index (omega arith) c.if-entry-eq0.true in
+    omega (arith, none, l.invariant.1)
 
-pub returns-after-loop-k : goal.returns-after-loop-k
+pub returns : goal.returns
 unfolding mask_of numbers
-returns-after-loop-k c =
+returns c =
     let l = c.args.list.now in
-    let none : drop c.loop-k.k l ≡ [] = drop_of_length-le l c.loop-k-test.false in
-    let done : c.loop-k.mask + mask_of (numbers []) ≡ mask_of (numbers l) = rw none at c.loop-k.invariant.2 in
+    let none : drop c.loop-entry.entry-index l ≡ [] = drop_of_length-le l (omega arith) in
+    let done : c.loop-entry.mask + mask_of (numbers []) ≡ mask_of (numbers l) = rw none at c.loop-entry.invariant.1 in
     omega arith
