@@ -3,12 +3,32 @@
 // Not here: which cells there are, in which order, and which are marked (crates rows and sidebyside).
 #![tactic(auto)]
 
-ghost use Rattle.std.specs.Prelude.{◌≤◌};
+ghost use Rattle.std.specs.Prelude.{◌*◌, ◌+◌, ◌≤◌, ◌≡◌};
 ghost use Rattle.hubtexts.specs.Cells.{block_text, blocks_text, board_text, count_text, held_from, holds_text, kind_text, none_text, word_text, words_text};
+ghost use Rattle.messages.specs.Messages.{message_at};
 ghost use Rattle.texts.specs.Texts.{Wrote};
 
 use records::HubRecord;
 use texts::Writer;
+
+// A hub's store: it starts at word `from`, in messages of w words each.
+#[derive(Clone, Copy)]
+pub struct Store<'a> {
+    pub words: &'a [u32],
+    pub from: usize,
+    pub w: usize,
+    pub ghost from_bound: { from ≤ 65535 },
+    pub ghost w_bound: { w ≤ 2 },
+}
+
+impl Store<'_> {
+    // Its k-th message, from 0.
+    fn message(&self, k: u32) -> u64
+        ensures { result ≡ message_at self.now.w self.now.words.now (self.now.from + k * self.now.w) }
+    {
+        messages::message(self.words, self.from + k as usize * self.w, self.w)
+    }
+}
 
 // The kind of a hub, with its limit and start where a kind leaves them open.
 #[tactic(auto, unfolding(crate::specs::Cells::kind_text))]
@@ -39,34 +59,28 @@ fn put_word(out: &mut Writer, k: u32, m: u64)
     texts::put_message(out, m);
 }
 
-// The words of a FIFO: `count` messages of w words each, the first at word `from`.
-fn put_words(out: &mut Writer, t: &[u32], from: usize, w: usize, count: u32)
-    requires from_bound { from ≤ 65535 }
-    requires w_bound { w ≤ 2 }
-    ensures { Wrote out.old (words_text (held_from w t.now from count)) out.new }
+// The words of a FIFO, which holds `count` messages.
+fn put_words(out: &mut Writer, store: &Store, count: u32)
+    ensures { Wrote out.old (words_text (held_from store.now.w store.now.words.now store.now.from count)) out.new }
 {
     if count == 0 {
         out.bytes(b"empty");
         return;
     }
-    let mut p = from;
     for k in 0..count {
-        put_word(out, k, messages::message(t, p, w));
-        p += w;
+        put_word(out, k, store.message(k));
     }
 }
 
-// What a hub holds; its store starts at word `from`, in messages of w words each.
+// What a hub holds.
 #[tactic(auto, unfolding(crate::specs::Cells::holds_text))]
-pub fn put_holds(out: &mut Writer, t: &[u32], from: usize, w: usize, x: HubRecord)
-    requires from_bound { from ≤ 65535 }
-    requires w_bound { w ≤ 2 }
-    ensures { Wrote out.old (holds_text w t.now from x) out.new }
+pub fn put_holds(out: &mut Writer, store: &Store, x: HubRecord)
+    ensures { Wrote out.old (holds_text store.now.w store.now.words.now store.now.from x) out.new }
 {
     match x.kind {
-        rules::FIFO => put_words(out, t, from, w, x.count),
-        rules::BOARD => put_board(out, t, from, w, x.count),
-        rules::MEMORY => put_blocks(out, t, from, w),
+        rules::FIFO => put_words(out, store, x.count),
+        rules::BOARD => put_board(out, store, x.count),
+        rules::MEMORY => put_blocks(out, store),
         _ => put_count(out, x),
     }
 }
@@ -92,34 +106,29 @@ fn put_none(out: &mut Writer, k: u32)
     }
 }
 
-// The blocks of a Memory hub that are out, by its eight marks, messages of w words each, the first at word `from`.
-fn put_blocks(out: &mut Writer, t: &[u32], from: usize, w: usize)
-    requires from_bound { from ≤ 65535 }
-    requires w_bound { w ≤ 2 }
-    ensures { Wrote out.old (blocks_text w t.now from) out.new }
+// The blocks of a Memory hub that are out, by its eight marks.
+fn put_blocks(out: &mut Writer, store: &Store)
+    ensures { Wrote out.old (blocks_text store.now.w store.now.words.now store.now.from) out.new }
 {
-    let mut p = from;
     let mut k = 0;
     for b in 0..rules::MOST_HELD {
-        if messages::message(t, p, w) != 0 {
+        if store.message(b) != 0 {
             put_block(out, k, b);
             k += 1;
         }
-        p += w;
     }
     put_none(out, k);
 }
 
 // What a Board holds.
-fn put_board(out: &mut Writer, t: &[u32], from: usize, w: usize, count: u32)
-    requires { from ≤ 65535 }
-    ensures { Wrote out.old (board_text w t.now from count) out.new }
+fn put_board(out: &mut Writer, store: &Store, count: u32)
+    ensures { Wrote out.old (board_text store.now.w store.now.words.now store.now.from count) out.new }
 {
     if count == 0 {
         out.bytes(b"not written");
     } else {
         out.bytes(b"written: ");
-        texts::put_message(out, messages::message(t, from, w));
+        texts::put_message(out, store.message(0));
     }
 }
 

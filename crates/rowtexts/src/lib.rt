@@ -8,6 +8,7 @@ ghost use Rattle.rows.specs.Rows.{row_number};
 ghost use Rattle.rowtexts.specs.RowTexts.{cell, mark_text, title, used_text};
 ghost use Rattle.texts.specs.Texts.{Wrote};
 
+use hubtexts::Store;
 use records::{HubNo, TaskNo};
 use rows::{Row, View};
 use texts::Writer;
@@ -44,9 +45,13 @@ fn put_store(out: &mut Writer, table: &View, h: u32)
     ensures { Wrote out.old (used_text table.now.ts table.now.words.now table.now.runs (Row.Holds h)) out.new }
 {
     let ts = table.ts;
-    let from = records::store_at(ts, HubNo(h as usize));
+    let store = Store {
+        words: table.words,
+        from: records::store_at(ts, HubNo(h as usize)),
+        w: records::width_of(ts),
+    };
     let x = records::hub(table.words, records::hubs_at(ts), HubNo(h as usize));
-    hubtexts::put_holds(out, table.words, from, records::width_of(ts), x);
+    hubtexts::put_holds(out, &store, x);
 }
 
 // A task's priority, and by the table's keys its effective one.
