@@ -65,7 +65,7 @@ fn rows_into(buffer: &mut [u8], tables: &Pair) -> usize
 {
     let mut out = Writer::new(buffer);
     put_rows(&mut out, tables);
-    out.end
+    out.end()
 }
 
 // The tables' own refusals: 1 and 2 of the first, then of the second, then 13.
@@ -77,7 +77,8 @@ pub fn pair_refusal(a: &[u32], b: &[u32]) -> Result<(), Refusal>
     rules::need(a.len() == b.len(), Refusal::OtherEdition)
 }
 
-// The rows of two tables. They are written into a buffer of our own first, which has room for all, so that a text without room leaves the caller's alone.
+// The rows of two tables. They are written into a buffer of our own first, which has room for all, so that a text without room leaves
+// the caller's alone.
 fn show_in(tables: &Pair, text: &mut [u8]) -> Result<Shown, Refusal>
     requires { length (rows_of tables.now rows) ≤ 65535 }
     ensures { ShownAs 0 (rows_of tables.now rows) (how_many_marked tables.now rows) text.old result text.new }
