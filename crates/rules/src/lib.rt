@@ -13,6 +13,9 @@ mod kinds;
 
 pub use kinds::{Kind, bears_word};
 
+// What is read from a call or a table stays a number, here and below: at the C interface each is any 32-bit value, and a word is
+// kept as it came.
+
 // The services.
 pub const BLANK: u32 = 0;
 
@@ -163,7 +166,8 @@ pub enum Outcome {
     Fail,
 }
 
-// An accepted call carries its outcome; a refused one bears its refusal. "Next is the running task plus 1, or 0." Ahead: how many requests stand before the caller's, where it has to wait at a hub; else 0.
+// An accepted call carries its outcome; a refused one bears its refusal. "Next is the running task plus 1, or 0." Ahead: how many
+// requests stand before the caller's, where it has to wait at a hub; else 0.
 #[derive(Clone, Copy)]
 pub struct Reply {
     pub answer: Result<Outcome, Refusal>,
