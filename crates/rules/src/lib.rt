@@ -10,8 +10,12 @@ ghost use Rattle.std.specs.Prelude.{◌≡◌};
 use std::fmt;
 
 mod kinds;
+mod modes;
+mod services;
 
 pub use kinds::{Kind, bears_word};
+pub use modes::Mode;
+pub use services::Service;
 
 // What is read from a call or a table stays a number, here and below: at the C interface each is any 32-bit value, and a word is
 // kept as it came.
