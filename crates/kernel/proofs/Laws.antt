@@ -1,4 +1,4 @@
--- What an accepted call rests on, and how its parts make the whole. In order: services by their numbers; keys; the refusal of
+-- What an accepted call rests on, and how its parts make the whole. In order: services; keys; the refusal of
 -- a table, test by test; what an accepted call knows of the table and of its numbers; the reply.
 -- Not here: what each service does (the crates below). Assumes nothing.
 use Prim.Native.Nat.{◌<◌, ◌≤◌, suc, zero, ℕ}
@@ -7,10 +7,10 @@ use Rattle.lists.proofs.Laws.{bool_case}
 use Rattle.messages.specs.Messages.{messages}
 use Rattle.moves.specs.Moves.{key_of}
 use Rattle.records.specs.Records.{Table, width}
-use Rattle.rules.proofs.Accepted.{caller-ready, on_task_lem, request_tests}
+use Rattle.rules.proofs.Accepted.{caller-ready, on_task_lem}
 use Rattle.rules.proofs.After.{accepted, accepted-formed, accepted-long, valid_in, words_in}
 use Rattle.rules.proofs.Ahead.{ahead_other, ahead-reordered, ahead_request}
-use Rattle.rules.proofs.Calm.{calm_number, calm_still}
+use Rattle.rules.proofs.Calm.{Calm, calm_still}
 use Rattle.rules.proofs.Cases.{same_or}
 use Rattle.rules.proofs.Changes.{in_use}
 use Rattle.rules.proofs.Coded.{code-some, with-code}
@@ -19,52 +19,67 @@ use Rattle.rules.proofs.Kept.{unsorted_serve, unsorted_sound, valid_unsorted}
 use Rattle.rules.proofs.Layouts.{Laid, store_place}
 use Rattle.rules.proofs.Lengths.{length-serve, tasks_after}
 use Rattle.rules.proofs.Lockless.{lockless_still}
-use Rattle.rules.proofs.Numbers.{bears_answer_lem, resource-number, silent_first, silent_past}
+use Rattle.rules.proofs.Numbers.{resource-number}
 use Rattle.rules.proofs.Valid.{Sound, Valid}
 use Rattle.rules.specs.Calls.{AddHub, AddTask, Blank, HubRequest, Resume, Service, Sleep, Start, Stop, Suspend, Tick, Unknown, Yield, key_added, serve, served, service_of}
 use Rattle.rules.specs.Effective.{effective}
 use Rattle.rules.specs.HubTable.{message}
 use Rattle.rules.specs.Lists.{next}
-use Rattle.rules.specs.Refusals.{behind, good_message, need, refusal, refusal_at, refusal_for, refusal_in}
+use Rattle.rules.specs.Refusals.{behind, good_message, need, on_task, refusal, refusal_at, refusal_for, refusal_in}
 use Rattle.rules.specs.Reorder.{reordered}
-use Rattle.rules.specs.Reply.{ahead, ahead_for, code, outcome, outcome_of, refusal_with, reply_by, reply_in, table_by, table_in}
+use Rattle.rules.specs.Reply.{ahead, ahead_for, bears_answer, code, outcome, outcome_of, refusal_with, reply_by, reply_in, table_by, table_in}
+use Rattle.rules.specs.Services.{service_named}
 use Rattle.rules.specs.Table.{Layout, State, hub, is_resource, read, size, task, words}
 use Rattle.rules.specs.WellFormed.{well_formed_in}
 use Rattle.rules.specs.declared.Call.{Call}
 use Rattle.rules.specs.declared.Outcome.TheVariants.{NothingYet}
 use Rattle.rules.specs.declared.Outcome.{Outcome}
+use Rattle.rules.specs.declared.Refusal.TheVariants.{UnknownService}
 use Rattle.rules.specs.declared.Refusal.{Refusal}
 use Rattle.rules.specs.declared.Served.{Served}
-use Rattle.std.specs.Prelude.{Err, Ok}
+use Rattle.rules.specs.declared.services.Service.{Service as ServiceByName}
+use Rattle.std.specs.Option.{ok_or}
+use Rattle.std.specs.Prelude.{Err, None, Ok, Option, Some}
 use borrow.Author.Tests.{eq-eqb, eqb-true, leb-false, leb-true, ne_eqb}
-use lib.Dec.{eqb, leb}
-use lib.ListN.{get_or-eq_default, get_or, length, set}
+use lib.Dec.{leb}
+use lib.ListN.{get_or, length, set}
 use lib.Seq.{get_or-set_other, get_or-set_same}
-use mathlib.Core.Bool.{◌&&◌, ◌||◌, false, true}
-use mathlib.Core.List.{List, [], ◌∷◌}
+use mathlib.Core.Bool.{false, false≢true, true}
+use mathlib.Core.List.{List}
+use mathlib.Core.Logic.{◌≢◌}
 use mathlib.Core.Path.{◌∙◌, ◌≡◌, ap, refl, subst, sym}
 use mir.Syntax.{w32}
 use mir.Val.{Fits}
 use native.Mathlib.Omega.{arith}
 
--- ---- services by their numbers
+-- ---- services
 
-pub service_is : (c : Call) (n : ℕ) → c.service ≡ n → service_of c.service ≡ service_of n
-service_is c n e = ap service_of e
+-- the service that the code has by name is the one that the call names
+pub named_is : (c : Call) (j k : ServiceByName) → service_named (Some j) ≡ service_of c.service → j ≡ k → service_of c.service ≡ service_named (Some k)
+named_is c j k e i = sym e ∙ ap (λ (u : ServiceByName). service_named (Some u)) i
 
-module _ (s : State) (c : Call) (v : Service) (e : service_of c.service ≡ v) where
-  pub by_service : refusal s c ≡ 0 → refusal_for v s c ≡ 0
-  unfolding refusal
-  by_service a = subst (λ (u : Service). refusal_for u s c ≡ 0) e a
+-- but for Blank a service's number is not 0
+pub not_blank : (c : Call) (v : Service) → service_of c.service ≡ v → (v ≡ Blank → ⊥) → c.service ≡ 0 → ⊥
+unfolding service_of
+not_blank c v e n z = n (sym e ∙ ap service_of z)
 
-  pub to_service : (L : Layout) (key : ℕ → ℕ) → words L (serve key v s c) ≡ words L (serve key (service_of c.service) s c)
-  to_service L key = ap (λ (u : Service). words L (serve key u s c)) (sym e)
+pub by_service : (s : State) (c : Call) (v : Service) → service_of c.service ≡ v → refusal s c ≡ 0 → refusal_for v s c ≡ 0
+unfolding refusal
+by_service s c v e a = subst (λ (u : Service). refusal_for u s c ≡ 0) e a
 
 -- ---- keys
 
 -- two keys that agree at every task are one
 pub key_is : (ks : List ℕ) (key : ℕ → ℕ) → ((j : ℕ) → get_or ks j 0 ≡ key j) → key_of ks ≡ key
 key_is ks key e = λ i j. e j i
+
+-- a service by keys that are the effective priorities; Blank asks for none
+pub by_keys : (ks : List ℕ) (s : State) (c : Call) → (c.service ≢ 0 → (j : ℕ) → get_or ks j 0 ≡ effective s j)
+    → serve (key_of ks) (service_of c.service) s c ≡ serve (effective s) (service_of c.service) s c
+unfolding serve service_of
+by_keys ks s c h =
+    same_or c.service 0 (λ z. rw z refl)
+    (λ n. ap (λ (f : ℕ → ℕ). serve f (service_of c.service) s c) (key_is ks (effective s) (h n)))
 
 -- the keys with the added task's: its own priority (M-108)
 pub key-added : (ks : List ℕ) (n p : ℕ) (s : State) → n ≡ length s.tasks → n < length ks → key_of (set ks n p) ≡ key_added (key_of ks) p s
@@ -93,9 +108,18 @@ module _ (L : Layout) (t : List ℕ) (c : Call) where
       unfolding need refusal_in
       refused_2 e = rw (eq-eqb (length t) (size L) long, ne_eqb c.service 0 n, e) refl
 
+      pub refused_3 : well_formed_in L t ≡ true → service_of c.service ≡ Unknown → 3 ≡ refusal_in L t c
+      unfolding behind need refusal refusal_at refusal_for refusal_in
+      refused_3 w e = rw (eq-eqb (length t) (size L) long, ne_eqb c.service 0 n, w, e) refl
+
       pub refused_by_service : well_formed_in L t ≡ true → refusal_at L (read L t) c ≡ refusal_in L t c
       unfolding need refusal_in
       refused_by_service e = rw (eq-eqb (length t) (size L) long, ne_eqb c.service 0 n, e) refl
+
+-- a number that names no service is refused with 3
+pub unnamed : (o : Option ServiceByName) (e : Refusal) → Err e ≡ ok_or o UnknownService → (service_named o ≡ Unknown) × (code e ≡ 3)
+unnamed None e h = let same : e ≡ UnknownService = cc in (refl, ap code same)
+unnamed (Some j) e h = cc
 
 -- a refused call has no keys to tell
 pub judged_no : (L : Layout) (t : List ℕ) (c : Call) {ks : List ℕ} (r : ℕ) → r ≡ refusal_in L t c → (r ≡ 0 → ⊥) → Judged L t c r ks
@@ -123,39 +147,24 @@ module _ {ts : ℕ} {L : Layout} (y : Laid ts L) (low : 8 ≤ ts) (high : ts ≤
         table = words_in L t formed y (λ k. omega (arith, words k));
       }
 
-module _ (s : State) (g : Valid s) (c : Call) (a : refusal s c ≡ 0) where
-  pub caller_runs : 1 ≤ c.service → c.service ≤ 7 → (task s c.caller).state ≡ 2
+-- of the service, by name
+pub known_as : {ts : ℕ} {L : Layout} → Laid ts L → 8 ≤ ts → ts ≤ 9 → (t : List ℕ) (c : Call) → refusal_in L t c ≡ 0 → ((k : ℕ) → Fits w32 (get_or t k 0))
+    → (v : Service) → service_of c.service ≡ v → (v ≡ Blank → ⊥) → Known ts L t c
+known_as y low high t c a words v e n = known y low high t c a words (not_blank c v e n)
+
+module _ {ts : ℕ} {L : Layout} {t : List ℕ} {c : Call} (q : Known ts L t c) where
+  pub asks : (v : Service) → service_of c.service ≡ v → refusal_for v (read L t) c ≡ 0
+  asks v e = by_service (read L t) c v e q.accepted
+
+  -- services 1 to 7
+  pub runs : bears_answer (service_of c.service) ≡ true → c.caller < length (read L t).tasks
   unfolding refusal
-  caller_runs p q = caller-ready s g.listed c (service_of c.service) a (bears_answer_lem c.service p q)
+  runs b = in_use (read L t) c.caller 0 (caller-ready (read L t) q.valid.listed c (service_of c.service) q.accepted b)
 
-  pub caller_in : 1 ≤ c.service → c.service ≤ 7 → c.caller < length s.tasks
-  caller_in p q = in_use s c.caller 0 (caller_runs p q)
-
-  pub task_named : (v : Service) → service_of c.service ≡ v → refusal_for v s c ≡ 0
-  task_named v e = by_service s c v e a
-
-  pub target-low : 1 ≤ c.service → c.service ≤ 5 → c.target < 16
-  target-low p q = go c.service refl p q
-    where
-      go : (n : ℕ) → c.service ≡ n → 1 ≤ n → n ≤ 5 → c.target < 16
-      go zero e p q = absurd (omega arith)
-      go (suc zero) e p q = unfold service_of in omega (arith, (request_tests s g.listed c (task_named HubRequest (service_is c 1 e))).named, g.hubs)
-      go (suc (suc zero)) e p q = unfold service_of refusal_for in omega (arith, (on_task_lem s g.listed c (task_named Start (service_is c 2 e))).1, g.tasks)
-      go (suc (suc (suc zero))) e p q = unfold service_of refusal_for in omega (arith, (on_task_lem s g.listed c (task_named Stop (service_is c 3 e))).1, g.tasks)
-      go (suc (suc (suc (suc zero)))) e p q = unfold service_of refusal_for in omega (arith, (on_task_lem s g.listed c (task_named Suspend (service_is c 4 e))).1, g.tasks)
-      go (suc (suc (suc (suc (suc zero))))) e p q = unfold service_of refusal_for in omega (arith, (on_task_lem s g.listed c (task_named Resume (service_is c 5 e))).1, g.tasks)
-      go (suc (suc (suc (suc (suc (suc n)))))) e p q = absurd (omega arith)
-
-  -- no service above 10 is accepted
-  pub service-low : c.service ≤ 10
-  unfolding refusal refusal_for service_of
-  service-low =
-      bool_case (leb c.service 10) (leb-true _ _)
-      (λ b. absurd (let far = past c.service (leb-false _ _ b) in
-      let z : refusal_for Unknown s c ≡ 0 = subst (λ (u : Service). refusal_for u s c ≡ 0) far a in omega (arith, z)))
-    where
-      past : (n : ℕ) → 10 < n → service_of n ≡ Unknown
-      past n h = let far : 11 ≤ n = omega arith in get_or-eq_default (Blank ∷ HubRequest ∷ Start ∷ Stop ∷ Suspend ∷ Resume ∷ Yield ∷ Sleep ∷ Tick ∷ AddTask ∷ AddHub ∷ []) Unknown far
+  -- services 2 to 5
+  pub on_a_task : refusal_for (service_of c.service) (read L t) c ≡ on_task (read L t) c → c.target < length (read L t).tasks
+  unfolding refusal
+  on_a_task e = (on_task_lem (read L t) q.valid.listed c (sym e ∙ q.accepted)).1
 
 -- the message of a hub request that is accepted is one of the edition's
 pub message-fits : (ts : ℕ) (L : Layout) → Laid ts L → 8 ≤ ts → ts ≤ 9 → (c : Call) → good_message L c ≡ true → c.service ≡ 1
@@ -168,48 +177,51 @@ message-fits ts L y low high c m one w h =
     rw (none, eight) (omega (arith, w)))
 
 -- services 1 to 7 keep the tasks in use
-pub keeps_tasks : (key : ℕ → ℕ) (s : State) (c : Call) → 1 ≤ c.service → c.service ≤ 7 → length (serve key (service_of c.service) s c).tasks ≡ length s.tasks
-unfolding service_of tasks_after
-keeps_tasks key s c p q = length-serve key (service_of c.service) s c ∙ at c.service p q
-  where
-    at : (n : ℕ) → 1 ≤ n → n ≤ 7 → tasks_after (service_of n) (length s.tasks) ≡ length s.tasks
-    at zero p q = absurd (omega arith)
-    at (suc zero) p q = refl
-    at (suc (suc zero)) p q = refl
-    at (suc (suc (suc zero))) p q = refl
-    at (suc (suc (suc (suc zero)))) p q = refl
-    at (suc (suc (suc (suc (suc zero))))) p q = refl
-    at (suc (suc (suc (suc (suc (suc zero)))))) p q = refl
-    at (suc (suc (suc (suc (suc (suc (suc zero))))))) p q = refl
-    at (suc (suc (suc (suc (suc (suc (suc (suc n)))))))) p q = absurd (omega arith)
+keeps_tasks : (v : Service) (n : ℕ) → bears_answer v ≡ true → tasks_after v n ≡ n
+unfolding bears_answer tasks_after
+keeps_tasks Blank n b = absurd (false≢true b)
+keeps_tasks HubRequest n b = refl
+keeps_tasks Start n b = refl
+keeps_tasks Stop n b = refl
+keeps_tasks Suspend n b = refl
+keeps_tasks Resume n b = refl
+keeps_tasks Yield n b = refl
+keeps_tasks Sleep n b = refl
+keeps_tasks Tick n b = refl
+keeps_tasks AddTask n b = absurd (false≢true b)
+keeps_tasks AddHub n b = refl
+keeps_tasks Unknown n b = refl
 
-pub caller-after : (L : Layout) (t : List ℕ) (c : Call) → refusal_in L t c ≡ 0 → 1 ≤ c.service → c.service ≤ 7 → c.caller < length (served (read L t) c).tasks
-unfolding served
-caller-after L t c a p q =
+pub caller-after : (L : Layout) (t : List ℕ) (c : Call) → refusal_in L t c ≡ 0 → bears_answer (service_of c.service) ≡ true → c.caller < length (served (read L t) c).tasks
+unfolding bears_answer refusal served service_of
+caller-after L t c a b =
     let s = read L t in
-    let formed = accepted-formed L t c a (ne_eqb c.service 0 (λ z. omega arith)) in
-    rw ((kept-reordered s (serve (effective s) (service_of c.service) s c)).tasks, keeps_tasks (effective s) s c p q) (caller_in s (valid_in L t formed) c (accepted L t c a).1 p q)
+    let v = service_of c.service in
+    let named : c.service ≡ 0 → ⊥ = λ z. false≢true (rw z at b) in
+    let g = valid_in L t (accepted-formed L t c a (ne_eqb c.service 0 named)) in
+    let used = in_use s c.caller 0 (caller-ready s g.listed c v (accepted L t c a).1 b) in
+    rw ((kept-reordered s (serve (effective s) v s c)).tasks, length-serve (effective s) v s c, keeps_tasks v (length s.tasks) b) used
 
 -- ---- a service that is done, before the reordering (M-108)
 
 -- none but Blank has fewer tasks afterwards
-pub tasks_stay : (key : ℕ → ℕ) (s : State) (c : Call) → 1 ≤ c.service → length s.tasks ≤ length (serve key (service_of c.service) s c).tasks
-unfolding service_of tasks_after
-tasks_stay key s c p = rw (length-serve key (service_of c.service) s c) (at c.service p)
-  where
-    at : (n : ℕ) → 1 ≤ n → length s.tasks ≤ tasks_after (service_of n) (length s.tasks)
-    at zero p = absurd (omega arith)
-    at (suc zero) p = omega arith
-    at (suc (suc zero)) p = omega arith
-    at (suc (suc (suc zero))) p = omega arith
-    at (suc (suc (suc (suc zero)))) p = omega arith
-    at (suc (suc (suc (suc (suc zero))))) p = omega arith
-    at (suc (suc (suc (suc (suc (suc zero)))))) p = omega arith
-    at (suc (suc (suc (suc (suc (suc (suc zero))))))) p = omega arith
-    at (suc (suc (suc (suc (suc (suc (suc (suc zero)))))))) p = omega arith
-    at (suc (suc (suc (suc (suc (suc (suc (suc (suc zero))))))))) p = omega arith
-    at (suc (suc (suc (suc (suc (suc (suc (suc (suc (suc zero)))))))))) p = omega arith
-    at (suc (suc (suc (suc (suc (suc (suc (suc (suc (suc (suc n))))))))))) p = omega arith
+more_tasks : (v : Service) (n : ℕ) → (v ≡ Blank → ⊥) → n ≤ tasks_after v n
+unfolding tasks_after
+more_tasks Blank n d = absurd (d refl)
+more_tasks HubRequest n d = omega arith
+more_tasks Start n d = omega arith
+more_tasks Stop n d = omega arith
+more_tasks Suspend n d = omega arith
+more_tasks Resume n d = omega arith
+more_tasks Yield n d = omega arith
+more_tasks Sleep n d = omega arith
+more_tasks Tick n d = omega arith
+more_tasks AddTask n d = omega arith
+more_tasks AddHub n d = omega arith
+more_tasks Unknown n d = omega arith
+
+pub tasks_stay : (key : ℕ → ℕ) (s : State) (c : Call) → (service_of c.service ≡ Blank → ⊥) → length s.tasks ≤ length (serve key (service_of c.service) s c).tasks
+tasks_stay key s c d = rw (length-serve key (service_of c.service) s c) (more_tasks (service_of c.service) (length s.tasks) d)
 
 module _ (s : State) (g : Valid s) (c : Call) (a : refusal s c ≡ 0) where
   abbrev done : State
@@ -220,15 +232,14 @@ module _ (s : State) (g : Valid s) (c : Call) (a : refusal s c ≡ 0) where
   sound_after = unsorted_sound done (unsorted_serve (effective s) (service_of c.service) s c (valid_unsorted s g) a)
 
   -- after these five nobody is put in another order
-  pub calm_served : (eqb c.service 2 || (leb 4 c.service && leb c.service 7)) ≡ true → served s c ≡ done
+  pub calm_served : Calm (service_of c.service) → served s c ≡ done
   unfolding refusal served
-  calm_served e = calm_still (effective s) (service_of c.service) (calm_number c.service e) s g c a
+  calm_served e = calm_still (effective s) (service_of c.service) e s g c a
 
   -- nor is anybody after a hub request at any hub but a Resource, by the number of its kind
-  pub lockless_served : c.service ≡ 1 → ((hub s c.target).kind ≡ 5 → ⊥) → served s c ≡ done
-  unfolding is_resource refusal served service_of
-  lockless_served one n =
-      let v = service_is c 1 one in
+  pub lockless_served : service_of c.service ≡ HubRequest → ((hub s c.target).kind ≡ 5 → ⊥) → served s c ≡ done
+  unfolding is_resource refusal served
+  lockless_served v n =
       let kind = (hub s c.target).kind in
       ap (λ (u : Service). reordered s (serve (effective s) u s c)) v
       ∙ lockless_still s g c (by_service s c HubRequest v a) (λ r. n (eqb-true kind 5 (sym (resource-number kind) ∙ ap is_resource r)))
@@ -239,7 +250,7 @@ module _ (s : State) (g : Valid s) (c : Call) (a : refusal s c ≡ 0) where
   unfolding refusal served service_of
   ahead_stays =
       same_or c.service 1
-      (λ e. let v = service_is c 1 e in
+      (λ e. let v : service_of c.service ≡ HubRequest = ap service_of e in
       ahead_request (reordered s done) c e
       ∙ ap (λ (u : Service). ahead_for HubRequest (reordered s (serve (effective s) u s c)) c) v
       ∙ ahead-reordered s g c (by_service s c HubRequest v a)
@@ -250,17 +261,13 @@ module _ (s : State) (g : Valid s) (c : Call) (a : refusal s c ≡ 0) where
 -- ---- the reply
 
 module _ (s : State) (c : Call) where
-  pub outcome-none : c.service < 1 → NothingYet ≡ outcome s c
+  pub outcome-none : bears_answer (service_of c.service) ≡ false → NothingYet ≡ outcome s c
   unfolding outcome
-  outcome-none h = rw (silent_first c.service h) refl
+  outcome-none b = rw b refl
 
-  pub outcome_past : 7 < c.service → NothingYet ≡ outcome s c
+  pub outcome-word : bears_answer (service_of c.service) ≡ true → outcome_of (task s c.caller).answer ≡ outcome s c
   unfolding outcome
-  outcome_past h = rw (silent_past c.service h) refl
-
-  pub outcome-word : 1 ≤ c.service → c.service ≤ 7 → outcome_of (task s c.caller).answer ≡ outcome s c
-  unfolding outcome
-  outcome-word p q = rw (bears_answer_lem c.service p q) refl
+  outcome-word b = rw b refl
 
 -- any word but 1 and 2 shows nothing yet
 pub outcome_other : (a : ℕ) → (a ≡ 1 → ⊥) → (a ≡ 2 → ⊥) → NothingYet ≡ outcome_of a

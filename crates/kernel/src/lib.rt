@@ -3,72 +3,42 @@
 // every state that a table of any layout holds.
 #![tactic(auto)]
 
-ghost use Rattle.std.specs.Prelude.{◌<◌, ◌≤◌, get_or, length, true, ◌≡◌};
+ghost use Rattle.std.specs.Prelude.{◌<◌, ◌≤◌, IfOk, Some, false, get_or, length, true, ◌≡◌, ◌≢◌};
 ghost use Rattle.kernel.specs.Promise.{Accepts, Called, CalledIn, Judged, ServedIn};
 ghost use Rattle.moves.specs.Moves.{key_of};
 ghost use Rattle.records.specs.Records.{Table};
 ghost use Rattle.rules.proofs.Layouts.{Laid};
-ghost use Rattle.rules.proofs.Valid.{Valid};
 ghost use Rattle.rules.specs.Calls.{AddTask, add_started, serve, served, service_of};
 ghost use Rattle.rules.specs.Effective.{effective};
-ghost use Rattle.rules.specs.Refusals.{refusal, refusal_in};
-ghost use Rattle.rules.specs.Reply.{outcome, refusal_number, summary_of};
+ghost use Rattle.rules.specs.Refusals.{refusal_in};
+ghost use Rattle.rules.specs.Reply.{bears_answer, outcome, refusal_number, summary_of};
+ghost use Rattle.rules.specs.Services.{service_named};
 ghost use Rattle.rules.specs.Table.{Layout, State, read, words};
 
 use records::TaskNo;
-use rules::{Call, Outcome, Refusal, Reply, Served, Summary};
+use rules::{Call, Kind, Outcome, Refusal, Reply, Served, Service, Summary};
 
-// "Refusal numbers, tested in this order": 1 and 2 here, then the service's own. Of a table that is well formed `keys` then holds each
-// task's effective priority, which the test of order has asked for: the call joins lists by them.
-fn refusal_of(t: &[u32], ts: usize, c: Call, keys: &mut [u32; 16]) -> Result<(), Refusal>
+// "Refusal numbers, tested in this order": 1 to 3 here, then the service's own. Of a table that is well formed `keys` then holds each
+// task's effective priority, which the test of order has asked for: the call joins lists by them. An accepted call's service comes back.
+fn refusal_of(t: &[u32], ts: usize, c: Call, keys: &mut [u32; 16]) -> Result<Service, Refusal>
     requires le_ts { 8 ≤ ts }
     requires ts_bound { ts ≤ 9 }
     requires keys_len { length keys.old ≡ 16 }
-    ensures { (L : Layout) → Laid ts L → Judged L t.now c (refusal_number result) keys.new }
+    ensures judged { (L : Layout) → Laid ts L → Judged L t.now c (refusal_number result) keys.new }
+    ensures named { IfOk result (λ v. service_named (Some v) ≡ service_of c.service) }
 {
     rules::need(t.len() == records::table_size(ts), Refusal::WrongLength)?;
-    if c.service == rules::BLANK {
-        return Ok(());
+    let service = Service::of(c.service);
+    if service == Some(Service::Blank) {
+        return Ok(Service::Blank);
     }
     rules::need(
         wellformed::well_formed_keys(t, ts, keys),
         Refusal::NotWellFormed,
     )?;
-    refusals::for_service(t, ts, c)
-}
-
-// Services 2 to 5 name a task.
-fn serve_target(t: &mut [u32], ts: usize, keys: &[u32], c: Call)
-    requires table { Table ts t.old }
-    requires caller_bound { c.caller < 16 }
-    requires target_bound { c.target < 16 }
-    requires t_bound { get_or t.old 2 0 ≤ 16 }
-    ensures { (L : Layout) (s : State) → Laid ts L → Valid s → refusal s c ≡ 0 → 2 ≤ c.service → c.service ≤ 5
-        → t.old ≡ words L s
-        → t.new ≡ words L (serve (key_of keys.now) (service_of c.service) s c) }
-{
-    let service = c.service;
-    match service {
-        rules::START => tasks::start_task(t, ts, keys, c),
-        rules::STOP => tasks::stop_task(t, ts, keys, c),
-        rules::SUSPEND => tasks::suspend_task(t, ts, c),
-        _ => tasks::resume_task(t, ts, c),
-    }
-}
-
-// Services 6 and 7 are the caller's alone.
-fn serve_caller(t: &mut [u32], ts: usize, keys: &[u32], c: Call)
-    requires table { Table ts t.old }
-    requires caller_bound { c.caller < 16 }
-    ensures { (L : Layout) (s : State) → Laid ts L → Valid s → refusal s c ≡ 0 → 6 ≤ c.service → c.service ≤ 7
-        → t.old ≡ words L s
-        → t.new ≡ words L (serve (key_of keys.now) (service_of c.service) s c) }
-{
-    if c.service == rules::YIELD {
-        tasks::yield_turn(t, ts, keys, c);
-    } else {
-        tasks::sleep_task(t, ts, c);
-    }
+    let service = service.ok_or(Refusal::UnknownService)?;
+    refusals::for_service(t, ts, c)?;
+    Ok(service)
 }
 
 // "side 1 starts it at once": a task is added, and joins by its own priority.
@@ -102,107 +72,105 @@ fn serve_add_task(t: &mut [u32], ts: usize, keys: &[u32; 16], c: Call)
     }
 }
 
-// One accepted call's service, but for Blank and a hub request, by the keys that it is given.
-fn serve_other(t: &mut [u32], ts: usize, keys: &[u32; 16], c: Call)
+// One accepted call's service, by the keys that it is given, and what it hands up: only a hub request has any ahead.
+fn serve(t: &mut [u32], ts: usize, keys: &[u32; 16], service: Service, c: Call) -> Served
     requires le_ts { 8 ≤ ts }
     requires ts_bound { ts ≤ 9 }
     requires accepts { Accepts ts t.old c }
-    requires le_service { 2 ≤ c.service }
-    requires keys_len { length keys.now ≡ 16 }
-    ensures { (L : Layout) → Laid ts L → refusal_in L t.old c ≡ 0
-        → t.new ≡ words L (serve (key_of keys.now) (service_of c.service) (read L t.old) c) }
-{
-    let service = c.service;
-    if service <= rules::RESUME {
-        serve_target(t, ts, keys, c);
-        return;
-    }
-    if service <= rules::SLEEP {
-        serve_caller(t, ts, keys, c);
-        return;
-    }
-    if service == rules::TICK {
-        clock::tick(t, ts, keys);
-        return;
-    }
-    if service == rules::ADD_TASK {
-        serve_add_task(t, ts, keys, c);
-        return;
-    }
-    setup::add_hub(t, ts, c.target, c.ticks, c.word);
-}
-
-// One accepted call's service, but for Blank, and what it hands up: only a hub request has any ahead.
-fn serve_one(t: &mut [u32], ts: usize, keys: &[u32; 16], c: Call) -> Served
-    requires le_ts { 8 ≤ ts }
-    requires ts_bound { ts ≤ 9 }
-    requires accepts { Accepts ts t.old c }
-    requires le_service { 1 ≤ c.service }
+    requires named { service_named (Some service) ≡ service_of c.service }
     requires keys_len { length keys.now ≡ 16 }
     ensures { (L : Layout) → Laid ts L → refusal_in L t.old c ≡ 0
         → ServedIn L (serve (key_of keys.now) (service_of c.service) (read L t.old) c) c result t.new }
 {
-    if c.service == rules::HUB_REQUEST {
-        return requests::request(t, ts, keys, c);
+    match service {
+        Service::Blank => setup::blank(t, ts),
+        Service::HubRequest => return requests::request(t, ts, keys, c),
+        Service::Start => tasks::start_task(t, ts, keys, c),
+        Service::Stop => tasks::stop_task(t, ts, keys, c),
+        Service::Suspend => tasks::suspend_task(t, ts, c),
+        Service::Resume => tasks::resume_task(t, ts, c),
+        Service::Yield => tasks::yield_turn(t, ts, keys, c),
+        Service::Sleep => tasks::sleep_task(t, ts, c),
+        Service::Tick => clock::tick(t, ts, keys),
+        Service::AddTask => serve_add_task(t, ts, keys, c),
+        Service::AddHub => setup::add_hub(t, ts, c.target, c.ticks, c.word),
     }
-    serve_other(t, ts, keys, c);
     Served { ahead: 0 }
 }
 
 // Whether a call leaves who waits for whose lock as it was, so that no effective priority changes: Start, Suspend, Resume, Yield
-// and Sleep do, and a hub request at any hub but a Resource.
-fn is_calm(t: &[u32], ts: usize, c: Call) -> bool
+// and Sleep do, and a hub request at any hub but a Resource. After Blank there is no task.
+fn is_calm(t: &[u32], ts: usize, service: Service, c: Call) -> bool
     requires le_ts { 8 ≤ ts }
     requires ts_bound { ts ≤ 9 }
     requires accepts { Accepts ts t.now c }
-    requires le_service { 1 ≤ c.service }
-    ensures { (L : Layout) → Laid ts L → refusal_in L t.now c ≡ 0 → result ≡ true
+    requires named { service_named (Some service) ≡ service_of c.service }
+    ensures calm { (L : Layout) → Laid ts L → refusal_in L t.now c ≡ 0 → result ≡ true
         → served (read L t.now) c
         ≡ serve (effective (read L t.now)) (service_of c.service) (read L t.now) c }
+    ensures not_blank { result ≡ false → c.service ≢ 0 }
 {
-    let service = c.service;
-    if service == rules::HUB_REQUEST {
-        return t[records::hubs_at(ts) + (c.target as usize) * records::HUB_SIZE] != rules::RESOURCE;
+    match service {
+        Service::Blank
+        | Service::Start
+        | Service::Suspend
+        | Service::Resume
+        | Service::Yield
+        | Service::Sleep => true,
+        Service::HubRequest => {
+            let kind = t[records::hubs_at(ts) + (c.target as usize) * records::HUB_SIZE];
+            Kind::of(kind) != Some(Kind::Resource)
+        }
+        Service::Stop | Service::Tick | Service::AddTask | Service::AddHub => false,
     }
-    (service == rules::START) | ((rules::SUSPEND <= service) & (service <= rules::SLEEP))
 }
 
-// One accepted call. Blank looks at nothing. Any other is served by the effective priorities before it, and at its end all tasks
-// whose effective priority changed are put in order (M-108); the number ahead is the same before that and after. After a calm
-// call nobody is asked.
-fn serve_call(t: &mut [u32], ts: usize, keys: &[u32; 16], c: Call) -> Served
+// One accepted call: its service by the effective priorities before it, and at its end all tasks whose effective priority changed
+// are put in order (M-108); the number ahead is the same before that and after. After a calm call nobody is asked.
+fn serve_call(t: &mut [u32], ts: usize, keys: &[u32; 16], service: Service, c: Call) -> Served
     requires le_ts { 8 ≤ ts }
     requires ts_bound { ts ≤ 9 }
     requires accepts { Accepts ts t.old c }
+    requires named { service_named (Some service) ≡ service_of c.service }
     requires keys_len { length keys.now ≡ 16 }
     ensures { (L : Layout) → Laid ts L → Judged L t.old c 0 keys.now
         → ServedIn L (served (read L t.old) c) c result t.new }
 {
-    if c.service == rules::BLANK {
-        setup::blank(t, ts);
-        return Served { ahead: 0 };
-    }
     let n = t[records::TASKS] as usize;
-    let calm = is_calm(&*t, ts, c);
-    let served = serve_one(t, ts, keys, c);
-    if calm {
-        return served;
+    let calm = is_calm(&*t, ts, service, c);
+    let served = serve(t, ts, keys, service, c);
+    if !calm {
+        reorder::reorder(t, ts, keys, n);
     }
-    reorder::reorder(t, ts, keys, n);
     served
 }
 
 // "For services 1 to 7 the answer is the caller's answer word after the call; for 0, 8, 9 and 10 it is 0."
-fn outcome_of(t: &[u32], ts: usize, c: Call) -> Outcome
-    requires { Table ts t.now }
+#[tactic(auto, unfolding(rules::specs::Reply::bears_answer))]
+fn bears_answer(service: Service) -> bool
+    ensures { result ≡ bears_answer (service_named (Some service)) }
+{
+    match service {
+        Service::HubRequest
+        | Service::Start
+        | Service::Stop
+        | Service::Suspend
+        | Service::Resume
+        | Service::Yield
+        | Service::Sleep => true,
+        Service::Blank | Service::Tick | Service::AddTask | Service::AddHub => false,
+    }
+}
+
+// "nothing yet (answer 0), OK 1, FAIL 2"
+fn outcome_of(t: &[u32], ts: usize, service: Service, c: Call) -> Outcome
+    requires table { Table ts t.now }
+    requires named { service_named (Some service) ≡ service_of c.service }
     ensures { (L : Layout) (s : State) → Laid ts L → length s.tasks ≤ 16
-        → (1 ≤ c.service → c.service ≤ 7 → c.caller < length s.tasks)
+        → (bears_answer (service_of c.service) ≡ true → c.caller < length s.tasks)
         → t.now ≡ words L s → result ≡ outcome s c }
 {
-    if c.service < rules::HUB_REQUEST {
-        return Outcome::NothingYet;
-    }
-    if rules::SLEEP < c.service {
+    if !bears_answer(service) {
         return Outcome::NothingYet;
     }
     let x = moves::task_at(t, ts, TaskNo(c.caller as usize));
@@ -221,16 +189,19 @@ fn call_in(t: &mut [u32], ts: usize, c: Call) -> Reply
     ensures { (L : Layout) → Laid ts L → CalledIn L t.old c result t.new }
 {
     let mut keys = [0u32; 16];
-    if let Err(refusal) = refusal_of(&*t, ts, c, &mut keys) {
-        return Reply {
-            answer: Err(refusal),
-            next: 0,
-            ahead: 0,
-        };
-    }
-    let served = serve_call(t, ts, &keys, c);
+    let service = match refusal_of(&*t, ts, c, &mut keys) {
+        Ok(service) => service,
+        Err(refusal) => {
+            return Reply {
+                answer: Err(refusal),
+                next: 0,
+                ahead: 0,
+            };
+        }
+    };
+    let served = serve_call(t, ts, &keys, service, c);
     Reply {
-        answer: Ok(outcome_of(&*t, ts, c)),
+        answer: Ok(outcome_of(&*t, ts, service, c)),
         next: refusals::next(&*t, ts),
         ahead: served.ahead,
     }
