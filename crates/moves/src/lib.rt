@@ -33,7 +33,8 @@ pub fn join_ready(t: &mut [u32], ts: usize, keys: &[u32], i: TaskNo) -> usize
     lists::join(&mut t[a..a + records::LIST_SIZE], keys, n)
 }
 
-// Task i joins hub h's list by its key, and its place is what comes back.
+// Task i joins hub h's list by its key, and its place is what comes back. Not one function with join_ready: each promises of its own
+// list what the other's hasn't (JoinsReady, JoinsHub).
 pub fn join_hub(t: &mut [u32], ts: usize, keys: &[u32], h: HubNo, i: TaskNo) -> usize
     requires table { Table ts t.old }
     requires h_bound { h.0 < 16 }
@@ -79,6 +80,7 @@ pub fn set_task(t: &mut [u32], ts: usize, i: TaskNo, x: TaskRecord)
 }
 
 // The first task that waits at hub h on this side, plus 1, or 0. One list holds one side only, so its first entry tells.
+// No Option: a Resource's count is stored as this number stands, and the contract reads it by `first`.
 pub fn first_waiter(t: &[u32], ts: usize, h: HubNo, side: u32) -> u32
     requires table { Table ts t.now }
     requires h_bound { h.0 < 16 }
