@@ -76,7 +76,7 @@ fn write_rows(rt: &HostRuntime, a: &[u32], b: &[u32], text: &mut [u8]) -> io::Re
 fn write_entries(rt: &HostRuntime, places: &[u32], count: u32, text: &mut [u8]) -> io::Result<()> {
     let mut out = Writer::new(text);
     put_entries(&mut out, places, count);
-    let end = out.end;
+    let end = out.end();
     rt.write_all(&text[..end.min(text.len())])
 }
 

@@ -64,7 +64,7 @@ fn rows_into(buffer: &mut [u8], tables: &Pair) -> usize
 {
     let mut out = Writer::new(buffer);
     put_rows(&mut out, tables);
-    out.end
+    out.end()
 }
 
 // The tables' own refusals: 1 and 2 of the first, then of the second, then 13; else 0.
@@ -96,7 +96,8 @@ fn refused(number: u32) -> Shown
     }
 }
 
-// The rows of two tables. They are written into a buffer of our own first, which has room for all, so that a text without room leaves the caller's alone.
+// The rows of two tables. They are written into a buffer of our own first, which has room for all, so that a text without room leaves
+// the caller's alone.
 fn show_in(tables: &Pair, text: &mut [u8]) -> Shown
     requires { length (rows_of tables.now rows) ≤ 65535 }
     ensures { ShownAs 0 (rows_of tables.now rows) (how_many_marked tables.now rows) text.old result text.new }

@@ -23,8 +23,8 @@ const WORDS: u64 = 4294967296;
 // A lent buffer, and the place up to which it is written.
 #[derive(Drop)]
 pub struct Writer<'a> {
-    pub out: &'a mut [u8],
-    pub end: usize,
+    out: &'a mut [u8],
+    end: usize,
 }
 
 impl<'a> Writer<'a> {
@@ -35,6 +35,13 @@ impl<'a> Writer<'a> {
         ensures start { result.end ≡ 0 }
     {
         Writer { out, end: 0 }
+    }
+
+    // The place behind what is written.
+    pub fn end(&self) -> usize
+        ensures { result ≡ self.now.end }
+    {
+        self.end
     }
 
     // A byte. Where there is no room nothing is written, and the place stays.
