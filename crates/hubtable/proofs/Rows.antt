@@ -1,11 +1,9 @@
--- The rows of the hub table by what the code tests: a waiter that is there or not; a FIFO that holds words or not; an Event as
--- a Semaphore of limit 1.
+-- The rows of the hub table by what the code tests: a FIFO that holds words or not; an Event as a Semaphore of limit 1.
 -- Not here: the paths of each function (its own folder). Assumes nothing.
 use Prim.Native.Nat.{◌-◌, ◌≤◌, pred, suc, zero, ℕ}
 use Rattle.hubtable.specs.Says.{met_with}
-use Rattle.records.specs.Records.{first}
 use Rattle.rules.proofs.Valid.{Held, Range}
-use Rattle.rules.specs.HubTable.{fail, get_board, get_event, get_fifo, get_semaphore, met, not_now, on_wipe, pass, put_event, put_semaphore}
+use Rattle.rules.specs.HubTable.{fail, get_board, get_event, get_fifo, get_semaphore, met, not_now, on_wipe, put_event, put_semaphore}
 use Rattle.rules.specs.Table.{Board, Hub, State, kind_of, stored, task}
 use lib.Dec.{eqb, eqb-suc-suc}
 use lib.ListN.{drop, get_or, length}
@@ -21,11 +19,6 @@ use native.Mathlib.Omega.{arith}
 pub eqb-pred : (n m : ℕ) → (n ≡ 0 → ⊥) → eqb (n - 1) m ≡ eqb n (suc m)
 eqb-pred zero m h = absurd (h refl)
 eqb-pred (suc n) m h = rw sub-one (sym (eqb-suc-suc n m))
-
-pub pass-first : (n : ℕ) (x : Hub) → (n ≡ 0 → ⊥) → met n x.held 0 (met_with (first n) 0) ≡ pass (first n) x
-unfolding first met_with pass
-pass-first zero x h = absurd (h refl)
-pass-first (suc n) x h = refl
 
 -- ---- a FIFO, by the words held
 

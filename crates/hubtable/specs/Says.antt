@@ -6,7 +6,7 @@ use Rattle.hubtable.specs.declared.Store.TheVariants.{Append, Back, Keep, Out, T
 use Rattle.hubtable.specs.declared.Store.{Store}
 use Rattle.hubtable.specs.declared.Verdict.TheVariants.{Fail, Met, NotNow}
 use Rattle.hubtable.specs.declared.Verdict.{Verdict}
-use Rattle.records.specs.Records.{first}
+use Rattle.records.specs.Entries.{numbered}
 use Rattle.records.specs.declared.HubRecord.{HubRecord}
 use Rattle.rules.specs.HubTable.{Meeting, Verdict as Row, fail, met, not_now}
 use Rattle.rules.specs.Table.{Hub}
@@ -35,7 +35,7 @@ store_after (Back b) held = set held b 0
 
 -- of a hub that holds these words
 unfoldable pub says : List ℕ → Verdict → Row
-says held (Met m) = met m.count (store_after m.store held) m.word (met_with (first m.waiter) m.its)
+says held (Met m) = met m.count (store_after m.store held) m.word (met_with (numbered m.waiter) m.its)
 says held NotNow = not_now
 says held Fail = fail
 

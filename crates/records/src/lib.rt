@@ -8,6 +8,10 @@ ghost use Rattle.std.specs.Prelude.{◌*◌, ◌+◌, ◌-◌, ◌<◌, ◌≤�
 ghost use Rattle.records.specs.Records.{RowAt, TaskRead, hub_at, hub_words, hubs_at, ready_at, store_size, stores_at, table_size, task_size_of, task_words, waits_at, width};
 ghost use Rattle.std.proofs.lemmas.List.Edits.{sets};
 
+mod entries;
+
+pub use entries::{entry, entry_of};
+
 // "The table is a lent slice of exactly 600 words", and its task records have 8: edition 1
 pub const TABLE_SIZE: usize = 600;
 

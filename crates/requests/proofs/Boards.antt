@@ -1,6 +1,6 @@
 -- The update of a Board: its readers are met one after the other, each the first of those that are left, and that is meeting
 -- them all, in list order. Not here: the store (Stores.antt), what a met request rests on (Laws.antt). Assumes nothing.
-use Prim.Native.Nat.{◌-◌, ◌<◌, ◌≤◌, suc, zero, ℕ}
+use Prim.Native.Nat.{◌<◌, ◌≤◌, suc, zero, ℕ}
 use Rattle.hubtable.specs.Says.{store_after}
 use Rattle.hubtable.specs.declared.Store.TheVariants.{TakeAppend}
 use Rattle.hubtable.specs.declared.Store.{Store}
@@ -9,6 +9,7 @@ use Rattle.lists.proofs.Laws.{without-none}
 use Rattle.lists.specs.Lists.{entries, occ, without}
 use Rattle.moves.proofs.Laws.{waiter_in}
 use Rattle.verdicts.proofs.Laws.{held, range}
+use Rattle.records.specs.Records.{first}
 use Rattle.requests.specs.Requests.{meet_one, meetings}
 use Rattle.stores.specs.Fits.{StoreFits}
 use Rattle.rules.proofs.Changes.{hub-set_keeps}
@@ -28,21 +29,30 @@ use Rattle.rules.specs.declared.Call.{Call}
 use borrow.Author.Tests.{eq-eqb}
 use lib.ListN.{drop, get_or, length}
 use mathlib.Core.List.{List, [], ◌++◌, ◌∷◌}
+use mathlib.Core.Option.{none, some}
 use mathlib.Core.Path.{◌∙◌, ◌≡◌, ap, refl}
 use native.Mathlib.Omega.{arith}
 
--- ---- the first of a list, by its first entry e
+-- ---- the first of a list, by the task that its first entry names
+
+abbrev head_entry : List ℕ → ℕ
+head_entry l = get_or (entries 16 l) 0 0
+
+pub first_stands : (l : List ℕ) (i : ℕ) → some i ≡ first (head_entry l) → 1 ≤ occ i l
+unfolding entries first
+first_stands [] i q = absurd (let z : ◌≡◌ {A = ℕ} 0 1 = cc in omega arith)
+first_stands (j ∷ js) i q = let is : i ≡ j = cc in rw is (occ_here j js)
 
 module _ (key : ℕ → ℕ) (w : ℕ) (s : State) where
-  pub first-met : (l : List ℕ) (e : ℕ) → e ≡ get_or (entries 16 l) 0 0 → (e ≡ 0 → ⊥) → wake key (e - 1) 1 w s ≡ meet_one key w l s
-  unfolding entries meet_one
-  first-met [] e q n = absurd (n q)
-  first-met (j ∷ js) e q n = let is : e - 1 ≡ j = omega (arith, q) in rw is refl
+  pub first-met : (l : List ℕ) (i : ℕ) → some i ≡ first (head_entry l) → wake key i 1 w s ≡ meet_one key w l s
+  unfolding entries first meet_one
+  first-met [] i q = absurd (let z : ◌≡◌ {A = ℕ} 0 1 = cc in omega arith)
+  first-met (j ∷ js) i q = let is : i ≡ j = cc in rw is refl
 
-  pub none-met : (l : List ℕ) (e : ℕ) → e ≡ get_or (entries 16 l) 0 0 → e ≡ 0 → s ≡ meet_one key w l s
-  unfolding entries meet_one
-  none-met [] e q z = refl
-  none-met (j ∷ js) e q z = absurd (omega (arith, q, z))
+  pub none-met : (l : List ℕ) → none ≡ first (head_entry l) → s ≡ meet_one key w l s
+  unfolding entries first meet_one
+  none-met [] q = refl
+  none-met (j ∷ js) q = absurd (let z : ◌≡◌ {A = ℕ} 0 1 = cc in omega arith)
 
 -- ---- one after the other
 

@@ -7,7 +7,7 @@ use Rattle.hubtable.specs.declared.Meeting.{Meeting}
 use Rattle.hubtable.specs.declared.Verdict.TheVariants.{Met}
 use Rattle.lists.proofs.Counting.{length_without}
 use Rattle.lists.specs.Lists.{without}
-use Rattle.records.specs.Records.{first}
+use Rattle.records.specs.Entries.{numbered}
 use Rattle.rules.proofs.Ahead.{ahead_told}
 use Rattle.rules.proofs.Cases.{and_l, and_r}
 use Rattle.rules.proofs.Changes.{hub-leave, length-set_hub}
@@ -62,14 +62,14 @@ module _ (s : State) (g : Valid s) (c : Call) (a : refusal_for HubRequest s c �
         (subst (λ (v : Verdict). Range k T (hub_after x v)) (sym e) (range-side (side_of c.side) T s x c (caller-used s g c a) (first-used s g c a 2) (range s g c a)))
         (subst (λ (v : Verdict). Held k (hub_after x v)) (sym e) (held-side (side_of c.side) s x c (held s g c a)))
 
-    pub waiter-used : (w : ℕ) → first m.waiter ≡ some w → w < length s.tasks
+    pub waiter-used : (w : ℕ) → numbered m.waiter ≡ some w → w < length s.tasks
     unfolding Each met_with says waiters_met
     waiter-used w q =
-        let ms : InUse s (met_with (first m.waiter) m.its) = subst (λ (v : Verdict). InUse s (waiters_met v)) (sym e) (partners_in s c (waiters_met (verdict s c)) (partners s g.listed c)) in
+        let ms : InUse s (met_with (numbered m.waiter) m.its) = subst (λ (v : Verdict). InUse s (waiters_met v)) (sym e) (partners_in s c (waiters_met (verdict s c)) (partners s g.listed c)) in
         (subst (λ (f : Option ℕ). InUse s (met_with f m.its)) q ms).0
 
     -- the state that a met request leaves, waiter by waiter
-    pub met-state : (key : ℕ → ℕ) → meet_all key (met_with (first m.waiter) m.its) (answer c.caller 1 m.word (hold c.target m.count (store_after m.store (hub s c.target).held) s)) ≡ serve key HubRequest s c
+    pub met-state : (key : ℕ → ℕ) → meet_all key (met_with (numbered m.waiter) m.its) (answer c.caller 1 m.word (hold c.target m.count (store_after m.store (hub s c.target).held) s)) ≡ serve key HubRequest s c
     unfolding says serve settle
     met-state key = ap (λ (v : Verdict). settle key v s c) e
 

@@ -35,12 +35,11 @@ fn meet(t: &mut [u32], ts: usize, keys: &[u32], c: Call, m: Meeting)
 {
     let caller = TaskNo(c.caller as usize);
     let h = HubNo(c.target as usize);
-    let waiter = m.waiter;
     stores::hold_hub(t, ts, h, m);
     moves::give_answer(t, ts, caller, rules::OK, m.word);
-    if 1 <= waiter {
-        if waiter <= 16 {
-            moves::wake_task(t, ts, keys, TaskNo((waiter - 1) as usize), rules::OK, m.its);
+    if let Some(waiter) = m.waiter {
+        if waiter.0 < 16 {
+            moves::wake_task(t, ts, keys, waiter, rules::OK, m.its);
         }
     }
 }
@@ -53,10 +52,10 @@ fn meet_first(t: &mut [u32], ts: usize, keys: &[u32], h: HubNo, w: u64)
     ensures { (L : Layout) (s : State) → Laid ts L → Sound s → h.0 < length s.hubs → t.old ≡ words L s
         → t.new ≡ words L (meet_one (key_of keys.now) w (hub s h.0).waiters s) }
 {
-    let e = lists::word(&*t, records::waits_at(ts, h));
-    if 1 <= e {
-        if e <= 16 {
-            moves::wake_task(t, ts, keys, TaskNo((e - 1) as usize), rules::OK, w);
+    let first = records::entry(lists::word(&*t, records::waits_at(ts, h)));
+    if let Some(first) = first {
+        if first.0 < 16 {
+            moves::wake_task(t, ts, keys, first, rules::OK, w);
         }
     }
 }
@@ -91,7 +90,7 @@ fn update(t: &mut [u32], ts: usize, keys: &[u32], c: Call)
         count: 1,
         store: Store::TakeAppend(word),
         word: 0,
-        waiter: 0,
+        waiter: None,
         its: 0,
     };
     stores::hold_hub(t, ts, h, m);

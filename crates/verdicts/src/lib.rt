@@ -6,7 +6,8 @@
 ghost use Rattle.std.specs.Prelude.{◌<◌, ◌≤◌, ℕ, length, ◌≡◌};
 ghost use Rattle.hubtable.specs.Says.{Below, RecordOf, says};
 ghost use Rattle.messages.specs.Messages.{messages};
-ghost use Rattle.records.specs.Records.{Table, first, width};
+ghost use Rattle.records.specs.Entries.{Low, numbered};
+ghost use Rattle.records.specs.Records.{Table, width};
 ghost use Rattle.rules.proofs.Layouts.{Laid};
 ghost use Rattle.rules.proofs.Valid.{Valid};
 ghost use Rattle.rules.specs.Calls.{HubRequest};
@@ -19,19 +20,19 @@ use hubtable::Verdict;
 use records::{HubNo, HubRecord, TaskNo};
 use rules::{Call, Kind};
 
-// The message of the task that a list's entry names.
-fn word_of(t: &[u32], ts: usize, e: u32) -> u64
-    requires { Table ts t.now }
+// The message of a waiter, if there is one.
+fn word_of(t: &[u32], ts: usize, waiter: Option<TaskNo>) -> u64
+    requires table { Table ts t.now }
+    requires low { Low waiter }
     ensures upper_bound { result < messages (width ts) }
     ensures value { (L : Layout) (s : State) (w : ℕ) → Laid ts L → length s.tasks ≤ 16
-        → t.now ≡ words L s → first e ≡ some w
+        → t.now ≡ words L s → numbered waiter ≡ some w
         → w < length s.tasks → result ≡ (task s w).word }
 {
-    if e == 0 {
-        return 0;
+    match waiter {
+        Some(i) => moves::task_at(t, ts, i).word,
+        None => 0,
     }
-    let x = moves::task_at(t, ts, TaskNo((e - 1) as usize));
-    x.word
 }
 
 // What a Memory hub, whose record is x, says of a block that is given back or asked for.
@@ -46,7 +47,7 @@ fn judge_block(t: &[u32], ts: usize, x: HubRecord, c: Call) -> Verdict
 {
     let h = HubNo(c.target as usize);
     if c.side == rules::PUT {
-        let waiter = moves::first_waiter(t, ts, h, rules::GET);
+        let waiter = records::entry(moves::first_waiter(t, ts, h, rules::GET));
         let block = messages::joined(c.word, c.high);
         let out = stores::is_out(t, ts, h, block);
         return hubtable::put_memory(x, waiter, block, out);
@@ -74,10 +75,10 @@ pub fn judge(t: &[u32], ts: usize, c: Call) -> Verdict
         return judge_block(t, ts, x, c);
     }
     if c.side == rules::PUT {
-        let waiter = moves::first_waiter(t, ts, h, rules::GET);
+        let waiter = records::entry(moves::first_waiter(t, ts, h, rules::GET));
         return hubtable::on_put(x, waiter, c.caller, messages::joined(c.word, c.high));
     }
-    let waiter = moves::first_waiter(t, ts, h, rules::PUT);
+    let waiter = records::entry(moves::first_waiter(t, ts, h, rules::PUT));
     let its = word_of(t, ts, waiter);
     let oldest = stores::held_at(t, ts, h, 0);
     hubtable::on_get(x, waiter, its, oldest, c.caller)

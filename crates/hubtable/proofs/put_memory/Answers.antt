@@ -1,6 +1,5 @@
 -- `hubtable::put_memory` meets its contract, each return by a row's tests. Assumes nothing.
 use Rattle.hubtable.specs.Says.{Below, StoreBelow, met_with, says, store_after}
-use Rattle.records.proofs.Laws.{first-none, first_some}
 use Rattle.rules.proofs.Blocks.{all-free}
 use Rattle.rules.specs.HubTable.{give_back, put_memory}
 use mathlib.Core.Bool.{false≢true}
@@ -9,11 +8,11 @@ use native.Mathlib.Numerals.{add-one}
 use native.Mathlib.Omega.{arith}
 use Rattle.hubtable.proofs.put_memory.Goals as goal
 
-pub returns-then-waiter-ne0 : goal.returns-then-waiter-ne0
+pub returns-in-Some : goal.returns-in-Some
 unfolding StoreBelow give_back met_with put_memory store_after
-returns-then-waiter-ne0 c =
+returns-in-Some c =
     record {
-      result_value = (λ x T e r f o. c.pair.ensures.by_index x.held ∙ rw (sym o, c.if-out.true, first_some _ c.if-waiter-ne0.true, e.count));
+      result_value = (λ x T e r f o. c.pair.ensures.by_index x.held ∙ rw (sym o, c.if-out.true, c.in-Some.is, e.count));
       by_index = λ b z w. c.pair.ensures.by_index_2 b tt z w;
     }
 
@@ -21,7 +20,7 @@ pub returns-then-h : goal.returns-then-h
 unfolding StoreBelow give_back put_memory store_after
 returns-then-h c =
     record {
-      result_value = (λ x T e r f o. c.alone.ensures.by_index x.held ∙ rw (sym o, c.if-out.true, first-none _ c.if-waiter-ne0.false, e.count, add-one));
+      result_value = (λ x T e r f o. c.alone.ensures.by_index x.held ∙ rw (sym o, c.if-out.true, c.in_default.is, e.count, add-one));
       by_index = λ b z w. c.alone.ensures.by_index_2 b tt z;
     }
 

@@ -1,32 +1,33 @@
 -- `requests::meet_first` meets its contract. Assumes nothing.
-use Rattle.moves.proofs.Laws.{entry_read, entry_stands, waiter_in}
-use Rattle.requests.proofs.Boards.{first-met, none-met}
+use Rattle.moves.proofs.Laws.{entry_read, waiter_in}
+use Rattle.records.specs.Entries.{numbered}
+use Rattle.records.specs.Records.{first}
+use Rattle.requests.proofs.Boards.{first-met, first_stands, none-met}
 use Rattle.rules.specs.Table.{hub, words}
-use mathlib.Core.Path.{◌∙◌, ◌≡◌, ap}
+use mathlib.Core.Path.{◌∙◌, ap, sym}
 use native.Mathlib.Omega.{arith}
 use Rattle.requests.proofs.meet_first.Goals as goal
 
-pub returns-then-e-le16 : goal.returns-then-e-le16
-returns-then-e-le16 c =
+pub returns-then-first-lt16 : goal.returns-then-first-lt16
+returns-then-first-lt16 c =
     λ L s y sound used e.
     let h = c.args.h.0 in
-    let read = rw (e, c.waits_at.ensures) at c.word-e.ensures ∙ entry_read L s y sound.hubs h used in
-    let some-e : c.word-e.result ≡ 0 → ⊥ = λ z. omega (arith, z, c.if-e-ge1.true) in
-    let stands = entry_stands s 2 (hub s h).waiters _ read some-e in
-    c.wake_task.ensures L s y sound (waiter_in s sound.listed h _ stands) e
-    ∙ ap (words L) (first-met _ _ s (hub s h).waiters _ read some-e)
+    let read = rw (e, c.waits_at.ensures) at c.word.ensures ∙ entry_read L s y sound.hubs h used in
+    let is = sym (ap numbered c.in-Some.is) ∙ c.entry-first.ensures.value ∙ ap first read in
+    c.wake_task.ensures L s y sound (waiter_in s sound.listed h _ (first_stands (hub s h).waiters _ is)) e
+    ∙ ap (words L) (first-met _ _ s (hub s h).waiters _ is)
 
-pub returns-else-e-le16 : goal.returns-else-e-le16
-returns-else-e-le16 c =
+pub returns-else-first-lt16 : goal.returns-else-first-lt16
+returns-else-first-lt16 c =
     λ L s y sound used e.
     let h = c.args.h.0 in
-    let read = rw (e, c.waits_at.ensures) at c.word-e.ensures ∙ entry_read L s y sound.hubs h used in
-    let stands = entry_stands s 2 (hub s h).waiters _ read (λ z. omega (arith, z, c.if-e-ge1.true)) in
-    absurd (omega (arith, waiter_in s sound.listed h _ stands, sound.tasks, c.if-e-le16.false))
+    let read = rw (e, c.waits_at.ensures) at c.word.ensures ∙ entry_read L s y sound.hubs h used in
+    let is = sym (ap numbered c.in-Some.is) ∙ c.entry-first.ensures.value ∙ ap first read in
+    absurd (omega (arith, waiter_in s sound.listed h _ (first_stands (hub s h).waiters _ is), sound.tasks, c.if-first-lt16.false))
 
-pub returns-else-e-ge1 : goal.returns-else-e-ge1
-returns-else-e-ge1 c =
+pub returns-in_default : goal.returns-in_default
+returns-in_default c =
     λ L s y sound used e.
     let h = c.args.h.0 in
-    let read = rw (e, c.waits_at.ensures) at c.word-e.ensures ∙ entry_read L s y sound.hubs h used in
-    e ∙ ap (words L) (none-met _ _ s (hub s h).waiters _ read (omega (arith, c.if-e-ge1.false)))
+    let read = rw (e, c.waits_at.ensures) at c.word.ensures ∙ entry_read L s y sound.hubs h used in
+    e ∙ ap (words L) (none-met _ _ s (hub s h).waiters (sym (ap numbered c.in_default.is) ∙ c.entry-first.ensures.value ∙ ap first read))
