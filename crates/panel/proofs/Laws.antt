@@ -4,21 +4,22 @@
 use Prim.Native.Nat.{suc, zero, ℕ}
 use Rattle.bytes4.specs.Bytes.{Packed, Unpacked, bytes_of, words_from}
 use Rattle.differences.specs.Differences.{Compares}
-use Rattle.differences.specs.declared.Compared.{Compared}
 use Rattle.listing.specs.Listing.{ListedFrom}
-use Rattle.listing.specs.declared.Listed.{Listed}
 use Rattle.panel.specs.Edge.{Called, ComparedBytes, ListedBytes, compare_numbers_of, edge_after, edge_listing, edge_move, edge_reply, edge_summary, edge_text, listing_numbers_of, numbers_of, summary_numbers_of}
+use Rattle.panel.specs.declared.HubKernelCompareReply.{HubKernelCompareReply}
 use Rattle.panel.specs.declared.HubKernelListingReply.{HubKernelListingReply}
 use Rattle.panel.specs.declared.HubKernelReply.{HubKernelReply}
 use Rattle.panel.specs.declared.HubKernelSummaryReply.{HubKernelSummaryReply}
 use Rattle.rules.specs.Editions.{Moved}
-use Rattle.rules.specs.Reply.{refusal_number, reply_by, reply_in, reply_to, summary_of, table_after, table_by, table_in}
+use Rattle.rules.specs.Reply.{reply_by, reply_in, reply_to, summary_of, table_after, table_by, table_in}
 use Rattle.rules.specs.Table.{Layout, State, one, two}
 use Rattle.rules.specs.declared.Call.{Call}
+use Rattle.rules.specs.declared.Refusal.{Refusal}
 use Rattle.rules.specs.declared.Reply.{Reply}
 use Rattle.rules.specs.declared.Summary.{Summary}
 use Rattle.tablebytes.proofs.Laws.{fits-none}
 use Rattle.tablebytes.specs.TableBytes.{InFront, bytes_in, fits}
+use Rattle.std.specs.Prelude.{Result, is_err}
 use borrow.Author.Tests.{eq-eqb, ne_eqb}
 use lib.Dec.{eqb}
 use lib.ListN.{length, take}
@@ -28,12 +29,12 @@ use mathlib.Core.Path.{◌∙◌, ◌≡◌, ap, refl, sym}
 
 -- ---- "no word of the table changes" where the reply bears a refusal
 
-refused_keeps_by : (L : Layout) (n : ℕ) (t : List ℕ) (s : State) (c : Call) → (refusal_number (reply_by n s c).answer ≡ 0 → ⊥) → table_by L n t s ≡ t
+refused_keeps_by : (L : Layout) (n : ℕ) (t : List ℕ) (s : State) (c : Call) → is_err (reply_by n s c).answer ≡ true → table_by L n t s ≡ t
 unfolding reply_by table_by
-refused_keeps_by L zero t s c r = absurd (r refl)
+refused_keeps_by L zero t s c r = absurd (false≢true r)
 refused_keeps_by L (suc n) t s c r = refl
 
-refused_keeps : (t : List ℕ) (c : Call) → (refusal_number (reply_to t c).answer ≡ 0 → ⊥) → table_after t c ≡ t
+refused_keeps : (t : List ℕ) (c : Call) → is_err (reply_to t c).answer ≡ true → table_after t c ≡ t
 unfolding reply_in table_in
 refused_keeps t c r = refused_keeps_by _ _ t _ c r
 
@@ -55,10 +56,10 @@ module _ (b : List ℕ) (c : Call) where
       words = λ _. rw (← u.words, ← q) w.back;
     }
 
-    pub called_refused : (n.refusal ≡ 0 → ⊥) → Called b c n b
+    pub called_refused : is_err r.answer ≡ true → Called b c n b
     unfolding edge_after edge_reply
     called_refused w =
-        let k : table_after t c ≡ t = refused_keeps t c (rw (e, p) at w) in
+        let k : table_after t c ≡ t = refused_keeps t c (rw p at w) in
         record {
           reply = rw (h, ← u.words, ← p) e;
           bytes = rw (h, ← u.words, k) (sym u.back);
@@ -73,7 +74,7 @@ module _ (b : List ℕ) (i : ℕ) where
   unfolding edge_summary
   summed_length h k = rw (fits-none b h k)
 
-  pub summed : fits b ≡ true → {t : List ℕ} → Unpacked b t → {s : Summary} → s ≡ summary_of t i → {r : HubKernelSummaryReply} → r ≡ summary_numbers_of s → r ≡ edge_summary b i
+  pub summed : fits b ≡ true → {t : List ℕ} → Unpacked b t → {s : Result Summary Refusal} → s ≡ summary_of t i → {r : HubKernelSummaryReply} → r ≡ summary_numbers_of s → r ≡ edge_summary b i
   unfolding edge_summary
   summed h u e n = rw (h, ← u.words, ← e) n
 
@@ -84,7 +85,7 @@ module _ (b text : List ℕ) where
   unfolding edge_listing edge_text
   listed-length h k = let none = fits-none b h k in record { reply = rw none; bytes = rw none }
 
-  pub listed : fits b ≡ true → {t : List ℕ} → Unpacked b t → {r : Listed} {text' : List ℕ} → ListedFrom t text r text'
+  pub listed : fits b ≡ true → {t : List ℕ} → Unpacked b t → {r : Result ℕ Refusal} {text' : List ℕ} → ListedFrom t text r text'
       → {n : HubKernelListingReply} → n ≡ listing_numbers_of r → ListedBytes b text n text'
   unfolding edge_listing edge_text
   listed h u e n = record { reply = rw (h, ← u.words, ← e.reply) n; bytes = rw (h, ← u.words) e.bytes }
@@ -128,9 +129,9 @@ module _ (L M : Layout) (refusal : List ℕ → ℕ) (done : List ℕ → List �
 -- ---- the way out of a comparison
 
 pub compared : (first second places : List ℕ) {a b : List ℕ} {n m : ℕ} → InFront first a n → InFront second b m
-    → {r : Compared} {places' : List ℕ} → Compares (take n a) (take m b) places r places'
-    → ComparedBytes first second places (compare_numbers_of r) places'
-compared first second places f g c = record {
-  reply = rw (← f.front, ← g.front, ← c.reply) refl;
+    → {r : Result ℕ Refusal} {places' : List ℕ} → Compares (take n a) (take m b) places r places' → {n' : HubKernelCompareReply} → n' ≡ compare_numbers_of r
+    → ComparedBytes first second places n' places'
+compared first second places f g c e = record {
+  reply = rw (← f.front, ← g.front, ← c.reply) e;
   words = rw (← f.front, ← g.front) c.words;
 }

@@ -2,20 +2,19 @@
 -- `edge_reply`, `edge_after`, `edge_summary`, `edge_listing`, `edge_text`, `edge_up`, `edge_down` and `ComparedBytes` are what the exported functions promise.
 -- Not here: words from bytes and back (crate bytes4), a table's bytes (`bytes_in`, `fits`, `table_words`: crate tablebytes), the rules
 -- (crate rules).
-use Rattle.std.specs.Prelude.{ℕ, eqb, length, ◌&&◌, cond, true, List, ◌≡◌}
+use Rattle.std.specs.Prelude.{ℕ, eqb, length, ◌&&◌, cond, true, List, Result, ◌≡◌}
 use Rattle.bytes4.specs.Bytes.{bytes_of, words_from}
 use Rattle.differences.specs.Differences.{buffer_after, compare_reply}
-use Rattle.differences.specs.declared.Compared.{Compared}
 use Rattle.listing.specs.Listing.{listing_reply, text_after}
-use Rattle.listing.specs.declared.Listed.{Listed}
 use Rattle.panel.specs.declared.HubKernelCompareReply.{HubKernelCompareReply}
 use Rattle.panel.specs.declared.HubKernelListingReply.{HubKernelListingReply}
 use Rattle.panel.specs.declared.HubKernelReply.{HubKernelReply}
 use Rattle.panel.specs.declared.HubKernelSummaryReply.{HubKernelSummaryReply}
 use Rattle.rules.specs.Editions.{down_refusal, up_refusal}
-use Rattle.rules.specs.Reply.{answer_number, refusal_number, reply_to, summary_of, table_after}
+use Rattle.rules.specs.Reply.{answer_number, count_given, mask_given, number_given, refusal_number, reply_to, summary_of, table_after}
 use Rattle.rules.specs.Table.{Layout, one, size, two}
 use Rattle.rules.specs.declared.Call.{Call}
+use Rattle.rules.specs.declared.Refusal.{Refusal}
 use Rattle.rules.specs.declared.Reply.{Reply}
 use Rattle.rules.specs.declared.Summary.{Summary}
 use Rattle.tablebytes.specs.TableBytes.{bytes_in, fits, table_words}
@@ -29,8 +28,9 @@ call_of service caller target side mode ticks word high =
 abbrev pub numbers_of : Reply → HubKernelReply
 numbers_of r = record { refusal = refusal_number r.answer; answer = answer_number r.answer; next = r.next; ahead = r.ahead }
 
-abbrev pub summary_numbers_of : Summary → HubKernelSummaryReply
-summary_numbers_of s = record { refusal = s.refusal; mask = s.mask; count = s.count }
+-- "Refused .. then both are 0"
+abbrev pub summary_numbers_of : Result Summary Refusal → HubKernelSummaryReply
+summary_numbers_of s = record { refusal = refusal_number s; mask = mask_given s; count = count_given s }
 
 -- ---- "hands the table as 2,400 bytes, words little-endian", with M-105 or as 2,976; "another byte length is refusal 1"
 
@@ -52,8 +52,8 @@ pub record Called (before : List ℕ) (c : Call) (r : HubKernelReply) (after : L
 
 -- ---- M-100: the listing, over bytes
 
-abbrev pub listing_numbers_of : Listed → HubKernelListingReply
-listing_numbers_of r = record { refusal = r.refusal; length = r.length }
+abbrev pub listing_numbers_of : Result ℕ Refusal → HubKernelListingReply
+listing_numbers_of r = record { refusal = refusal_number r; length = number_given r }
 
 unfoldable pub edge_listing : List ℕ → ℕ → HubKernelListingReply
 edge_listing b room = cond (fits b) (listing_numbers_of (listing_reply (words_from b) room)) (record { refusal = 1; length = 0 })
@@ -79,8 +79,8 @@ edge_down from room = edge_move two one (length from) room (down_refusal (words_
 
 -- ---- M-106: two tables compared, over bytes; the places are words
 
-abbrev pub compare_numbers_of : Compared → HubKernelCompareReply
-compare_numbers_of r = record { refusal = r.refusal; count = r.count }
+abbrev pub compare_numbers_of : Result ℕ Refusal → HubKernelCompareReply
+compare_numbers_of r = record { refusal = refusal_number r; count = number_given r }
 
 pub record ComparedBytes (first second places : List ℕ) (r : HubKernelCompareReply) (places' : List ℕ) : Type 0 where
   pub reply : r ≡ compare_numbers_of (compare_reply (table_words first) (table_words second) (length places))

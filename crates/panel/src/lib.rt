@@ -3,12 +3,12 @@
 #![tactic(auto)]
 
 ghost use Rattle.bytes4.specs.Bytes.{bytes_of, words_from};
-ghost use Rattle.panel.specs.Edge.{Called, ComparedBytes, ListedBytes, call_of, edge_down, edge_summary, edge_up, listing_numbers_of, numbers_of, summary_numbers_of};
+ghost use Rattle.panel.specs.Edge.{Called, ComparedBytes, ListedBytes, call_of, compare_numbers_of, edge_down, edge_summary, edge_up, listing_numbers_of, numbers_of, summary_numbers_of};
 ghost use Rattle.rules.specs.Editions.{Moved, moved_down, moved_up};
-ghost use Rattle.std.specs.Prelude.{length, ◌≡◌};
+ghost use Rattle.std.specs.Prelude.{◌*◌, length, true, ◌≡◌};
+ghost use Rattle.tablebytes.specs.TableBytes.{fits};
 
-use listing::Listed;
-use rules::{Call, Reply, Summary};
+use rules::{Call, Refusal, Reply, Summary};
 use tablebytes::{BYTES, BYTES_TWO};
 
 #[repr(C)]
@@ -43,20 +43,87 @@ pub struct HubKernelCompareReply {
 }
 
 // The paper's numbers of a reply.
-fn numbers_of(r: Reply) -> HubKernelReply
-    ensures { result ≡ numbers_of r }
-{
-    let a = r.answer;
-    HubKernelReply {
-        refusal: rules::refusal_number(a),
-        answer: rules::answer_number(a),
-        next: r.next,
-        ahead: r.ahead,
+impl From<Reply> for HubKernelReply {
+    ghost from_gives = { λ r n. n ≡ numbers_of r };
+
+    fn from(r: Reply) -> HubKernelReply {
+        HubKernelReply {
+            refusal: rules::refusal_number(r.answer),
+            answer: rules::answer_number(r.answer),
+            next: r.next,
+            ahead: r.ahead,
+        }
     }
 }
 
-// One call, by its eight numbers: the bytes are unpacked, the kernel called, and packed again unless the call is refused. Each edition
+// "Refused .. then both are 0."
+impl From<Result<Summary, Refusal>> for HubKernelSummaryReply {
+    ghost from_gives = { λ s n. n ≡ summary_numbers_of s };
+
+    fn from(s: Result<Summary, Refusal>) -> HubKernelSummaryReply {
+        match s {
+            Ok(s) => HubKernelSummaryReply {
+                refusal: 0,
+                mask: s.mask,
+                count: s.count,
+            },
+            Err(e) => HubKernelSummaryReply {
+                refusal: e.number(),
+                mask: 0,
+                count: 0,
+            },
+        }
+    }
+}
+
+// "The length given back is 0" of a refused listing.
+impl From<Result<u32, Refusal>> for HubKernelListingReply {
+    ghost from_gives = { λ r n. n ≡ listing_numbers_of r };
+
+    fn from(r: Result<u32, Refusal>) -> HubKernelListingReply {
+        match r {
+            Ok(length) => HubKernelListingReply { refusal: 0, length },
+            Err(e) => HubKernelListingReply {
+                refusal: e.number(),
+                length: 0,
+            },
+        }
+    }
+}
+
+// "A refusal .. reports 0."
+impl From<Result<u32, Refusal>> for HubKernelCompareReply {
+    ghost from_gives = { λ r n. n ≡ compare_numbers_of r };
+
+    fn from(r: Result<u32, Refusal>) -> HubKernelCompareReply {
+        match r {
+            Ok(count) => HubKernelCompareReply { refusal: 0, count },
+            Err(e) => HubKernelCompareReply {
+                refusal: e.number(),
+                count: 0,
+            },
+        }
+    }
+}
+
+// One call on a table of N words: the bytes are unpacked, the kernel called, and packed again unless the call is refused. Each edition
 // has an array of its own, so that the compiler knows its length where the bytes are unpacked.
+fn call_sized<const N: usize>(table: &mut [u8], c: Call) -> HubKernelReply
+    requires table_len { length table.old ≡ 4 * N }
+    requires fits { fits table.old ≡ true }
+    ensures { Called table.old c result table.new }
+{
+    let mut words = [0u32; N];
+    bytes4::unpack(&*table, &mut words);
+    let reply = kernel::call(&mut words, c);
+    if reply.answer.is_err() {
+        return HubKernelReply::from(reply);
+    }
+    bytes4::pack(&words, table);
+    HubKernelReply::from(reply)
+}
+
+// One call, by its eight numbers.
 #[unsafe(no_mangle)]
 pub extern "C" fn hub_kernel_call(
     table: &mut [u8],
@@ -82,41 +149,28 @@ pub extern "C" fn hub_kernel_call(
         high,
     };
     if table.len() == BYTES {
-        let mut words = [0u32; records::TABLE_SIZE];
-        bytes4::unpack(&*table, &mut words);
-        let numbers = numbers_of(kernel::call(&mut words, c));
-        if numbers.refusal != 0 {
-            return numbers;
-        }
-        bytes4::pack(&words, table);
-        return numbers;
+        return call_sized::<{ records::TABLE_SIZE }>(table, c);
     }
     if table.len() == BYTES_TWO {
-        let mut words = [0u32; records::TABLE_SIZE_TWO];
-        bytes4::unpack(&*table, &mut words);
-        let reply = numbers_of(kernel::call(&mut words, c));
-        if reply.refusal != 0 {
-            return reply;
-        }
-        bytes4::pack(&words, table);
-        return reply;
+        return call_sized::<{ records::TABLE_SIZE_TWO }>(table, c);
     }
     HubKernelReply {
-        refusal: rules::WRONG_LENGTH,
+        refusal: Refusal::WrongLength.number(),
         answer: 0,
         next: 0,
         ahead: 0,
     }
 }
 
-fn summary_numbers(s: Summary) -> HubKernelSummaryReply
-    ensures { result ≡ summary_numbers_of s }
+// The summary of a table of N words.
+fn summary_sized<const N: usize>(table: &[u8], hub: u32) -> HubKernelSummaryReply
+    requires table_len { length table.now ≡ 4 * N }
+    requires fits { fits table.now ≡ true }
+    ensures { result ≡ edge_summary table.now hub }
 {
-    HubKernelSummaryReply {
-        refusal: s.refusal,
-        mask: s.mask,
-        count: s.count,
-    }
+    let mut words = [0u32; N];
+    bytes4::unpack(table, &mut words);
+    HubKernelSummaryReply::from(kernel::summary(&words, hub))
 }
 
 // The hub summary of the table.
@@ -125,29 +179,23 @@ pub extern "C" fn hub_kernel_summary(table: &[u8], hub: u32) -> HubKernelSummary
     ensures { result ≡ edge_summary table.now hub }
 {
     if table.len() == BYTES {
-        let mut words = [0u32; records::TABLE_SIZE];
-        bytes4::unpack(table, &mut words);
-        return summary_numbers(kernel::summary(&words, hub));
+        return summary_sized::<{ records::TABLE_SIZE }>(table, hub);
     }
     if table.len() == BYTES_TWO {
-        let mut words = [0u32; records::TABLE_SIZE_TWO];
-        bytes4::unpack(table, &mut words);
-        return summary_numbers(kernel::summary(&words, hub));
+        return summary_sized::<{ records::TABLE_SIZE_TWO }>(table, hub);
     }
-    HubKernelSummaryReply {
-        refusal: rules::WRONG_LENGTH,
-        mask: 0,
-        count: 0,
-    }
+    HubKernelSummaryReply::from(Err(Refusal::WrongLength))
 }
 
-fn listing_numbers(r: Listed) -> HubKernelListingReply
-    ensures { result ≡ listing_numbers_of r }
+// The listing of a table of N words.
+fn listing_sized<const N: usize>(table: &[u8], text: &mut [u8]) -> HubKernelListingReply
+    requires table_len { length table.now ≡ 4 * N }
+    requires fits { fits table.now ≡ true }
+    ensures { ListedBytes table.now text.old result text.new }
 {
-    HubKernelListingReply {
-        refusal: r.refusal,
-        length: r.length,
-    }
+    let mut words = [0u32; N];
+    bytes4::unpack(table, &mut words);
+    HubKernelListingReply::from(listing::list(&words, text))
 }
 
 // The listing of the table, written into a lent buffer.
@@ -156,19 +204,12 @@ pub extern "C" fn hub_kernel_listing(table: &[u8], text: &mut [u8]) -> HubKernel
     ensures { ListedBytes table.now text.old result text.new }
 {
     if table.len() == BYTES {
-        let mut words = [0u32; records::TABLE_SIZE];
-        bytes4::unpack(table, &mut words);
-        return listing_numbers(listing::list(&words, text));
+        return listing_sized::<{ records::TABLE_SIZE }>(table, text);
     }
     if table.len() == BYTES_TWO {
-        let mut words = [0u32; records::TABLE_SIZE_TWO];
-        bytes4::unpack(table, &mut words);
-        return listing_numbers(listing::list(&words, text));
+        return listing_sized::<{ records::TABLE_SIZE_TWO }>(table, text);
     }
-    HubKernelListingReply {
-        refusal: rules::WRONG_LENGTH,
-        length: 0,
-    }
+    HubKernelListingReply::from(Err(Refusal::WrongLength))
 }
 
 // A table moved from edition 1 to edition 2, into a second lent slice. The refusal, 0 if it is done.
@@ -178,20 +219,19 @@ pub extern "C" fn hub_kernel_move_up(from: &[u8], to: &mut [u8]) -> u32
         to.old result to.new }
 {
     if from.len() != BYTES {
-        return rules::WRONG_LENGTH;
+        return Refusal::WrongLength.number();
     }
     if to.len() != BYTES_TWO {
-        return rules::WRONG_LENGTH;
+        return Refusal::WrongLength.number();
     }
     let mut source = [0u32; records::TABLE_SIZE];
     let mut destination = [0u32; records::TABLE_SIZE_TWO];
     bytes4::unpack(from, &mut source);
-    let refusal = editions::move_up(&source, &mut destination);
-    if refusal != 0 {
-        return refusal;
+    if let Err(refusal) = editions::move_up(&source, &mut destination) {
+        return refusal.number();
     }
     bytes4::pack(&destination, to);
-    refusal
+    0
 }
 
 // A table moved back, from edition 2 to edition 1.
@@ -201,20 +241,19 @@ pub extern "C" fn hub_kernel_move_down(from: &[u8], to: &mut [u8]) -> u32
         to.old result to.new }
 {
     if from.len() != BYTES_TWO {
-        return rules::WRONG_LENGTH;
+        return Refusal::WrongLength.number();
     }
     if to.len() != BYTES {
-        return rules::WRONG_LENGTH;
+        return Refusal::WrongLength.number();
     }
     let mut source = [0u32; records::TABLE_SIZE_TWO];
     let mut destination = [0u32; records::TABLE_SIZE];
     bytes4::unpack(from, &mut source);
-    let refusal = editions::move_down(&source, &mut destination);
-    if refusal != 0 {
-        return refusal;
+    if let Err(refusal) = editions::move_down(&source, &mut destination) {
+        return refusal.number();
     }
     bytes4::pack(&destination, to);
-    refusal
+    0
 }
 
 // M-106: the differing places of two tables, into a lent buffer of words.
@@ -230,9 +269,5 @@ pub extern "C" fn hub_kernel_compare(
     let mut new = [0u32; records::TABLE_SIZE_TWO];
     let n = tablebytes::table_words(first, &mut old);
     let m = tablebytes::table_words(second, &mut new);
-    let r = differences::compare(&old[..n], &new[..m], places);
-    HubKernelCompareReply {
-        refusal: r.refusal,
-        count: r.count,
-    }
+    HubKernelCompareReply::from(differences::compare(&old[..n], &new[..m], places))
 }

@@ -11,4 +11,4 @@ pub slice_bounds-compare-end-2 : goal.slice_bounds-compare-end-2
 slice_bounds-compare-end-2 c = sym (length-take-le _ _ c.table_words-m.ensures.room)
 
 pub returns : goal.returns
-returns c = compared _ _ _ c.table_words-n.ensures c.table_words-m.ensures c.compare-r.ensures
+returns c = compared _ _ _ c.table_words-n.ensures c.table_words-m.ensures c.compare.ensures c.from.ensures

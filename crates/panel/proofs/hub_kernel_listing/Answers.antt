@@ -1,13 +1,13 @@
--- The words of a table of either edition are what is listed; another length. Assumes nothing.
-use Rattle.panel.proofs.Laws.{listed, listed-length}
+-- The table of each edition fits; another length. Assumes nothing.
+use Rattle.panel.proofs.Laws.{listed-length}
 use Rattle.tablebytes.proofs.Laws.{fits_one, fits-two}
 use Rattle.panel.proofs.hub_kernel_listing.Goals as goal
 
-pub returns-then-table-eq-BYTES : goal.returns-then-table-eq-BYTES
-returns-then-table-eq-BYTES c = listed _ _ (fits_one _ c.if-table-eq-BYTES.true) c.unpack.ensures c.list.ensures c.listing_numbers.ensures
+pub listing_sized-requires-clause-fits : goal.listing_sized-requires-clause-fits
+listing_sized-requires-clause-fits c = fits_one _ c.if-table-eq-BYTES.true
 
-pub returns-then-table-eq-BYTES_TWO : goal.returns-then-table-eq-BYTES_TWO
-returns-then-table-eq-BYTES_TWO c = listed _ _ (fits-two _ c.if-table-eq-BYTES_TWO.true) c.unpack-then-table-eq-BYTES_TWO.ensures c.list-then-table-eq-BYTES_TWO.ensures c.listing_numbers-then-table-eq-BYTES_TWO.ensures
+pub listing_sized-requires-then-table-eq-BYTES_TWO-clause-fits : goal.listing_sized-requires-then-table-eq-BYTES_TWO-clause-fits
+listing_sized-requires-then-table-eq-BYTES_TWO-clause-fits c = fits-two _ c.if-table-eq-BYTES_TWO.true
 
 pub returns : goal.returns
-returns c = listed-length _ _ c.if-table-eq-BYTES.false c.if-table-eq-BYTES_TWO.false
+returns c = rw c.from.ensures (listed-length _ _ c.if-table-eq-BYTES.false c.if-table-eq-BYTES_TWO.false)

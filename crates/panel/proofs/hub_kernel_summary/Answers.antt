@@ -1,13 +1,14 @@
--- The words of a table of either edition are what the kernel sums up; another length. Assumes nothing.
-use Rattle.panel.proofs.Laws.{summed, summed_length}
+-- The table of each edition fits; another length. Assumes nothing.
+use Rattle.panel.proofs.Laws.{summed_length}
 use Rattle.tablebytes.proofs.Laws.{fits_one, fits-two}
+use mathlib.Core.Path.{◌∙◌}
 use Rattle.panel.proofs.hub_kernel_summary.Goals as goal
 
-pub returns-then-table-eq-BYTES : goal.returns-then-table-eq-BYTES
-returns-then-table-eq-BYTES c = summed _ _ (fits_one _ c.if-table-eq-BYTES.true) c.unpack.ensures c.summary.ensures c.summary_numbers.ensures
+pub summary_sized-requires-clause-fits : goal.summary_sized-requires-clause-fits
+summary_sized-requires-clause-fits c = fits_one _ c.if-table-eq-BYTES.true
 
-pub returns-then-table-eq-BYTES_TWO : goal.returns-then-table-eq-BYTES_TWO
-returns-then-table-eq-BYTES_TWO c = summed _ _ (fits-two _ c.if-table-eq-BYTES_TWO.true) c.unpack-then-table-eq-BYTES_TWO.ensures c.summary-then-table-eq-BYTES_TWO.ensures c.summary_numbers-then-table-eq-BYTES_TWO.ensures
+pub summary_sized-requires-then-table-eq-BYTES_TWO-clause-fits : goal.summary_sized-requires-then-table-eq-BYTES_TWO-clause-fits
+summary_sized-requires-then-table-eq-BYTES_TWO-clause-fits c = fits-two _ c.if-table-eq-BYTES_TWO.true
 
 pub returns : goal.returns
-returns c = summed_length _ _ c.if-table-eq-BYTES.false c.if-table-eq-BYTES_TWO.false
+returns c = c.from.ensures ∙ summed_length _ _ c.if-table-eq-BYTES.false c.if-table-eq-BYTES_TWO.false
