@@ -66,8 +66,8 @@ fn hub_row(h: u32, j: u32) -> Row
     }
 }
 
-// A table as a comparison is handed it: its words, how many of them a task record has, who runs in it (the task plus 1, or 0), and
-// what its tasks' effective priorities are, worked out once.
+// A table as a comparison is handed it: its words, how many of them a task record has, who runs in it (the task plus 1, or 0, since
+// `more_differs` of specs/Rows takes it so), and what its tasks' effective priorities are, worked out once.
 #[derive(Clone, Copy)]
 pub struct View<'a> {
     pub words: &'a [u32],
