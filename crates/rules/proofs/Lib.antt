@@ -47,3 +47,5 @@ pub mod Waiting
 pub mod Worked
 pub mod Written
 pub mod KindNumbers
+pub mod ServiceNumbers
+pub mod ModeNumbers

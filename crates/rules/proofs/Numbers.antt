@@ -1,9 +1,9 @@
--- The paper's tables of names, by number: a number that names no kind, stage or mode, the kinds that bear a word, the Resource, and the
+-- The paper's tables of names, by number: a number that names no kind, stage, mode or service, the kinds that bear a word, the Resource, and the
 -- services that bear an answer.
 -- Not here: a single number, of which the rules compute the name. Assumes nothing.
 use Prim.Native.Nat.{◌<◌, ◌≤◌, suc, zero, ℕ}
 use Rattle.rules.proofs.Tests.{t_below_all}
-use Rattle.rules.specs.Calls.{service_of}
+use Rattle.rules.specs.Calls.{AddHub, AddTask, Blank, HubRequest, Resume, Sleep, Start, Stop, Suspend, Tick, Unknown, Yield, service_of}
 use Rattle.rules.specs.Refusals.{NW, NoMode, W, WT, last_side, mode_of}
 use Rattle.rules.specs.Reply.{bears_answer}
 use Rattle.rules.specs.Table.{Board, Event, Fifo, Inactive, Memory, NoKind, NoStage, Port, Ready, Resource, Semaphore, Sleeping, Waiting, is_resource, kind_of, stage_of, stored}
@@ -48,6 +48,12 @@ no_stage = unnamed NoStage (Inactive ∷ Ready ∷ Waiting ∷ Sleeping ∷ [])
 pub no_mode : (n : ℕ) → (1 ≤ n → 3 < n) → mode_of n ≡ NoMode
 unfolding mode_of
 no_mode = unnamed NoMode (W ∷ NW ∷ WT ∷ [])
+
+-- "service above 10"
+pub no_service : (n : ℕ) → 10 < n → service_of n ≡ Unknown
+unfolding service_of
+no_service n h =
+    get_or-eq_default (Blank ∷ HubRequest ∷ Start ∷ Stop ∷ Suspend ∷ Resume ∷ Yield ∷ Sleep ∷ Tick ∷ AddTask ∷ AddHub ∷ []) Unknown (omega (arith, h))
 
 -- Port, FIFO, Board and Memory by their numbers
 pub bears_number : (n : ℕ) → bears_word (kind_of n) ≡ (eqb n 3 || (eqb n 4 || (eqb n 6 || eqb n 7)))

@@ -10,3 +10,5 @@ pub mod Refusals
 pub mod Reply
 pub mod Editions
 pub mod Kinds
+pub mod Services
+pub mod Modes

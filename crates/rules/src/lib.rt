@@ -10,8 +10,12 @@ ghost use Rattle.std.specs.Prelude.{◌≡◌};
 use std::fmt;
 
 mod kinds;
+mod modes;
+mod services;
 
 pub use kinds::{Kind, bears_word};
+pub use modes::Mode;
+pub use services::Service;
 
 // The services.
 pub const BLANK: u32 = 0;
