@@ -1,11 +1,12 @@
 -- What the rows of two tables promise, beside the contract of `show`. In order: every place lies in exactly one row; a differing word
 -- lies in a marked row that is shown; what an unmarked row says, and a marked one; no row is marked exactly if the tables are equal; the
--- marked rows and M-106's entries; how long the text is at most; a table against itself; the state that the cells speak of.
+-- marked rows and M-106's entries; how long the text is at most; the state that the cells speak of; a table against itself; what is
+-- given back with a refusal, and with none.
 -- Not here: that the code does what the definitions say (the functions' proofs). Assumes nothing.
-use Prim.Native.Nat.{◌*◌, ◌+◌, ◌-◌, ◌<◌, ◌≤◌, ℕ}
+use Prim.Native.Nat.{◌*◌, ◌+◌, ◌-◌, ◌<◌, ◌≤◌, suc, zero, ℕ}
 use Rattle.differences.proofs.Promise.{OneEdition, differs-listed, listed-differs}
 use Rattle.differences.proofs.Ways.{Formed}
-use Rattle.differences.specs.Differences.{Entry, entries}
+use Rattle.differences.specs.Differences.{Entry, entries, table_refusal}
 use Rattle.lists.proofs.Laws.{bool_case}
 use Rattle.lists.proofs.Padding.{zero-at}
 use Rattle.lists.specs.Lists.{numbers}
@@ -20,6 +21,7 @@ use Rattle.rowtexts.proofs.Cells.{Few, Same, cell_same, one-run, part_same}
 use Rattle.rowtexts.proofs.Distinct.{kind_said_lem, kind_said, never_unused, priority_said, runs_said}
 use Rattle.rowtexts.specs.RowTexts.{cell, used_text}
 use Rattle.rules.proofs.After.{valid_in}
+use Rattle.rules.proofs.Coded.{coded, given-number, given_0, need-all}
 use Rattle.rules.proofs.Layouts.{Laid, store_place}
 use Rattle.rules.proofs.Least.{none_urgent, task_le}
 use Rattle.rules.proofs.Reading.{read-hub, read-hubs, read-task, read-tasks}
@@ -27,14 +29,18 @@ use Rattle.rules.proofs.Valid.{Range}
 use Rattle.rules.proofs.Written.{written-says}
 use Rattle.rules.specs.Effective.{effective}
 use Rattle.rules.specs.Lists.{first_free, next}
+use Rattle.rules.specs.Reply.{given, refusal_number, refusal_with}
 use Rattle.rules.specs.Table as RulesTable
 use Rattle.rules.specs.Table.{Hub, NoKind, Task, edition_of, hub, hub_at, kind_of, part, read, state_of, task, task_size, tasks_at}
 use Rattle.rules.specs.WellFormed.{unused_zero, valid, well_formed_in, written, zero_from}
+use Rattle.rules.specs.declared.Refusal.{Refusal}
 use Rattle.sidebyside.proofs.Lengths.{text_most_lem}
-use Rattle.sidebyside.specs.Shows.{is_marked, is_shown, marks_of, runs_in, size_of, text_of}
+use Rattle.sidebyside.specs.Shows.{Shows, is_marked, is_shown, length_given, marked_given, marks_of, pair_refusal, refusal_for, reply_for, runs_in, size_of, text_after, text_of}
+use Rattle.sidebyside.specs.declared.Shown.{Shown}
+use Rattle.std.specs.Prelude.{Result}
 use Rattle.texts.specs.Cells.{tasks_text}
 use Rattle.wellformed.proofs.Editions.{edition_laid_of}
-use borrow.Author.Tests.{eq-eqb, eqb-false, eqb-true, ltb-false, ltb-true}
+use borrow.Author.Tests.{eq-eqb, eqb-false, eqb-true, ltb-false, ltb-true, ne_eqb}
 use lib.Dec.{eqb, ltb}
 use lib.ListN.{get_or-eq_default, get_or, length}
 use lib.Seq.{ext_get_or}
@@ -345,3 +351,39 @@ module _ (t : List ℕ) where
 -- no row is marked
 pub same_no_mark : (t : List ℕ) → marks_of t t ≡ 0
 same_no_mark t = self_no_mark (size_of t) t (runs_in t) rows
+
+-- ---- what is given back
+
+-- every refusal number of two tables is a refusal's
+shown-coded : (a b text : List ℕ) → coded (refusal_for (pair_refusal a b) (text_of a b) (length text)) ≡ true
+unfolding pair_refusal refusal_for refusal_with table_refusal
+shown-coded a b text =
+    let pair : coded (pair_refusal a b) ≡ true =
+    need-all coded _ 1 _ refl (need-all coded _ 2 _ refl (need-all coded _ 1 _ refl (need-all coded _ 2 _ refl (need-all coded _ 13 0 refl refl)))) in
+    bool_case (eqb (pair_refusal a b) 0) (λ q. rw q (need-all coded _ 8 0 refl refl)) (λ q. rw q pair)
+
+nothing_given : (n len marks : ℕ) → (n ≡ 0 → ⊥)
+    → (length_given (given n (record { length = len; marked = marks })) ≡ 0) × (marked_given (given n (record { length = len; marked = marks })) ≡ 0)
+unfolding given
+nothing_given zero len marks d = absurd (d refl)
+nothing_given (suc n) len marks d = (refl, refl)
+
+module _ (a b text : List ℕ) (r : Result Shown Refusal) (text' : List ℕ) (c : Shows a b text r text') where
+  pub refusal_is : refusal_number r ≡ refusal_for (pair_refusal a b) (text_of a b) (length text)
+  unfolding reply_for
+  refusal_is = ap refusal_number c.reply ∙ given-number _ _ (shown-coded a b text)
+
+  -- "A refusal writes nothing" and gives 0 and 0
+  pub refused_leaves : (refusal_number r ≡ 0 → ⊥) → (length_given r ≡ 0) × (marked_given r ≡ 0) × (text' ≡ text)
+  unfolding reply_for text_after
+  refused_leaves d =
+      let n = refusal_for (pair_refusal a b) (text_of a b) (length text) in
+      let some : n ≡ 0 → ⊥ = λ z. d (refusal_is ∙ z) in
+      let given = nothing_given n (length (text_of a b)) (marks_of a b) some in
+      (ap length_given c.reply ∙ given.0, ap marked_given c.reply ∙ given.1, rw (ne_eqb n 0 some) at c.bytes)
+
+  pub shown_given : refusal_number r ≡ 0 → (length_given r ≡ length (text_of a b)) × (marked_given r ≡ marks_of a b)
+  unfolding reply_for
+  shown_given z =
+      let same = c.reply ∙ given_0 _ _ (sym refusal_is ∙ z) in
+      (ap length_given same, ap marked_given same)

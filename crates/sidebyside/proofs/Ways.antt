@@ -9,6 +9,7 @@ use Rattle.lists.proofs.Laws.{bool_case}
 use Rattle.records.specs.Records.{Table, task_size_of}
 use Rattle.rows.specs.Rows.{KeysOf}
 use Rattle.rules.proofs.After.{valid_in, words_in}
+use Rattle.rules.proofs.Coded.{code-some, given_err}
 use Rattle.rules.proofs.Layouts.{Laid, store_place}
 use Rattle.rules.proofs.Meaning.{valid_sound}
 use Rattle.rules.proofs.Room.{valid-room}
@@ -16,12 +17,15 @@ use Rattle.rules.proofs.Valid.{Listed, Room, Sound}
 use Rattle.rules.specs.Effective.{effective}
 use Rattle.rules.specs.Lists.{next}
 use Rattle.rules.specs.Refusals.{need}
+use Rattle.rules.specs.Reply.{code, given}
 use Rattle.rules.specs.Table.{Layout, State, edition_of, state_of, words}
+use Rattle.rules.specs.declared.Refusal.{Refusal}
 use Rattle.sidebyside.specs.Shows.{ShownAs, pair_refusal, refusal_for, reply_for, text_after}
 use Rattle.sidebyside.specs.declared.Shown.{Shown}
+use Rattle.std.specs.Prelude.{IsErrAnd, Ok, Result}
 use Rattle.texts.specs.Texts.{Put, put}
 use Rattle.wellformed.proofs.Editions.{edition_laid_of}
-use borrow.Author.Tests.{eq-eqb, eqb-true, le-leb, lt-leb, ne_eqb}
+use borrow.Author.Tests.{eq-eqb, eqb-false, eqb-true, le-leb, lt-leb, ne_eqb}
 use lib.Dec.{eqb, leb}
 use lib.ListN.{drop, get_or, length, take}
 use lib.Seq.{sets, sets-eq, take_at}
@@ -47,13 +51,21 @@ module _ (a b : List ℕ) where
       unfolding pair_refusal
       passed = table-passed b _ g ∙ table-passed a _ f
 
-      pub pair_13 : (length a ≡ length b → ⊥) → 13 ≡ pair_refusal a b
+      pair_13 : (length a ≡ length b → ⊥) → 13 ≡ pair_refusal a b
       unfolding need
       pair_13 d = rw (ne_eqb (edition_of a).edition (edition_of b).edition (λ e. d (edition-long a b f g e))) at passed
 
-      pub pair_0 : length a ≡ length b → 0 ≡ pair_refusal a b
+      pair_0 : length a ≡ length b → 0 ≡ pair_refusal a b
       unfolding need
       pair_0 e = rw (eq-eqb (edition_of a).edition (edition_of b).edition (edition_same a b e)) at passed
+
+      -- two tables that pass are of one edition exactly if they are as long
+      pub pair_last : (n : ℕ) → n ≡ need (eqb (length a) (length b)) 13 0 → n ≡ pair_refusal a b
+      unfolding need
+      pair_last n h =
+          bool_case (eqb (length a) (length b))
+          (λ q. (rw q at h) ∙ pair_0 (eqb-true (length a) (length b) q))
+          (λ q. (rw q at h) ∙ pair_13 (eqb-false (length a) (length b) q))
 
 pub pair-formed : (a b : List ℕ) → pair_refusal a b ≡ 0 → OneEdition a b
 unfolding need pair_refusal
@@ -91,27 +103,25 @@ keys_are t f low {ts} {keys} size found =
 -- ---- the reply and the buffer
 
 module _ (k : ℕ) (rows_of : List ℕ) (marks : ℕ) (text : List ℕ) where
-  pub refused_by : (n : ℕ) (r : Shown) → (r.refusal ≡ n) × (r.length ≡ 0) × (r.marked ≡ 0) → (n ≡ 0 → ⊥) → refusal_for k rows_of (length text) ≡ n
-      → ShownAs k rows_of marks text r text
+  pub refused_by : (e : Refusal) (r : Result Shown Refusal) → IsErrAnd r (λ y. y ≡ e) → code e ≡ refusal_for k rows_of (length text) → ShownAs k rows_of marks text r text
   unfolding reply_for text_after
-  refused_by n r e d q =
-      let same : r ≡ record { refusal = n; length = 0; marked = 0 } = λ i. record { refusal = e.0 i; length = e.1 i; marked = e.2 i } in
-      let more : eqb n 0 ≡ false = ne_eqb n 0 d in
-      record { reply = same ∙ rw (q, more) refl; bytes = rw (q, more) refl }
+  refused_by e r h q =
+      let more : eqb (code e) 0 ≡ false = ne_eqb (code e) 0 (code-some e) in
+      record { reply = given_err r e _ _ h q; bytes = rw (← q, more) refl }
 
   -- refused by the tables
-  pub refused_tables : (r : Shown) → (r.refusal ≡ k) × (r.length ≡ 0) × (r.marked ≡ 0) → (k ≡ 0 → ⊥) → ShownAs k rows_of marks text r text
+  pub refused_tables : (e : Refusal) (r : Result Shown Refusal) → IsErrAnd r (λ y. y ≡ e) → code e ≡ k → ShownAs k rows_of marks text r text
   unfolding refusal_for
-  refused_tables r e d = refused_by k r e d (rw (ne_eqb k 0 d) refl)
+  refused_tables e r h q = refused_by e r h (rw (← q, ne_eqb (code e) 0 (code-some e)) refl)
 
 module _ (rows_of : List ℕ) (marks : ℕ) (text : List ℕ) where
-  pub refused_8 : (r : Shown) → (r.refusal ≡ 8) × (r.length ≡ 0) × (r.marked ≡ 0) → length text < length rows_of → ShownAs 0 rows_of marks text r text
+  pub refused_8 : (e : Refusal) (r : Result Shown Refusal) → IsErrAnd r (λ y. y ≡ e) → code e ≡ 8 → length text < length rows_of → ShownAs 0 rows_of marks text r text
   unfolding need refusal_for
-  refused_8 r e h = refused_by 0 rows_of marks text 8 r e (λ z. omega (arith, z)) (rw (lt-leb (length rows_of) (length text) h) refl)
+  refused_8 e r h q l = refused_by 0 rows_of marks text e r h (q ∙ rw (lt-leb (length rows_of) (length text) l) refl)
 
   pub shown-all : (end : ℕ) (text' : List ℕ) → end ≡ length rows_of → length rows_of ≤ length text → text' ≡ rows_of ++ drop end text
-      → ShownAs 0 rows_of marks text (record { refusal = 0; length = end; marked = marks }) text'
-  unfolding need refusal_for reply_for text_after
+      → ShownAs 0 rows_of marks text (Ok (record { length = end; marked = marks })) text'
+  unfolding given need refusal_for reply_for text_after
   shown-all end text' e h w =
       let fits : leb (length rows_of) (length text) ≡ true = le-leb (length rows_of) (length text) h in
       record { reply = rw (fits, e) refl; bytes = w ∙ rw (fits, e) refl }

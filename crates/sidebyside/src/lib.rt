@@ -7,17 +7,18 @@ ghost use Rattle.std.specs.Prelude.{◌<◌, ◌≤◌, length, ◌≡◌};
 ghost use Rattle.differences.specs.Differences.{table_refusal};
 ghost use Rattle.rows.specs.Rows.{row_number, rows};
 ghost use Rattle.rows.specs.Views.{how_many_marked};
+ghost use Rattle.rules.specs.Reply.{refusal_number};
 ghost use Rattle.sidebyside.specs.RowLines.{line_of, row_of, rows_of};
 ghost use Rattle.sidebyside.specs.Shows.{ShownAs, Shows, pair_refusal, runs_in, size_of};
 ghost use Rattle.texts.specs.Texts.{Put, Wrote};
 
 use rows::{Pair, Row, View};
+use rules::Refusal;
 use texts::Writer;
 
-// The refusal, how many bytes were written, and how many rows are marked.
-#[derive(Clone, Copy)]
+// How many bytes were written, and how many rows are marked.
+#[derive(Clone, Copy, Debug, PartialEq, Eq)]
 pub struct Shown {
-    pub refusal: u32,
     pub length: u32,
     pub marked: u32,
 }
@@ -67,52 +68,31 @@ fn rows_into(buffer: &mut [u8], tables: &Pair) -> usize
     out.end()
 }
 
-// The tables' own refusals: 1 and 2 of the first, then of the second, then 13; else 0.
-pub fn pair_refusal(a: &[u32], b: &[u32]) -> u32
-    ensures { result ≡ pair_refusal a.now b.now }
+// The tables' own refusals: 1 and 2 of the first, then of the second, then 13.
+pub fn pair_refusal(a: &[u32], b: &[u32]) -> Result<(), Refusal>
+    ensures { refusal_number result ≡ pair_refusal a.now b.now }
 {
-    let first = differences::refusal_of(a);
-    if first != 0 {
-        return first;
-    }
-    let second = differences::refusal_of(b);
-    if second != 0 {
-        return second;
-    }
-    if a.len() != b.len() {
-        return rules::OTHER_EDITION;
-    }
-    0
-}
-
-// "A refusal writes nothing" and gives 0 and 0.
-fn refused(number: u32) -> Shown
-    ensures { (result.refusal ≡ number) × (result.length ≡ 0) × (result.marked ≡ 0) }
-{
-    Shown {
-        refusal: number,
-        length: 0,
-        marked: 0,
-    }
+    differences::refusal_of(a)?;
+    differences::refusal_of(b)?;
+    rules::need(a.len() == b.len(), Refusal::OtherEdition)
 }
 
 // The rows of two tables. They are written into a buffer of our own first, which has room for all, so that a text without room leaves
 // the caller's alone.
-fn show_in(tables: &Pair, text: &mut [u8]) -> Shown
+fn show_in(tables: &Pair, text: &mut [u8]) -> Result<Shown, Refusal>
     requires { length (rows_of tables.now rows) ≤ 65535 }
     ensures { ShownAs 0 (rows_of tables.now rows) (how_many_marked tables.now rows) text.old result text.new }
 {
     let mut scratch = [0u8; ROOM];
     let end = rows_into(&mut scratch, tables);
     if text.len() < end {
-        return refused(rules::SHORT_BUFFER);
+        return Err(Refusal::ShortBuffer);
     }
     text[..end].copy_from_slice(&scratch[..end]);
-    Shown {
-        refusal: 0,
+    Ok(Shown {
         length: end as u32,
         marked: tables.count_marked(),
-    }
+    })
 }
 
 // A well-formed table as the rows are handed it: who runs in it, and its keys.
@@ -126,19 +106,16 @@ fn view(words: &[u32]) -> View<'_>
     View {
         words,
         ts,
-        runs: refusals::running(words, ts),
+        runs: refusals::next(words, ts),
         keys: inherit::keys(words, ts),
     }
 }
 
-// Two tables side by side: the rows' text, into `text`.
-pub fn show(a: &[u32], b: &[u32], text: &mut [u8]) -> Shown
+// Two tables side by side: the rows' text, into `text`. "A refusal writes nothing."
+pub fn show(a: &[u32], b: &[u32], text: &mut [u8]) -> Result<Shown, Refusal>
     ensures { Shows a.now b.now text.old result text.new }
 {
-    let number = pair_refusal(a, b);
-    if number != 0 {
-        return refused(number);
-    }
+    pair_refusal(a, b)?;
     let tables = Pair {
         left: view(a),
         right: view(b),

@@ -11,4 +11,4 @@ pub slice_bounds-show-end-2 : goal.slice_bounds-show-end-2
 slice_bounds-show-end-2 c = sym (length-take-le _ _ c.table_words-m.ensures.room)
 
 pub returns : goal.returns
-returns c = rows-shown _ _ _ c.table_words-n.ensures c.table_words-m.ensures c.show-r.ensures
+returns c = rows-shown _ _ _ c.table_words-n.ensures c.table_words-m.ensures c.show.ensures c.from.ensures

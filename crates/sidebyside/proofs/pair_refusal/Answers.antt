@@ -1,17 +1,20 @@
 -- `sidebyside::pair_refusal` meets its contract: each way out by its tests. Assumes nothing.
 use Rattle.differences.proofs.Ways.{table-formed}
-use Rattle.sidebyside.proofs.Ways.{pair_0, pair_13, pair-first, pair_second}
+use Rattle.rules.proofs.Coded.{code-some, handed_on}
+use Rattle.sidebyside.proofs.Ways.{pair-first, pair_last, pair_second}
 use mathlib.Core.Path.{◌∙◌, sym}
 use Rattle.sidebyside.proofs.pair_refusal.Goals as goal
 
-pub returns-then-first-ne0 : goal.returns-then-first-ne0
-returns-then-first-ne0 c = pair-first c.args.a.now c.args.b.now _ c.refusal_of-first.ensures c.if-first-ne0.true
+pub returns-in_err-refusal_of : goal.returns-in_err-refusal_of
+returns-in_err-refusal_of c = handed_on _ _ c.from_residual.ensures.1 ∙ pair-first c.args.a.now c.args.b.now _ c.in_err-refusal_of.ensures (code-some _)
 
-pub returns-then-second-ne0 : goal.returns-then-second-ne0
-returns-then-second-ne0 c = pair_second c.args.a.now c.args.b.now (table-formed c.args.a.now (sym c.refusal_of-first.ensures ∙ c.if-first-ne0.false)) _ c.refusal_of-second.ensures c.if-second-ne0.true
-
-pub returns-then-a-b : goal.returns-then-a-b
-returns-then-a-b c = pair_13 c.args.a.now c.args.b.now (table-formed c.args.a.now (sym c.refusal_of-first.ensures ∙ c.if-first-ne0.false)) (table-formed c.args.b.now (sym c.refusal_of-second.ensures ∙ c.if-second-ne0.false)) c.if-a-b.true
+pub returns-in_err-refusal_of-2 : goal.returns-in_err-refusal_of-2
+returns-in_err-refusal_of-2 c =
+    let f = table-formed c.args.a.now (sym c.in_ok-refusal_of.ensures) in
+    handed_on _ _ c.from_residual-in_err-refusal_of-2.ensures.1 ∙ pair_second c.args.a.now c.args.b.now f _ c.in_err-refusal_of-2.ensures (code-some _)
 
 pub returns : goal.returns
-returns c = pair_0 c.args.a.now c.args.b.now (table-formed c.args.a.now (sym c.refusal_of-first.ensures ∙ c.if-first-ne0.false)) (table-formed c.args.b.now (sym c.refusal_of-second.ensures ∙ c.if-second-ne0.false)) c.if-a-b.false
+returns c =
+    let f = table-formed c.args.a.now (sym c.in_ok-refusal_of.ensures) in
+    let g = table-formed c.args.b.now (sym c.in_ok-refusal_of-2.ensures) in
+    pair_last c.args.a.now c.args.b.now f g _ c.need.ensures

@@ -9,7 +9,7 @@ use Rattle.sidebyside.proofs.show_in.Goals as goal
 pub returns-then-text-end : goal.returns-then-text-end
 returns-then-text-end c =
     let h = held c.rows_into-end.ensures (length-replicate {A = ℕ} 65536 0) c.requires in
-    refused_8 _ _ _ _ c.refused.ensures (omega (arith, h.all, c.if-text-end.true))
+    refused_8 _ _ _ _ _ refl refl (omega (arith, h.all, c.if-text-end.true))
 
 pub returns : goal.returns
 returns c =

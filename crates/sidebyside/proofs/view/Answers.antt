@@ -20,4 +20,4 @@ pub returns-clause-runs : goal.returns-clause-runs
 returns-clause-runs c =
     let t = c.args.words.now in
     let low : (k : ℕ) → get_or t k 0 < 4294967296 = λ k. omega (arith, c.type_inv.words k) in
-    runs_is t (table-formed t c.requires) low c.task_size-ts.ensures.value c.running.ensures
+    runs_is t (table-formed t c.requires) low c.task_size-ts.ensures.value c.next.ensures
