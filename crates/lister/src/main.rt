@@ -5,7 +5,7 @@
 
 ghost use Rattle.lister.specs.Lister.{BytesListed};
 
-use listing::Listed;
+use rules::Refusal;
 use std::io::Write;
 
 // "2,976 bytes" of edition 2, and one byte more, which shows that there are too many.
@@ -18,7 +18,7 @@ const TEXT: usize = 704;
 const VERDICT: &str = "/dev/fd/3";
 
 // Lists the table that the bytes are. Other bytes are no table's, and their words are none, which is a wrong length.
-fn list_bytes(bytes: &[u8], text: &mut [u8]) -> Listed
+fn list_bytes(bytes: &[u8], text: &mut [u8]) -> Result<u32, Refusal>
     ensures { BytesListed bytes.now text.old result text.new }
 {
     let mut words = [0u32; records::TABLE_SIZE_TWO];
@@ -28,12 +28,12 @@ fn list_bytes(bytes: &[u8], text: &mut [u8]) -> Listed
 
 // A line of two numbers: the refusal, and of how many bytes: a listing's, or, where their number is refused, those that came.
 // Nothing waits for it where the descriptor is closed.
-fn verdict(rt: &HostRuntime, listed: Listed, came: usize) {
-    let refusal = listed.refusal;
-    let length = if refusal == rules::WRONG_LENGTH {
-        came
-    } else {
-        listed.length as usize
+fn verdict(rt: &HostRuntime, listed: Result<u32, Refusal>, came: usize) {
+    let refusal = rules::refusal_number(listed);
+    let length = match listed {
+        Ok(length) => length as usize,
+        Err(Refusal::WrongLength) => came,
+        Err(_) => 0,
     };
     if let Some(mut told) = streams::to_write(rt, VERDICT) {
         let _ = writeln!(told, "{refusal} {length}");
@@ -45,7 +45,7 @@ fn main(rt: HostRuntime) {
     let mut text = [0u8; TEXT];
     let came = streams::read_full(&mut rt.stdin(), &mut input);
     let listed = list_bytes(&input[..came], &mut text);
-    let length = listed.length as usize;
+    let length = listed.unwrap_or(0) as usize;
     if rt.write_all(&text[..length]).is_ok() {
         verdict(&rt, listed, came);
     }
