@@ -8,6 +8,7 @@ ghost use Rattle.lines.specs.Lines.{printed};
 ghost use Rattle.texts.specs.Texts.{Wrote};
 ghost use Rattle.std.specs.Prelude.{[], ◌∷◌};
 
+use rules::Refusal;
 use std::io;
 use std::io::Write;
 use texts::Writer;
@@ -53,23 +54,30 @@ fn put_entries(out: &mut Writer, places: &[u32], count: u32)
 // for it where the descriptor is closed.
 fn verdict(
     rt: &HostRuntime,
-    first: u32,
-    second: u32,
-    refusal: u32,
-    count: u32,
+    first: Result<(), Refusal>,
+    second: Result<(), Refusal>,
+    compared: Result<u32, Refusal>,
     came: usize,
     other: usize,
 ) {
+    let first = rules::refusal_number(first);
+    let second = rules::refusal_number(second);
+    let refusal = rules::refusal_number(compared);
+    let count = compared.unwrap_or(0);
     if let Some(mut told) = streams::to_write(rt, VERDICT) {
         let _ = writeln!(told, "{first} {second} {refusal} {count} {came} {other}");
     }
 }
 
-// The rows on standard output.
+// The rows on standard output: none of tables that are refused.
 fn write_rows(rt: &HostRuntime, a: &[u32], b: &[u32], text: &mut [u8]) -> io::Result<()> {
-    let shown = sidebyside::show(a, b, text);
-    let end = shown.length as usize;
-    rt.write_all(&text[..end.min(text.len())])
+    match sidebyside::show(a, b, text) {
+        Ok(shown) => {
+            let end = shown.length as usize;
+            rt.write_all(&text[..end.min(text.len())])
+        }
+        Err(_) => Ok(()),
+    }
 }
 
 // The entries behind them, likewise.
@@ -86,18 +94,10 @@ fn compare(rt: &HostRuntime, a: &[u32], b: &[u32], came: usize, other: usize) ->
     let mut places = [0u32; PLACES];
     write_rows(rt, a, b, &mut text)?;
     let compared = differences::compare(a, b, &mut places);
-    write_entries(rt, &places, compared.count, &mut text)?;
+    write_entries(rt, &places, compared.unwrap_or(0), &mut text)?;
     let first = differences::refusal_of(a);
     let second = differences::refusal_of(b);
-    verdict(
-        rt,
-        first,
-        second,
-        compared.refusal,
-        compared.count,
-        came,
-        other,
-    );
+    verdict(rt, first, second, compared, came, other);
     Ok(())
 }
 

@@ -41,6 +41,7 @@ fn write_entries(first: &[u32], second: &[u32], places: &mut [u32])
         ≡ sets places.old 0 (entry_words (entries first.now second.now)) }
 {
     let mut at = 0;
+    // by the place, which is an entry's first word: `zip` would give a pair within a pair, and no word fewer
     for (place, old) in first.iter().enumerate() {
         let new = second[place];
         if *old != new {

@@ -26,7 +26,7 @@ pub struct BadLine {
 
 // The line being read: its number, whether it is bad, the fields before the present one and their numbers, the last of them
 // in `high`, and the present number so far, none before its first digit.
-#[derive(Clone, Copy)]
+#[derive(Clone, Copy, Debug, PartialEq, Eq)]
 pub struct Scan {
     pub line: u64,
     pub bad: bool,
@@ -37,7 +37,7 @@ pub struct Scan {
 
 // What reading a chunk from a place on finds: a line's end, with the state for the next line and the place behind the
 // newline; or none, with the state at the chunk's end. No Option or Result: each way bears a state, and neither is a failure.
-#[derive(Clone, Copy)]
+#[derive(Clone, Copy, Debug, PartialEq, Eq)]
 pub enum Progress {
     Ended(Result<Call, BadLine>, Scan, usize),
     More(Scan),

@@ -212,7 +212,8 @@ pub extern "C" fn hub_kernel_listing(table: &[u8], text: &mut [u8]) -> HubKernel
     HubKernelListingReply::from(Err(Refusal::WrongLength))
 }
 
-// A table moved from edition 1 to edition 2, into a second lent slice. The refusal, 0 if it is done.
+// A table moved from edition 1 to edition 2, into a second lent slice. The refusal, 0 if it is done. The two moves stay two functions: C has
+// both, and each hands on another promise; one body for both would take the move as a closure, with that promise as its clause.
 #[unsafe(no_mangle)]
 pub extern "C" fn hub_kernel_move_up(from: &[u8], to: &mut [u8]) -> u32
     ensures { Moved (edge_up from.now (length to.old)) (bytes_of (moved_up (words_from from.now)))

@@ -17,6 +17,9 @@ pub use kinds::{Kind, bears_word};
 pub use modes::Mode;
 pub use services::Service;
 
+// What is read from a call or a table stays a number, here and below: at the C interface each is any 32-bit value, and a word is
+// kept as it came.
+
 // The services.
 pub const BLANK: u32 = 0;
 
@@ -146,16 +149,8 @@ pub fn need(holds: bool, refusal: Refusal) -> Result<(), Refusal>
     if holds { Ok(()) } else { Err(refusal) }
 }
 
-pub const WRONG_LENGTH: u32 = 1;
-
-pub const NOT_WELL_FORMED: u32 = 2;
-
-pub const SHORT_BUFFER: u32 = 8;
-
-pub const OTHER_EDITION: u32 = 13;
-
 // "A call is seven numbers, each any 32-bit value", with M-105 eight: the message's high word.
-#[derive(Clone, Copy)]
+#[derive(Clone, Copy, Debug, PartialEq, Eq)]
 pub struct Call {
     pub service: u32,
     pub caller: u32,
@@ -175,7 +170,8 @@ pub enum Outcome {
     Fail,
 }
 
-// An accepted call carries its outcome; a refused one bears its refusal. "Next is the running task plus 1, or 0." Ahead: how many requests stand before the caller's, where it has to wait at a hub; else 0.
+// An accepted call carries its outcome; a refused one bears its refusal. "Next is the running task plus 1, or 0." Ahead: how many
+// requests stand before the caller's, where it has to wait at a hub; else 0.
 #[derive(Clone, Copy)]
 pub struct Reply {
     pub answer: Result<Outcome, Refusal>,

@@ -14,7 +14,7 @@ use rules::Call;
 // How far the lines of a chunk are answered: all that end in it, with the state behind the chunk and the place behind the
 // text; or those before a place of the chunk, the last number, where the buffer has no room for another line. No Option or Result:
 // each way bears a state, and neither is a failure.
-#[derive(Clone, Copy)]
+#[derive(Clone, Copy, Debug, PartialEq, Eq)]
 pub enum Answered {
     Drained(Scan, usize),
     Full(Scan, usize, usize),
