@@ -1,61 +1,31 @@
--- The numbers of modes and services, by ranges: numbers whose rows are alike, and a service that is none; the kind of a hub asked.
--- Not here: a single number, of which the rules compute the row. Assumes nothing.
-use Prim.Native.Nat.{◌<◌, ◌≤◌, suc, zero, ℕ}
+-- What a row's first test, whether the caller runs, says of the whole row; the kind of a hub asked.
+-- Not here: the other tests, which the rules compute. Assumes nothing.
+use Prim.Native.Nat.{◌≤◌, ℕ}
 use Rattle.lists.proofs.Laws.{bool_case}
 use Rattle.refusals.specs.Lookup.{kind_in}
+use Rattle.rules.proofs.Coded.{need_err, need_ok}
 use Rattle.rules.proofs.Layouts.{Laid, sized}
 use Rattle.rules.proofs.Places.{hub-word}
-use Rattle.rules.specs.Calls.{AddHub, AddTask, Blank, HubRequest, Resume, Sleep, Start, Stop, Suspend, Tick, Unknown, Yield, service_of}
-use Rattle.rules.specs.Refusals.{by_running, good_request, good_wait, mode_of, need, on_task, refusal_for}
+use Rattle.rules.specs.Refusals.{by_running, good_request, need}
+use Rattle.rules.specs.Reply.{code}
 use Rattle.rules.specs.Table.{Layout, State, hub, kind_of, words}
 use Rattle.rules.specs.declared.Call.{Call}
+use Rattle.rules.specs.declared.Refusal.{Refusal}
 use borrow.Author.Tests.{ltb-true}
-use lib.Dec.{eqb, ltb}
-use lib.ListN.{get_or-eq_default, length}
-use mathlib.Core.List.{[], ◌∷◌}
-use mathlib.Core.Path.{◌≡◌, refl}
+use lib.Dec.{ltb}
+use lib.ListN.{length}
+use mathlib.Core.Path.{◌≡◌}
 use native.Mathlib.Nat.{add-zero}
 use native.Mathlib.Omega.{arith}
 
--- W and NW
-pub no_limit : (n ticks : ℕ) → 1 ≤ n → n < 3 → good_wait (mode_of n) ticks ≡ eqb ticks 0
-unfolding good_wait mode_of
-no_limit zero ticks a b = absurd (omega arith)
-no_limit (suc zero) ticks a b = refl
-no_limit (suc (suc zero)) ticks a b = refl
-no_limit (suc (suc (suc n))) ticks a b = absurd (omega arith)
-
--- the services that no other row takes
-pub unknown : (n : ℕ) → 8 ≤ n → (n ≡ 8 → ⊥) → (n ≡ 9 → ⊥) → (n ≡ 10 → ⊥) → service_of n ≡ Unknown
-unfolding service_of
-unknown n low not-8 not-9 not-10 =
-    let past : 11 ≤ n = omega arith in
-    get_or-eq_default (Blank ∷ HubRequest ∷ Start ∷ Stop ∷ Suspend ∷ Resume ∷ Yield ∷ Sleep ∷ Tick ∷ AddTask ∷ AddHub ∷ []) Unknown past
-
 module _ (s : State) (c : Call) where
-  -- 1 to 7
-  pub asks_running : (n : ℕ) → 1 ≤ n → n ≤ 7 → (rest : ℕ) × (refusal_for (service_of n) s c ≡ by_running s c rest)
-  unfolding on_task refusal_for service_of
-  asks_running zero a b = absurd (omega arith)
-  asks_running (suc zero) a b = (_, refl)
-  asks_running (suc (suc zero)) a b = (_, refl)
-  asks_running (suc (suc (suc zero))) a b = (_, refl)
-  asks_running (suc (suc (suc (suc zero)))) a b = (_, refl)
-  asks_running (suc (suc (suc (suc (suc zero))))) a b = (_, refl)
-  asks_running (suc (suc (suc (suc (suc (suc zero)))))) a b = (_, refl)
-  asks_running (suc (suc (suc (suc (suc (suc (suc zero))))))) a b = (_, refl)
-  asks_running (suc (suc (suc (suc (suc (suc (suc (suc n)))))))) a b = absurd (omega arith)
+  pub running_err : (r : Refusal) (rest : ℕ) → code r ≡ by_running s c 0 → code r ≡ by_running s c rest
+  unfolding by_running
+  running_err r rest h = need_err r _ 4 rest h
 
-  -- 2 to 5
-  pub asks_task : (n : ℕ) → 2 ≤ n → n ≤ 5 → refusal_for (service_of n) s c ≡ on_task s c
-  unfolding refusal_for service_of
-  asks_task zero a b = absurd (omega arith)
-  asks_task (suc zero) a b = absurd (omega arith)
-  asks_task (suc (suc zero)) a b = refl
-  asks_task (suc (suc (suc zero))) a b = refl
-  asks_task (suc (suc (suc (suc zero)))) a b = refl
-  asks_task (suc (suc (suc (suc (suc zero))))) a b = refl
-  asks_task (suc (suc (suc (suc (suc (suc n)))))) a b = absurd (omega arith)
+  pub running_ok : (n rest : ℕ) → 0 ≡ by_running s c 0 → n ≡ rest → n ≡ by_running s c rest
+  unfolding by_running
+  running_ok n rest h e = need_ok n _ 3 rest h e
 
 -- a request's tests look at its hub's kind only where the hub is in use, and there the table has it
 pub kind-asked : {ts : ℕ} (L : Layout) (s : State) → Laid ts L → length s.hubs ≤ 16 → (c : Call)

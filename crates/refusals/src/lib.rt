@@ -9,13 +9,13 @@ ghost use Rattle.refusals.specs.Lookup.{found_hub, hubs_in, kind_in, next_number
 ghost use Rattle.rules.proofs.Layouts.{Laid};
 ghost use Rattle.rules.proofs.Valid.{Listed, Room, Valid};
 ghost use Rattle.rules.specs.Lists.{next};
-ghost use Rattle.rules.specs.Refusals.{good_hub, good_message, good_request, good_wait, last_side, mode_of, need, on_table, refusal, refusal_at};
+ghost use Rattle.rules.specs.Refusals.{by_running, good_hub, good_message, good_request, good_wait, last_side, mode_of, need, on_table, refusal, refusal_at};
 ghost use Rattle.rules.specs.Reply.{refusal_number};
 ghost use Rattle.rules.specs.Table.{Layout, State, kind_of, words};
 ghost use Rattle.rules.specs.WellFormed.{within};
 
 use records::{HubNo, TaskNo};
-use rules::{Call, Refusal};
+use rules::{Call, Kind, Mode, Refusal, Service};
 
 // "Length isn't 600 words", "not well formed": a table of words, before anything else is asked of it.
 pub fn for_table(t: &[u32], ts: usize) -> Result<(), Refusal>
@@ -104,13 +104,16 @@ fn good_ticks(ticks: u32) -> bool
 }
 
 // "mode 1 W, 2 NW, 3 WT with ticks"
+#[tactic(auto, unfolding(rules::specs::Refusals::good_wait))]
 fn good_wait(mode: u32, ticks: u32) -> bool
     ensures { result ≡ good_wait (mode_of mode) ticks }
 {
+    let Some(mode) = Mode::of(mode) else {
+        return false;
+    };
     match mode {
-        rules::W | rules::NW => ticks == 0,
-        rules::WT => good_ticks(ticks),
-        _ => false,
+        Mode::W | Mode::Nw => ticks == 0,
+        Mode::Wt => good_ticks(ticks),
     }
 }
 
@@ -118,7 +121,7 @@ fn good_wait(mode: u32, ticks: u32) -> bool
 fn last_side(kind: u32) -> u32
     ensures { result ≡ last_side (kind_of kind) }
 {
-    if kind == rules::BOARD {
+    if Kind::of(kind) == Some(Kind::Board) {
         rules::WIPE
     } else {
         rules::GET
@@ -133,17 +136,19 @@ fn good_request(kind: u32, c: Call) -> bool
 }
 
 // The kinds table: limit and start.
+#[tactic(auto, unfolding(rules::specs::Refusals::good_hub))]
 fn good_hub(kind: u32, limit: u32, start: u32) -> bool
     ensures { result ≡ good_hub (kind_of kind) limit start }
 {
+    let Some(kind) = Kind::of(kind) else {
+        return false;
+    };
     match kind {
-        rules::EVENT | rules::RESOURCE => (limit == 1) & (start == 0),
-        rules::SEMAPHORE => ((1 <= limit) & (limit <= rules::MOST_COUNT)) & (start <= limit),
-        rules::PORT => (limit == 0) & (start == 0),
-        rules::FIFO => ((1 <= limit) & (limit <= rules::MOST_HELD)) & (start == 0),
-        rules::BOARD => (limit == 1) & (start == 0),
-        rules::MEMORY => ((1 <= limit) & (limit <= rules::MOST_HELD)) & (start == limit),
-        _ => false,
+        Kind::Event | Kind::Resource | Kind::Board => (limit == 1) & (start == 0),
+        Kind::Semaphore => ((1 <= limit) & (limit <= rules::MOST_COUNT)) & (start <= limit),
+        Kind::Port => (limit == 0) & (start == 0),
+        Kind::Fifo => ((1 <= limit) & (limit <= rules::MOST_HELD)) & (start == 0),
+        Kind::Memory => ((1 <= limit) & (limit <= rules::MOST_HELD)) & (start == limit),
     }
 }
 
@@ -200,38 +205,45 @@ fn for_add_hub(t: &[u32], c: Call) -> Result<(), Refusal>
     )
 }
 
-// "services 1 to 7: caller isn't the running task". What a Yield asks besides is nothing.
-fn for_caller(t: &[u32], ts: usize, c: Call) -> Result<(), Refusal>
+// "services 1 to 7: caller isn't the running task"
+#[tactic(auto, unfolding(rules::specs::Refusals::by_running))]
+fn by_running(t: &[u32], ts: usize, c: Call) -> Result<(), Refusal>
     requires le_ts { 8 ≤ ts }
     requires ts_bound { ts ≤ 9 }
-    ensures { 1 ≤ c.service → c.service ≤ 7
-        → (L : Layout) (s : State) → Laid ts L → Room s → Listed s → t.now ≡ words L s
-        → refusal_number result ≡ refusal s c }
+    ensures { (L : Layout) (s : State) → Laid ts L → Room s → Listed s → t.now ≡ words L s
+        → refusal_number result ≡ by_running s c 0 }
 {
-    rules::need(is_running(t, ts, c.caller), Refusal::NotRunning)?;
-    let service = c.service;
-    match service {
-        rules::HUB_REQUEST => for_request(t, ts, c),
-        rules::YIELD => Ok(()),
-        rules::SLEEP => for_sleep(c),
-        _ => for_task(t, c),
-    }
+    rules::need(is_running(t, ts, c.caller), Refusal::NotRunning)
 }
 
-// Document 01's tests of a call on a table that is well formed. Blank and Tick are never refused here.
+// Document 01's tests of a call on a table that is well formed, by service, each row's in the order of their numbers. Blank and
+// Tick are never refused here.
 fn by_service(t: &[u32], ts: usize, c: Call) -> Result<(), Refusal>
     requires le_ts { 8 ≤ ts }
     requires ts_bound { ts ≤ 9 }
     ensures { (L : Layout) (s : State) → Laid ts L → Valid s → Room s → t.now ≡ words L s
         → refusal_number result ≡ refusal s c }
 {
-    let service = c.service;
+    let Some(service) = Service::of(c.service) else {
+        return Err(Refusal::UnknownService);
+    };
     match service {
-        rules::BLANK | rules::TICK => Ok(()),
-        rules::ADD_TASK => for_add_task(t, c),
-        rules::ADD_HUB => for_add_hub(t, c),
-        rules::HUB_REQUEST..=rules::SLEEP => for_caller(t, ts, c),
-        _ => Err(Refusal::UnknownService),
+        Service::Blank | Service::Tick => Ok(()),
+        Service::HubRequest => {
+            by_running(t, ts, c)?;
+            for_request(t, ts, c)
+        }
+        Service::Start | Service::Stop | Service::Suspend | Service::Resume => {
+            by_running(t, ts, c)?;
+            for_task(t, c)
+        }
+        Service::Yield => by_running(t, ts, c),
+        Service::Sleep => {
+            by_running(t, ts, c)?;
+            for_sleep(c)
+        }
+        Service::AddTask => for_add_task(t, c),
+        Service::AddHub => for_add_hub(t, c),
     }
 }
 
@@ -240,7 +252,8 @@ fn good_message(ts: usize, c: Call) -> bool
     requires { 8 ≤ ts }
     ensures { (L : Layout) → Laid ts L → result ≡ good_message L c }
 {
-    (c.service != rules::HUB_REQUEST) | ((2 <= records::width_of(ts)) | (c.high == 0))
+    (Service::of(c.service) != Some(Service::HubRequest))
+        | ((2 <= records::width_of(ts)) | (c.high == 0))
 }
 
 // A call on a table that is well formed: refused, or not.

@@ -1,10 +1,18 @@
--- `refusals::last_side` meets its contract. Assumes nothing.
+-- `refusals::last_side` meets its contract: the kind compared by name is compared by its number. Assumes nothing.
+use Rattle.rules.proofs.KindNumbers.{same_kind}
 use Rattle.rules.proofs.Numbers.{last_side_lem}
-use borrow.Author.Tests.{eq-eqb, ne_eqb}
+use Rattle.rules.specs.declared.kinds.Kind.TheVariants.{Board}
+use lib.Dec.{eqb}
+use mathlib.Core.Bool.{false, true}
+use mathlib.Core.Path.{◌∙◌, ◌≡◌, refl, sym}
 use Rattle.refusals.proofs.last_side.Goals as goal
 
-pub returns-then-kind-eq-BOARD : goal.returns-then-kind-eq-BOARD
-returns-then-kind-eq-BOARD c = rw (last_side_lem c.args.kind, eq-eqb c.args.kind 6 c.if-kind-eq-BOARD.true)
+pub returns-then-eq : goal.returns-then-eq
+returns-then-eq c =
+    let board : eqb c.args.kind 6 ≡ true = sym (same_kind c.of.result Board c.args.kind c.of.ensures) ∙ sym c.eq.ensures ∙ c.if-eq.true in
+    rw (last_side_lem c.args.kind, board) refl
 
-pub returns-else-kind-eq-BOARD : goal.returns-else-kind-eq-BOARD
-returns-else-kind-eq-BOARD c = rw (last_side_lem c.args.kind, ne_eqb c.args.kind 6 c.if-kind-eq-BOARD.false)
+pub returns-else-eq : goal.returns-else-eq
+returns-else-eq c =
+    let other : eqb c.args.kind 6 ≡ false = sym (same_kind c.of.result Board c.args.kind c.of.ensures) ∙ sym c.eq.ensures ∙ c.if-eq.false in
+    rw (last_side_lem c.args.kind, other) refl
