@@ -1,8 +1,7 @@
 -- Who owns a hub, as the code reads it; and the states in between, as the locks pass on one after the other. Assumes nothing.
-use Prim.Native.Nat.{◌*◌, ◌+◌, ◌-◌, ◌<◌, ◌≤◌, pred, suc, zero, ℕ}
+use Prim.Native.Nat.{◌*◌, ◌+◌, ◌<◌, ◌≤◌, suc, ℕ}
 use Rattle.moves.proofs.Laws.{hub-number, waiter_in}
-use Rattle.records.proofs.Laws.{first_some}
-use Rattle.records.specs.Records.{first, hub_at, hubs_at as hubs_from}
+use Rattle.records.specs.Records.{hub_at, hubs_at as hubs_from}
 use Rattle.rules.proofs.Changes.{length-set_hub}
 use Rattle.rules.proofs.Handed.{one_none, one-some}
 use Rattle.rules.proofs.Hubs.{many_pass}
@@ -19,8 +18,8 @@ use Rattle.rules.specs.Table.{Layout, State, hub, hubs_at, owns, set_hub, words}
 use lib.Dec.{eqb}
 use lib.ListN.{get_or, length, set}
 use mathlib.Core.Bool.{◌&&◌, true}
-use mathlib.Core.Option.{some}
-use mathlib.Core.Path.{◌∙◌, ◌≡◌, ap, refl, sym}
+use mathlib.Core.Option.{none, some}
+use mathlib.Core.Path.{◌∙◌, ◌≡◌, ap, sym}
 use native.Mathlib.Nat.{add-zero}
 use native.Mathlib.Numerals.{add-one}
 use native.Mathlib.Omega.{arith}
@@ -40,25 +39,16 @@ count_set L s y h n low used =
     ap (λ (z : State). set (words L z) (hubs_at L + h * 4 + 1) n) (sym (same_hub s h))
     ∙ set-count L (sized y) s h low used (hub s h).count n (hub s h).held (hub s h)
 
-module _ (key : ℕ → ℕ) (i h : ℕ) (s : State) (n : ℕ) (o : owns i (hub s h) ≡ true) (q : first n ≡ heir s h) where
-  pub passed-some : (n ≡ 0 → ⊥) → wake key (n - 1) 1 0 (hold h n (hub s h).held s) ≡ pass_one key i h s
-  unfolding first
-  passed-some z = go n q z
-    where
-      go : (n : ℕ) → first n ≡ heir s h → (n ≡ 0 → ⊥) → wake key (n - 1) 1 0 (hold h n (hub s h).held s) ≡ pass_one key i h s
-      go zero q z = absurd (z refl)
-      go (suc w) q z = let e : suc w - 1 ≡ w = omega arith in rw e (sym (one-some key i h s o w (sym q)))
+module _ (key : ℕ → ℕ) (i h : ℕ) (s : State) (o : owns i (hub s h) ≡ true) where
+  pub passed-some : (n w : ℕ) → n ≡ suc w → heir s h ≡ some w → wake key w 1 0 (hold h n (hub s h).held s) ≡ pass_one key i h s
+  passed-some n w is q = rw is (sym (one-some key i h s o w q))
 
-  pub passed_none : n ≡ 0 → hold h n (hub s h).held s ≡ pass_one key i h s
-  unfolding first
-  passed_none z = rw z (sym (one_none key i h s o (sym (rw z at q))))
+  pub passed_none : heir s h ≡ none → hold h 0 (hub s h).held s ≡ pass_one key i h s
+  passed_none q = sym (one_none key i h s o q)
 
 -- the first waiter is in use
-pub heir-used : (s : State) → Sound s → (h n : ℕ) → first n ≡ heir s h → (n ≡ 0 → ⊥) → n - 1 < length s.tasks
-heir-used s sound h n q z =
-    let f : heir s h ≡ some (pred n) = sym q ∙ first_some n z in
-    let e : n - 1 ≡ pred n = omega arith in
-    rw e (waiter_in s sound.listed h (pred n) (first-waits s 2 (hub s h).waiters (pred n) f).0)
+pub heir-used : (s : State) → Sound s → (h w : ℕ) → heir s h ≡ some w → w < length s.tasks
+heir-used s sound h w q = waiter_in s sound.listed h w (first-waits s 2 (hub s h).waiters w q).0
 
 pub sound_hold : (h n : ℕ) (s : State) → Sound s → Sound (hold h n (hub s h).held s)
 sound_hold h n s sound = record {

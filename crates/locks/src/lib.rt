@@ -28,7 +28,7 @@ fn is_owner(t: &[u32], ts: usize, i: TaskNo, h: HubNo) -> bool
 }
 
 // Hub h, where task i owns it: "passes ... to that hub's first waiter, who is met, or becomes free" (M-101). The count is the
-// new owner plus 1, or 0, as the waiter's number is.
+// new owner plus 1, or 0: the entry that names it.
 fn pass_one(t: &mut [u32], ts: usize, keys: &[u32], i: TaskNo, h: HubNo)
     requires table { Table ts t.old }
     requires i_bound { i.0 < 16 }
@@ -40,10 +40,14 @@ fn pass_one(t: &mut [u32], ts: usize, keys: &[u32], i: TaskNo, h: HubNo)
     if !is_owner(t, ts, i, h) {
         return;
     }
-    let waiter = moves::first_waiter(t, ts, h, rules::GET);
-    records::set_count(t, records::hubs_at(ts), h, waiter);
-    if 1 <= waiter && waiter <= 16 {
-        moves::wake_task(t, ts, keys, TaskNo(waiter as usize - 1), rules::OK, 0);
+    match moves::first_waiter(t, ts, h, rules::GET) {
+        Some(waiter) => {
+            records::set_count(t, records::hubs_at(ts), h, records::entry_of(waiter));
+            if waiter.0 < 16 {
+                moves::wake_task(t, ts, keys, waiter, rules::OK, 0);
+            }
+        }
+        None => records::set_count(t, records::hubs_at(ts), h, 0),
     }
 }
 

@@ -6,7 +6,8 @@
 ghost use Rattle.std.specs.Prelude.{◌*◌, ◌+◌, ◌<◌, ◌≤◌, length, ◌≡◌};
 ghost use Rattle.messages.specs.Messages.{messages};
 ghost use Rattle.moves.specs.Moves.{IsList, JoinsHub, JoinsReady, ListedBy, TaskHeld, key_of, list_at, task_of};
-ghost use Rattle.records.specs.Records.{Table, first, width};
+ghost use Rattle.records.specs.Entries.{Low, numbered};
+ghost use Rattle.records.specs.Records.{Table, width};
 ghost use Rattle.rules.proofs.Layouts.{Laid};
 ghost use Rattle.rules.proofs.Valid.{Sound, Stands, Waits};
 ghost use Rattle.rules.specs.Lists.{answer, first_waiting, leave, queued, readied, wake};
@@ -79,21 +80,18 @@ pub fn set_task(t: &mut [u32], ts: usize, i: TaskNo, x: TaskRecord)
     records::set_task(t, ts, i, x);
 }
 
-// The first task that waits at hub h on this side, plus 1, or 0. One list holds one side only, so its first entry tells.
-// No Option: a Resource's count is stored as this number stands, and the contract reads it by `first`.
-pub fn first_waiter(t: &[u32], ts: usize, h: HubNo, side: u32) -> u32
+// The first task that waits at hub h on this side, if there is one. One list holds one side only, so its first entry tells.
+pub fn first_waiter(t: &[u32], ts: usize, h: HubNo, side: u32) -> Option<TaskNo>
     requires table { Table ts t.now }
     requires h_bound { h.0 < 16 }
-    ensures { (L : Layout) (s : State) → Laid ts L → Sound s → Waits s → h.0 < length s.hubs
+    ensures value { (L : Layout) (s : State) → Laid ts L → Sound s → Waits s → h.0 < length s.hubs
         → t.now ≡ words L s
-        → first result ≡ first_waiting s side (hub s h.0).waiters }
+        → numbered result ≡ first_waiting s side (hub s h.0).waiters }
+    ensures low { Low result }
 {
-    let e = lists::word(t, records::waits_at(ts, h));
-    if e == 0 {
-        return 0;
-    }
-    let x = task_at(t, ts, TaskNo((e - 1) as usize));
-    if x.side == side { e } else { 0 }
+    let i = records::entry(lists::word(t, records::waits_at(ts, h)))?;
+    let x = task_at(t, ts, i);
+    if x.side == side { Some(i) } else { None }
 }
 
 // The list in which a task with this record stands: a ready task in the ready list, a waiting one in the list of its hub, any

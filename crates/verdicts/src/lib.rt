@@ -47,7 +47,7 @@ fn judge_block(t: &[u32], ts: usize, x: HubRecord, c: Call) -> Verdict
 {
     let h = HubNo(c.target as usize);
     if c.side == rules::PUT {
-        let waiter = records::entry(moves::first_waiter(t, ts, h, rules::GET));
+        let waiter = moves::first_waiter(t, ts, h, rules::GET);
         let block = messages::joined(c.word, c.high);
         let out = stores::is_out(t, ts, h, block);
         return hubtable::put_memory(x, waiter, block, out);
@@ -75,10 +75,10 @@ pub fn judge(t: &[u32], ts: usize, c: Call) -> Verdict
         return judge_block(t, ts, x, c);
     }
     if c.side == rules::PUT {
-        let waiter = records::entry(moves::first_waiter(t, ts, h, rules::GET));
+        let waiter = moves::first_waiter(t, ts, h, rules::GET);
         return hubtable::on_put(x, waiter, c.caller, messages::joined(c.word, c.high));
     }
-    let waiter = records::entry(moves::first_waiter(t, ts, h, rules::PUT));
+    let waiter = moves::first_waiter(t, ts, h, rules::PUT);
     let its = word_of(t, ts, waiter);
     let oldest = stores::held_at(t, ts, h, 0);
     hubtable::on_get(x, waiter, its, oldest, c.caller)

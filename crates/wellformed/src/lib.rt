@@ -151,21 +151,6 @@ fn hubs_right(t: &[u32], ts: usize, marks: &mut [u32; 16]) -> bool
     queues_right(t, ts, marks)
 }
 
-// "Inactive: all but state and priority 0."
-fn inactive_right(suspended: u32, hub: u32, ticks: u32, side: u32, word: u64, answer: u32) -> bool
-    ensures { result ≡ (eqb suspended 0
-        && (eqb hub 0 && (eqb ticks 0 && (eqb side 0 && (eqb word 0 && eqb answer 0))))) }
-{
-    (suspended == 0) & ((hub == 0) & ((ticks == 0) & ((side == 0) & ((word == 0) & (answer == 0)))))
-}
-
-// "Sleeping: hub, side, word and answer 0, ticks at least 1."
-fn sleeping_right(hub: u32, ticks: u32, side: u32, word: u64, answer: u32) -> bool
-    ensures { result ≡ (eqb hub 0 && (eqb side 0 && (eqb word 0 && (eqb answer 0 && leb 1 ticks)))) }
-{
-    (hub == 0) & ((side == 0) & ((word == 0) & ((answer == 0) & (1 <= ticks))))
-}
-
 // "Waiting: hub in use, side 1 or 2, answer 0, word 0 unless it puts to a Port or FIFO." A put to a Board or a Memory hub bears a
 // word too, but its list refuses it: nobody waits to put there.
 fn waiting_right(t: &[u32], ts: usize, hub: u32, side: u32, word: u64, answer: u32) -> bool
@@ -269,8 +254,17 @@ fn idle_right(x: &[u32], ts: usize, mark: u32) -> bool
         return false;
     }
     match x[STATE] {
-        rules::INACTIVE => inactive_right(suspended, hub, ticks, side, word, answer) & (mark == 0),
-        rules::SLEEPING => sleeping_right(hub, ticks, side, word, answer) & (mark == 0),
+        // "Inactive: all but state and priority 0."
+        rules::INACTIVE => {
+            ((suspended == 0)
+                & ((hub == 0) & ((ticks == 0) & ((side == 0) & ((word == 0) & (answer == 0))))))
+                & (mark == 0)
+        }
+        // "Sleeping: hub, side, word and answer 0, ticks at least 1."
+        rules::SLEEPING => {
+            ((hub == 0) & ((side == 0) & ((word == 0) & ((answer == 0) & (1 <= ticks)))))
+                & (mark == 0)
+        }
         _ => false,
     }
 }

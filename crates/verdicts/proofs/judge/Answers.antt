@@ -45,9 +45,9 @@ returns-then-c-eq-PUT c =
           let q = asked s g k a in
           let x = hub s k.target in
           let r = c.hub_at-x.ensures L s y g.hubs q.named e in
-          let w = c.entry-waiter.ensures.value ∙ c.first_waiter.ensures L s y (valid_sound s g) g.waits q.named e in
+          let w = c.first_waiter-waiter.ensures.value L s y (valid_sound s g) g.waits q.named e in
           let put = c.if-c-eq-PUT.true in
-          c.on_put.ensures.result_value x s (length s.tasks) r (g.ranges.range k.target q.named) (λ b. n b put) (λ m. eqb-false _ 7 (sym (c.eq.ensures ∙ same_kind c.of.result Memory _ c.of.ensures) ∙ c.if-eq.false) (r.kind ∙ m)) c.entry-waiter.ensures.low
+          c.on_put.ensures.result_value x s (length s.tasks) r (g.ranges.range k.target q.named) (λ b. n b put) (λ m. eqb-false _ 7 (sym (c.eq.ensures ∙ same_kind c.of.result Memory _ c.of.ensures) ∙ c.if-eq.false) (r.kind ∙ m)) c.first_waiter-waiter.ensures.low
           ∙ rw (w, put, c.joined.ensures) refl;
     }
 
@@ -61,7 +61,7 @@ returns c =
           let q = asked s g k a in
           let x = hub s k.target in
           let r = c.hub_at-x.ensures L s y g.hubs q.named e in
-          let w = c.entry-waiter-2.ensures.value ∙ c.first_waiter-2.ensures L s y (valid_sound s g) g.waits q.named e in
+          let w = c.first_waiter-waiter-2.ensures.value L s y (valid_sound s g) g.waits q.named e in
           let get : k.side ≡ 2 = ⊎_elim (λ p. absurd (c.if-c-eq-PUT.false p)) (λ z. ⊎_elim (λ p. p) (λ p. absurd (c.if-c-eq-WIPE.false p.0)) z) q.side in
           c.on_get.ensures.result_value x s (length s.tasks) r (g.ranges.range k.target q.named) (g.ranges.held k.target q.named) (λ m. eqb-false _ 7 (sym (c.eq.ensures ∙ same_kind c.of.result Memory _ c.of.ensures) ∙ c.if-eq.false) (r.kind ∙ m))
           (λ i p. c.word_of-its.ensures.value L s i y g.tasks e p (first-used s g k a 1 i (sym w ∙ p))) (c.held_at-oldest.ensures.value L s y q.named e)

@@ -20,7 +20,7 @@ returns-then-c-eq-PUT c =
           let q = asked s g d a in
           let x = hub s d.target in
           let memory : kind_of x.kind ≡ Memory = ap kind_of k in
-          let w = c.entry-waiter.ensures.value ∙ c.first_waiter.ensures L s y (valid_sound s g) g.waits q.named e in
+          let w = c.first_waiter-waiter.ensures.value L s y (valid_sound s g) g.waits q.named e in
           let out = c.is_out-out.ensures L s y q.named (held_few s g d a) e in
           c.put_memory.ensures.result_value x (length s.tasks) r (rw memory at (range s g d a)) (rw memory at (held s g d a)) out
           ∙ rw (w, c.if-c-eq-PUT.true, c.joined-block.ensures, memory) refl;

@@ -32,14 +32,14 @@ pub returns-in-1 : goal.returns-in-1
 unfolding stage_of stage_right
 returns-in-1 c L s y =
     rw
-    (c.inactive_right.ensures, word-is c.args.ts c.args.x.now L y _ _ c.width_of.ensures c.message-word.ensures.value, answer_last L y c.args.x.now)
+    (word-is c.args.ts c.args.x.now L y _ _ c.width_of.ensures c.message-word.ensures.value, answer_last L y c.args.x.now)
     (sym (record_stage s (record_of L c.args.x.now) c.args.mark (sym (ranges-are c.args.ts c.args.x.now L y) ∙ c.if-not-suspended-x.false) 1 c.in-1.is))
 
 pub returns-in-4 : goal.returns-in-4
 unfolding stage_of stage_right
 returns-in-4 c L s y =
     rw
-    (c.sleeping_right.ensures, word-is c.args.ts c.args.x.now L y _ _ c.width_of.ensures c.message-word.ensures.value, answer_last L y c.args.x.now)
+    (word-is c.args.ts c.args.x.now L y _ _ c.width_of.ensures c.message-word.ensures.value, answer_last L y c.args.x.now)
     (sym (record_stage s (record_of L c.args.x.now) c.args.mark (sym (ranges-are c.args.ts c.args.x.now L y) ∙ c.if-not-suspended-x.false) 4 c.in-4.is))
 
 pub returns-in_default : goal.returns-in_default
