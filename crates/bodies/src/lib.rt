@@ -12,15 +12,21 @@ ghost use Rattle.rules.proofs.Layouts.{Laid};
 ghost use Rattle.rules.specs.Table.{Layout, store_part};
 ghost use Rattle.rules.specs.WellFormed.{contents_right, for_all, unused_zero, within, zero_from};
 
-use records::{
-    COUNT, HUB_SIZE, HUBS, HubNo, LIMIT, MOST_RECORDS, START, STATE, TASKS, TASKS_AT, TaskNo,
-};
+use records::{COUNT, HUB_SIZE, HUBS, HubNo, LIMIT, MOST_RECORDS, START, STATE, TASKS, TASKS_AT, TaskNo, TaskSize};
 use rules::Kind;
 
+// A table of an edition whose counts are right, so that every place that is read is in it.
+#[derive(Clone, Copy, Debug)]
+pub struct Counted<'a> {
+    pub words: &'a [u32],
+    pub ts: TaskSize,
+    pub ghost used: { Used ts.words words.now },
+}
+
 // "contents: edition 1, tasks T, hubs H, then where each body starts"; the edition is how many words a message has
-pub fn contents_right(t: &[u32], ts: usize) -> bool
-    requires { Table ts t.now }
-    ensures { (L : Layout) → Laid ts L → result ≡ contents_right L t.now }
+pub fn contents_right(t: &[u32], ts: TaskSize) -> bool
+    requires { Table ts.words t.now }
+    ensures { (L : Layout) → Laid ts.words L → result ≡ contents_right L t.now }
 {
     (t[0] == records::width_of(ts) as u32)
         & ((t[TASKS] <= MOST_RECORDS)
@@ -41,36 +47,34 @@ fn zero_from(t: &[u32], a: usize, b: usize) -> bool
 }
 
 // "Everything unused is 0"
-pub fn unused_zero(t: &[u32], ts: usize) -> bool
-    requires { Used ts t.now }
-    ensures { (L : Layout) → Laid ts L → result ≡ unused_zero L t.now }
+pub fn unused_zero(t: &Counted<'_>) -> bool
+    ensures { (L : Layout) → Laid t.now.ts.words L → result ≡ unused_zero L t.now.words.now }
 {
-    let n = t[TASKS] as usize;
-    let m = t[HUBS] as usize;
-    let hubs = records::hubs_at(ts);
-    let stores = records::stores_at(ts);
-    zero_from(t, TASKS_AT + n * ts, hubs)
-        & (zero_from(t, hubs + m * HUB_SIZE, records::ready_at(ts))
-            & (zero_from(t, records::waits_at(ts, HubNo(m)), stores)
+    let n = t.words[TASKS] as usize;
+    let m = t.words[HUBS] as usize;
+    let hubs = records::hubs_at(t.ts);
+    let stores = records::stores_at(t.ts);
+    zero_from(t.words, TASKS_AT + n * t.ts.words, hubs)
+        & (zero_from(t.words, hubs + m * HUB_SIZE, records::ready_at(t.ts))
+            & (zero_from(t.words, records::waits_at(t.ts, HubNo(m)), stores)
                 & zero_from(
-                    t,
-                    stores + m * records::store_size(ts),
-                    records::table_size(ts),
+                    t.words,
+                    stores + m * records::store_size(t.ts),
+                    records::table_size(t.ts),
                 )))
 }
 
 // The marks of hub h's blocks, as many as its limit: each 0 or 1, and count of them 0.
-fn marks_right(t: &[u32], ts: usize, h: usize, count: u32, limit: u32) -> bool
-    requires used { Used ts t.now }
-    requires h_bound { h < get_or t.now 2 0 }
+fn marks_right(t: &Counted<'_>, h: usize, count: u32, limit: u32) -> bool
+    requires h_bound { h < get_or t.now.words.now 2 0 }
     requires limit_bound { limit ≤ 8 }
-    ensures { (L : Layout) → Laid ts L → result ≡ marks_test L t.now h count limit }
+    ensures { (L : Layout) → Laid t.now.ts.words L → result ≡ marks_test L t.now.words.now h count limit }
 {
-    let v = records::width_of(ts);
-    let at = records::store_at(ts, HubNo(h));
+    let v = records::width_of(t.ts);
+    let at = records::store_at(t.ts, HubNo(h));
     let mut free = 0;
     for b in 0..limit as usize {
-        let m = messages::message(t, at + b * v, v);
+        let m = messages::message(t.words, at + b * v, v);
         if 1 < m {
             return false;
         }
@@ -80,31 +84,29 @@ fn marks_right(t: &[u32], ts: usize, h: usize, count: u32, limit: u32) -> bool
 }
 
 // Memory: "limit 1 to 8 blocks numbered from 0, start = limit, count = free blocks".
-fn memory_right(t: &[u32], ts: usize, h: usize, count: u32, limit: u32, start: u32) -> bool
-    requires used { Used ts t.now }
-    requires h_bound { h < get_or t.now 2 0 }
-    ensures { (L : Layout) → Laid ts L
-        → result ≡ (within 1 8 limit && (eqb start limit && marks_test L t.now h count limit)) }
+fn memory_right(t: &Counted<'_>, h: usize, count: u32, limit: u32, start: u32) -> bool
+    requires h_bound { h < get_or t.now.words.now 2 0 }
+    ensures { (L : Layout) → Laid t.now.ts.words L
+        → result ≡ (within 1 8 limit && (eqb start limit && marks_test L t.now.words.now h count limit)) }
 {
     if (1 <= limit) & (limit <= rules::MOST_HELD) {
         if start == limit {
-            return marks_right(t, ts, h, count, limit);
+            return marks_right(t, h, count, limit);
         }
     }
     false
 }
 
 // The kinds table: count, limit and start of hub h.
-fn kind_right(t: &[u32], ts: usize, h: usize) -> bool
-    requires used { Used ts t.now }
-    requires h_bound { h < get_or t.now 2 0 }
-    ensures { (L : Layout) → Laid ts L → result ≡ kind_test L t.now h }
+fn kind_right(t: &Counted<'_>, h: usize) -> bool
+    requires h_bound { h < get_or t.now.words.now 2 0 }
+    ensures { (L : Layout) → Laid t.now.ts.words L → result ≡ kind_test L t.now.words.now h }
 {
-    let b = records::hubs_at(ts) + h * HUB_SIZE;
-    let count = t[b + COUNT];
-    let limit = t[b + LIMIT];
-    let start = t[b + START];
-    let Some(kind) = Kind::of(t[b]) else {
+    let b = records::hubs_at(t.ts) + h * HUB_SIZE;
+    let count = t.words[b + COUNT];
+    let limit = t.words[b + LIMIT];
+    let start = t.words[b + START];
+    let Some(kind) = Kind::of(t.words[b]) else {
         return false;
     };
     match kind {
@@ -114,47 +116,44 @@ fn kind_right(t: &[u32], ts: usize, h: usize) -> bool
         Kind::Port => (count == 0) & ((limit == 0) & (start == 0)),
         Kind::Fifo => (count <= limit)
             & (((1 <= limit) & (limit <= rules::MOST_HELD)) & (start == 0)),
-        Kind::Resource => (count <= t[TASKS]) & ((limit == 1) & (start == 0)),
-        Kind::Memory => memory_right(t, ts, h, count, limit, start),
+        Kind::Resource => (count <= t.words[TASKS]) & ((limit == 1) & (start == 0)),
+        Kind::Memory => memory_right(t, h, count, limit, start),
     }
 }
 
 // "A FIFO's store holds its words, oldest first, then zeros. Other stores are 0." A Board's: "the word in its store's first
 // place", else 0. A Memory hub's: its marks, "the rest 0". So each is 0 behind the messages that it holds.
-fn store_right(t: &[u32], ts: usize, h: usize) -> bool
-    requires used { Used ts t.now }
-    requires h_bound { h < get_or t.now 2 0 }
-    requires h_value { (L : Layout) → Laid ts L → kind_test L t.now h ≡ true }
-    ensures { (L : Layout) → Laid ts L → result ≡ store_test L t.now h }
+fn store_right(t: &Counted<'_>, h: usize) -> bool
+    requires h_bound { h < get_or t.now.words.now 2 0 }
+    requires h_value { (L : Layout) → Laid t.now.ts.words L → kind_test L t.now.words.now h ≡ true }
+    ensures { (L : Layout) → Laid t.now.ts.words L → result ≡ store_test L t.now.words.now h }
 {
-    let at = records::store_at(ts, HubNo(h));
-    let store = &t[at..at + records::store_size(ts)];
-    let b = records::hubs_at(ts) + h * HUB_SIZE;
-    let n = rules::stored(t[b], t[b + COUNT], t[b + LIMIT]) as usize;
-    lists::zeros(&store[n * records::width_of(ts)..])
+    let at = records::store_at(t.ts, HubNo(h));
+    let store = &t.words[at..at + records::store_size(t.ts)];
+    let b = records::hubs_at(t.ts) + h * HUB_SIZE;
+    let n = rules::stored(t.words[b], t.words[b + COUNT], t.words[b + LIMIT]) as usize;
+    lists::zeros(&store[n * records::width_of(t.ts)..])
 }
 
 // Hub h's store is nothing but zeros.
-fn store_blank(t: &[u32], ts: usize, h: usize) -> bool
-    requires used { Used ts t.now }
-    requires h_bound { h < get_or t.now 2 0 }
-    ensures { (L : Layout) → Laid ts L → result ≡ all_zero (store_part L t.now h) }
+fn store_blank(t: &Counted<'_>, h: usize) -> bool
+    requires h_bound { h < get_or t.now.words.now 2 0 }
+    ensures { (L : Layout) → Laid t.now.ts.words L → result ≡ all_zero (store_part L t.now.words.now h) }
 {
-    let at = records::store_at(ts, HubNo(h));
-    lists::zeros(&t[at..at + records::store_size(ts)])
+    let at = records::store_at(t.ts, HubNo(h));
+    lists::zeros(&t.words[at..at + records::store_size(t.ts)])
 }
 
 // Most stores are blank, which is right at every kind: only of the others the kind and the count are asked for.
-fn store_sound(t: &[u32], ts: usize, h: usize) -> bool
-    requires used { Used ts t.now }
-    requires h_bound { h < get_or t.now 2 0 }
-    requires h_value { (L : Layout) → Laid ts L → kind_test L t.now h ≡ true }
-    ensures { (L : Layout) → Laid ts L → result ≡ store_test L t.now h }
+fn store_sound(t: &Counted<'_>, h: usize) -> bool
+    requires h_bound { h < get_or t.now.words.now 2 0 }
+    requires h_value { (L : Layout) → Laid t.now.ts.words L → kind_test L t.now.words.now h ≡ true }
+    ensures { (L : Layout) → Laid t.now.ts.words L → result ≡ store_test L t.now.words.now h }
 {
-    if store_blank(t, ts, h) {
+    if store_blank(t, h) {
         return true;
     }
-    store_right(t, ts, h)
+    store_right(t, h)
 }
 
 // The entry that may not stand in a hub's list.
@@ -169,42 +168,39 @@ pub fn owner_of(kind: u32, count: u32) -> u32
 }
 
 // M-101: hub h is no Resource whose owner is inactive.
-fn owner_right(t: &[u32], ts: usize, h: usize) -> bool
-    requires used { Used ts t.now }
-    requires h_bound { h < get_or t.now 2 0 }
-    ensures { (L : Layout) → Laid ts L → result ≡ owner_test L t.now h }
+fn owner_right(t: &Counted<'_>, h: usize) -> bool
+    requires h_bound { h < get_or t.now.words.now 2 0 }
+    ensures { (L : Layout) → Laid t.now.ts.words L → result ≡ owner_test L t.now.words.now h }
 {
-    let b = records::hubs_at(ts) + h * HUB_SIZE;
-    let owner = owner_of(t[b], t[b + COUNT]);
+    let b = records::hubs_at(t.ts) + h * HUB_SIZE;
+    let owner = owner_of(t.words[b], t.words[b + COUNT]);
     if owner == 0 {
         return true;
     }
-    if owner > t[TASKS] {
+    if owner > t.words[TASKS] {
         return false;
     }
-    t[records::task_at(ts, TaskNo((owner - 1) as usize)) + STATE] != rules::INACTIVE
+    t.words[records::task_at(t.ts, TaskNo((owner - 1) as usize)) + STATE] != rules::INACTIVE
 }
 
 // Hub h but for its list: its record, its store and its owner.
-fn body_right(t: &[u32], ts: usize, h: usize) -> bool
-    requires used { Used ts t.now }
-    requires h_bound { h < get_or t.now 2 0 }
-    ensures { (L : Layout) → Laid ts L → result ≡ body_test L t.now h }
+fn body_right(t: &Counted<'_>, h: usize) -> bool
+    requires h_bound { h < get_or t.now.words.now 2 0 }
+    ensures { (L : Layout) → Laid t.now.ts.words L → result ≡ body_test L t.now.words.now h }
 {
-    if !kind_right(t, ts, h) {
+    if !kind_right(t, h) {
         return false;
     }
-    if !store_sound(t, ts, h) {
+    if !store_sound(t, h) {
         return false;
     }
-    owner_right(t, ts, h)
+    owner_right(t, h)
 }
 
 // All hubs in use, but for their lists.
-pub fn bodies_right(t: &[u32], ts: usize) -> bool
-    requires { Used ts t.now }
-    ensures { (L : Layout) → Laid ts L
-        → result ≡ for_all (get_or t.now 2 0) (body_test L t.now) }
+pub fn bodies_right(t: &Counted<'_>) -> bool
+    ensures { (L : Layout) → Laid t.now.ts.words L
+        → result ≡ for_all (get_or t.now.words.now 2 0) (body_test L t.now.words.now) }
 {
-    (0..t[HUBS] as usize).all(|h| body_right(t, ts, h))
+    (0..t.words[HUBS] as usize).all(|h| body_right(t, h))
 }

@@ -11,13 +11,13 @@ ghost use Rattle.rules.specs.Lists.{counted};
 ghost use Rattle.rules.specs.Table.{Layout, State, set_task, task, words};
 ghost use Rattle.rules.specs.WellFormed.{within};
 
-use records::{TaskNo, TaskRecord};
+use records::{TaskNo, TaskRecord, TaskSize};
 
 // Task i has n ticks left.
-fn set_ticks(t: &mut [u32], ts: usize, i: TaskNo, n: u32)
-    requires table { Table ts t.old }
+fn set_ticks(t: &mut [u32], ts: TaskSize, i: TaskNo, n: u32)
+    requires table { Table ts.words t.old }
     requires i_bound { i.0 < 16 }
-    ensures { (L : Layout) (s : State) → Laid ts L → length s.tasks ≤ 16 → i.0 < length s.tasks
+    ensures { (L : Layout) (s : State) → Laid ts.words L → length s.tasks ≤ 16 → i.0 < length s.tasks
         → t.old ≡ words L s
         → t.new ≡ words L (set_task i.0 (counted n (task s i.0)) s) }
 {
@@ -33,10 +33,10 @@ fn counts_down(x: TaskRecord) -> bool
 }
 
 // "with ticks above 0 loses one. At 0 it leaves its list and becomes ready behind its equals, answer 3, hub, side and word 0."
-fn tick_one(t: &mut [u32], ts: usize, keys: &[u32], i: TaskNo)
-    requires table { Table ts t.old }
+fn tick_one(t: &mut [u32], ts: TaskSize, keys: &[u32], i: TaskNo)
+    requires table { Table ts.words t.old }
     requires i_bound { i.0 < 16 }
-    ensures { (L : Layout) (s : State) → Laid ts L → Sound s → i.0 < length s.tasks
+    ensures { (L : Layout) (s : State) → Laid ts.words L → Sound s → i.0 < length s.tasks
         → t.old ≡ words L s
         → t.new ≡ words L (tick_one (key_of keys.now) i.0 s) }
 {
@@ -52,10 +52,10 @@ fn tick_one(t: &mut [u32], ts: usize, keys: &[u32], i: TaskNo)
 }
 
 // "in task number order"
-pub fn tick(t: &mut [u32], ts: usize, keys: &[u32])
-    requires table { Table ts t.old }
+pub fn tick(t: &mut [u32], ts: TaskSize, keys: &[u32])
+    requires table { Table ts.words t.old }
     requires t_bound { get_or t.old 1 0 ≤ 16 }
-    ensures { (L : Layout) (s : State) → Laid ts L → Sound s → t.old ≡ words L s
+    ensures { (L : Layout) (s : State) → Laid ts.words L → Sound s → t.old ≡ words L s
         → t.new ≡ words L (tick_all (key_of keys.now) (length s.tasks) s) }
 {
     let n = t[records::TASKS] as usize;

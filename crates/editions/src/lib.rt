@@ -14,7 +14,7 @@ ghost use Rattle.rules.specs.Reply.{refusal_number};
 ghost use Rattle.rules.specs.Table.{Layout, State, words};
 ghost use Rattle.std.proofs.lemmas.List.Edits.{sets};
 
-use records::{HubNo, TaskNo};
+use records::{HubNo, TaskNo, TaskSize};
 use rules::Refusal;
 
 // Where the high word stands in a task record of edition 2, and in a message.
@@ -26,10 +26,8 @@ const HIGH: usize = 1;
 const MESSAGES: usize = 128;
 
 // The contents: the destination's edition and places, the source's T and H.
-fn set_contents(from: &[u32], to: &mut [u32], ts: usize)
-    requires le_ts { 8 ≤ ts }
-    requires ts_bound { ts ≤ 9 }
-    ensures { to.new ≡ sets to.old 0 (contents_from ts from.now) }
+fn set_contents(from: &[u32], to: &mut [u32], ts: TaskSize)
+    ensures { to.new ≡ sets to.old 0 (contents_from ts.words from.now) }
 {
     let words = [
         records::width_of(ts) as u32,
@@ -45,10 +43,8 @@ fn set_contents(from: &[u32], to: &mut [u32], ts: usize)
 }
 
 // All 16 task records: one that is not in use is 0 in both editions.
-fn set_tasks(from: &[u32], fs: usize, to: &mut [u32], ts: usize)
-    requires le_fs { (8 ≤ fs) × (fs ≤ 9) }
-    requires le_ts { (8 ≤ ts) × (ts ≤ 9) }
-    ensures { to.new ≡ sets to.old 8 (tasks_from fs ts from.now) }
+fn set_tasks(from: &[u32], fs: TaskSize, to: &mut [u32], ts: TaskSize)
+    ensures { to.new ≡ sets to.old 8 (tasks_from fs.words ts.words from.now) }
 {
     for i in 0..16 {
         let x = records::task(from, fs, TaskNo(i));
@@ -57,10 +53,8 @@ fn set_tasks(from: &[u32], fs: usize, to: &mut [u32], ts: usize)
 }
 
 // The messages of all 16 stores: a place that holds none is 0 in both editions.
-fn set_stores(from: &[u32], fs: usize, to: &mut [u32], ts: usize)
-    requires le_fs { (8 ≤ fs) × (fs ≤ 9) }
-    requires le_ts { (8 ≤ ts) × (ts ≤ 9) }
-    ensures { to.new ≡ sets to.old (stores_at ts) (stores_from fs ts from.now) }
+fn set_stores(from: &[u32], fs: TaskSize, to: &mut [u32], ts: TaskSize)
+    ensures { to.new ≡ sets to.old (stores_at ts.words) (stores_from fs.words ts.words from.now) }
 {
     let a = records::stores_at(fs);
     let v = records::width_of(fs);
@@ -73,10 +67,10 @@ fn set_stores(from: &[u32], fs: usize, to: &mut [u32], ts: usize)
 }
 
 // The whole destination. Hub records and lists are the same words in each edition.
-fn copy(from: &[u32], fs: usize, to: &mut [u32], ts: usize)
-    requires table { Table fs from.now }
-    requires table_2 { Table ts to.old }
-    ensures { (L M : Layout) (s : State) → Laid fs L → Laid ts M → Below (messages (width ts)) s
+fn copy(from: &[u32], fs: TaskSize, to: &mut [u32], ts: TaskSize)
+    requires table { Table fs.words from.now }
+    requires table_2 { Table ts.words to.old }
+    ensures { (L M : Layout) (s : State) → Laid fs.words L → Laid ts.words M → Below (messages (width ts.words)) s
         → from.now ≡ words L s → to.new ≡ words M s }
 {
     set_contents(from, to, ts);
@@ -88,10 +82,8 @@ fn copy(from: &[u32], fs: usize, to: &mut [u32], ts: usize)
 }
 
 // Refusals 1 and 2, where the destination has `room` words.
-fn refusal_of(from: &[u32], fs: usize, room: usize, ts: usize) -> Result<(), Refusal>
-    requires le_fs { (8 ≤ fs) × (fs ≤ 9) }
-    requires le_ts { (8 ≤ ts) × (ts ≤ 9) }
-    ensures { (L M : Layout) → Laid fs L → Laid ts M
+fn refusal_of(from: &[u32], fs: TaskSize, room: usize, ts: TaskSize) -> Result<(), Refusal>
+    ensures { (L M : Layout) → Laid fs.words L → Laid ts.words M
         → refusal_number result ≡ move_refusal L M from.now room 0 }
 {
     rules::need(room == records::table_size(ts), Refusal::WrongLength)?;
@@ -122,7 +114,7 @@ fn high_zero(t: &[u32]) -> bool
     zeros_at(
         t,
         records::TASKS_AT,
-        records::TASK_SIZE_TWO,
+        records::TASK_SIZE_TWO.words,
         16,
         HIGH_IN_TASK,
     ) & zeros_at(t, stores, 2, MESSAGES, HIGH)

@@ -17,66 +17,61 @@ ghost use Rattle.rules.specs.Effective.{over_task, over_waiters};
 ghost use Rattle.rules.specs.Table.{Layout, State, hub, words};
 ghost use Rattle.rules.specs.WellFormed.{for_all, in_order_by, rising};
 
-use records::{COUNT, HUB_SIZE, HUBS, HubNo, LIST_SIZE, PRIORITY, TaskNo};
+use records::{COUNT, HUB_SIZE, HUBS, HubNo, LIST_SIZE, PRIORITY, TableView, TaskNo};
 use rules::Kind;
 
 // How many hubs are in use, on any table at most 16.
-fn hubs_in(t: &[u32], ts: usize) -> usize
-    requires { Table ts t.now }
-    ensures { result ≡ min (get_or t.now 2 0) 16 }
+fn hubs_in(t: &TableView<'_>) -> usize
+    ensures { result ≡ min (get_or t.now.words.now 2 0) 16 }
 {
-    let m = t[HUBS] as usize;
+    let m = t.words[HUBS] as usize;
     if m < 16 { m } else { 16 }
 }
 
 // Whether hub h is a Resource with a waiter. Both words are read, whatever the first one says, so that a loop over the hubs has no
 // branch for each of them.
-fn is_asked(t: &[u32], ts: usize, h: usize) -> bool
-    requires table { Table ts t.now }
+fn is_asked(t: &TableView<'_>, h: usize) -> bool
     requires h_bound { h < 16 }
-    ensures { (L : Layout) (s : State) → Laid ts L → Sound s → t.now ≡ words L s → h < length s.hubs
+    ensures { (L : Layout) (s : State) → Laid t.now.ts.words L → Sound s → t.now.words.now ≡ words L s → h < length s.hubs
         → result ≡ is_asked (hub s h) }
 {
-    let b = records::hubs_at(ts) + h * HUB_SIZE;
-    (Kind::of(t[b]) == Some(Kind::Resource)) & (t[records::waits_at(ts, HubNo(h))] != 0)
+    let b = records::hubs_at(t.ts) + h * HUB_SIZE;
+    (Kind::of(t.words[b]) == Some(Kind::Resource)) & (t.words[records::waits_at(t.ts, HubNo(h))] != 0)
 }
 
 // Whether no hub in use is a Resource with a waiter: the common case, in which every task has its own priority.
-fn nobody_asked(t: &[u32], ts: usize) -> bool
-    requires { Table ts t.now }
-    ensures { (L : Layout) (s : State) → Laid ts L → Sound s → t.now ≡ words L s → result ≡ nobody_asked s }
+fn nobody_asked(t: &TableView<'_>) -> bool
+    ensures { (L : Layout) (s : State) → Laid t.now.ts.words L → Sound s → t.now.words.now ≡ words L s → result ≡ nobody_asked s }
 {
-    let m = hubs_in(t, ts);
+    let m = hubs_in(t);
     let mut nobody = true;
     for h in 0..m {
-        nobody = !is_asked(t, ts, h) & nobody;
+        nobody = !is_asked(t, h) & nobody;
     }
     nobody
 }
 
 // The owner, plus 1, of hub h where it is a Resource with a waiter; else 0.
-fn asked_owner(t: &[u32], ts: usize, h: usize) -> u32
-    requires table { Table ts t.now }
+fn asked_owner(t: &TableView<'_>, h: usize) -> u32
     requires h_bound { h < 16 }
-    ensures { (L : Layout) (s : State) → Laid ts L → Sound s → t.now ≡ words L s → h < length s.hubs
+    ensures { (L : Layout) (s : State) → Laid t.now.ts.words L → Sound s → t.now.words.now ≡ words L s → h < length s.hubs
         → result ≡ asked_owner (hub s h) }
 {
-    if !is_asked(t, ts, h) {
+    if !is_asked(t, h) {
         return 0;
     }
-    t[records::hubs_at(ts) + h * HUB_SIZE + COUNT]
+    t.words[records::hubs_at(t.ts) + h * HUB_SIZE + COUNT]
 }
 
 // Who is asked where, found once, so that nobody looks through all hubs for each task that it comes to. Words 0 to 15: for
 // each task number the first hub, in hub number order, that it is asked at; 16 to 31: for each hub the next one of the same
 // owner; 16 is none. From the last hub to the first, so that what an owner has so far is what comes next.
-fn links(t: &[u32], ts: usize) -> [u32; 32]
-    requires { Table ts t.now }
-    ensures { Linked ts t.now result }
+fn links(t: &TableView<'_>) -> [u32; 32]
+    ensures { Linked t.now.ts.words t.now.words.now result }
 {
     let mut ks = [16u32; 32];
-    for h in (0..hubs_in(t, ts)).rev() {
-        let o = asked_owner(t, ts, h) as usize;
+    for h in (0..hubs_in(t)).rev() {
+        let o = asked_owner(t, h) as usize;
         if (1 <= o) & (o <= 16) {
             let next = ks[o - 1];
             ks[16 + h] = next;
@@ -90,10 +85,9 @@ fn links(t: &[u32], ts: usize) -> [u32; 32]
 // which a damaged list may have, is no task.
 // The `while` counts nothing: it follows the links.
 #[cycle(over_task_over_waiters)]
-fn over_task(t: &[u32], ts: usize, links: &[u32; 32], i: TaskNo, depth: usize, p: u32) -> u32
-    requires table { Table ts t.now }
-    requires linked { Linked ts t.now links.now }
-    ensures { (L : Layout) (s : State) → Laid ts L → Sound s → t.now ≡ words L s → i.0 < 16
+fn over_task(t: &TableView<'_>, links: &[u32; 32], i: TaskNo, depth: usize, p: u32) -> u32
+    requires linked { Linked t.now.ts.words t.now.words.now links.now }
+    ensures { (L : Layout) (s : State) → Laid t.now.ts.words L → Sound s → t.now.words.now ≡ words L s → i.0 < 16
         → result ≡ over_task depth s i.0 p }
 {
     let n = i.0;
@@ -103,12 +97,12 @@ fn over_task(t: &[u32], ts: usize, links: &[u32; 32], i: TaskNo, depth: usize, p
     if 16 <= n {
         return p;
     }
-    let q = t[records::task_at(ts, TaskNo(n)) + PRIORITY];
+    let q = t.words[records::task_at(t.ts, TaskNo(n)) + PRIORITY];
     let mut best = if q < p { q } else { p };
     let mut h = links[n];
     while h < 16 {
         let at = h as usize;
-        best = over_waiters(t, ts, links, HubNo(at), depth - 1, best);
+        best = over_waiters(t, links, HubNo(at), depth - 1, best);
         h = links[16 + at];
     }
     best
@@ -116,71 +110,63 @@ fn over_task(t: &[u32], ts: usize, links: &[u32; 32], i: TaskNo, depth: usize, p
 
 // Over a Resource's waiting list: the smallest of p and those that each waiter finds.
 #[cycle(over_task_over_waiters)]
-fn over_waiters(t: &[u32], ts: usize, links: &[u32; 32], h: HubNo, depth: usize, p: u32) -> u32
-    requires table { Table ts t.now }
-    requires linked { Linked ts t.now links.now }
+fn over_waiters(t: &TableView<'_>, links: &[u32; 32], h: HubNo, depth: usize, p: u32) -> u32
+    requires linked { Linked t.now.ts.words t.now.words.now links.now }
     requires h_bound { h.0 < 16 }
-    ensures { (L : Layout) (s : State) → Laid ts L → Sound s → t.now ≡ words L s → h.0 < length s.hubs
+    ensures { (L : Layout) (s : State) → Laid t.now.ts.words L → Sound s → t.now.words.now ≡ words L s → h.0 < length s.hubs
         → result ≡ over_waiters (over_task depth s) (hub s h.0).waiters p }
 {
-    let at = records::waits_at(ts, h);
+    let at = records::waits_at(t.ts, h);
     let mut best = p;
-    for e in &t[at..at + LIST_SIZE] {
+    for e in &t.words[at..at + LIST_SIZE] {
         if *e == 0 {
             return best;
         }
-        best = over_task(t, ts, links, TaskNo((*e - 1) as usize), depth, best);
+        best = over_task(t, links, TaskNo((*e - 1) as usize), depth, best);
     }
     best
 }
 
 // The own priority of each task number; of a number not in use 0. The keys are written where the caller wants them, here and
 // below, and so are not copied.
-fn own_keys(t: &[u32], ts: usize, keys: &mut [u32; 16])
-    requires table { Table ts t.now }
-    requires keys_len { length keys.old ≡ 16 }
-    ensures { Owned ts t.now keys.new }
+fn own_keys(t: &TableView<'_>, keys: &mut [u32; 16])
+    ensures { Owned t.now.ts.words t.now.words.now keys.new }
 {
     for (i, key) in keys.iter_mut().enumerate() {
-        *key = t[records::task_at(ts, TaskNo(i)) + PRIORITY];
+        *key = t.words[records::task_at(t.ts, TaskNo(i)) + PRIORITY];
     }
 }
 
 // The key of each task number where somebody is asked. "To at most 16 tasks deep"; who is asked nowhere has its own.
-fn asked_keys(t: &[u32], ts: usize, keys: &mut [u32; 16])
-    requires table { Table ts t.now }
-    requires keys_len { length keys.old ≡ 16 }
-    ensures { Keyed ts t.now keys.new }
+fn asked_keys(t: &TableView<'_>, keys: &mut [u32; 16])
+    ensures { Keyed t.now.ts.words t.now.words.now keys.new }
 {
-    let ls = links(t, ts);
-    own_keys(t, ts, keys);
+    let ls = links(t);
+    own_keys(t, keys);
     for (i, key) in keys.iter_mut().enumerate() {
         if ls[i] < 16 {
-            *key = over_task(t, ts, &ls, TaskNo(i), 16, *key);
+            *key = over_task(t, &ls, TaskNo(i), 16, *key);
         }
     }
 }
 
 // The key of each task number, by which it joins a list: its effective priority; of a number not in use 0.
-pub fn find_keys(t: &[u32], ts: usize, keys: &mut [u32; 16])
-    requires table { Table ts t.now }
-    requires keys_len { length keys.old ≡ 16 }
-    ensures { Keyed ts t.now keys.new }
+pub fn find_keys(t: &TableView<'_>, keys: &mut [u32; 16])
+    ensures { Keyed t.now.ts.words t.now.words.now keys.new }
 {
-    if nobody_asked(t, ts) {
-        own_keys(t, ts, keys);
+    if nobody_asked(t) {
+        own_keys(t, keys);
         return;
     }
-    asked_keys(t, ts, keys);
+    asked_keys(t, keys);
 }
 
 // The keys as a value, for those who look at them once.
-pub fn keys(t: &[u32], ts: usize) -> [u32; 16]
-    requires { Table ts t.now }
-    ensures { Keyed ts t.now result }
+pub fn keys(t: &TableView<'_>) -> [u32; 16]
+    ensures { Keyed t.now.ts.words t.now.words.now result }
 {
     let mut ks = [0u32; 16];
-    find_keys(t, ts, &mut ks);
+    find_keys(t, &mut ks);
     ks
 }
 
@@ -203,38 +189,35 @@ fn list_rising(list: &[u32], keys: &[u32]) -> bool
 }
 
 // The list of hub h. Where its second word is 0 there are not two entries to compare: most lists are left here.
-fn hub_rising(t: &[u32], ts: usize, keys: &[u32], h: usize) -> bool
-    requires table { Table ts t.now }
+fn hub_rising(t: &TableView<'_>, keys: &[u32], h: usize) -> bool
     requires h_bound { h < 16 }
-    ensures { (L : Layout) (s : State) → Laid ts L → Sound s → t.now ≡ words L s → h < length s.hubs
+    ensures { (L : Layout) (s : State) → Laid t.now.ts.words L → Sound s → t.now.words.now ≡ words L s → h < length s.hubs
         → result ≡ rising (λ j. get_or keys.now j 0) (hub s h).waiters }
 {
-    let a = records::waits_at(ts, HubNo(h));
-    if t[a + 1] == 0 {
+    let a = records::waits_at(t.ts, HubNo(h));
+    if t.words[a + 1] == 0 {
         return true;
     }
-    list_rising(&t[a..a + LIST_SIZE], keys)
+    list_rising(&t.words[a..a + LIST_SIZE], keys)
 }
 
 // The lists of the hubs in use.
-fn hubs_rising(t: &[u32], ts: usize, keys: &[u32]) -> bool
-    requires { Table ts t.now }
-    ensures { (L : Layout) (s : State) → Laid ts L → Sound s → t.now ≡ words L s
+fn hubs_rising(t: &TableView<'_>, keys: &[u32]) -> bool
+    ensures { (L : Layout) (s : State) → Laid t.now.ts.words L → Sound s → t.now.words.now ≡ words L s
         → result ≡ for_all (length s.hubs) (λ h. rising (λ j. get_or keys.now j 0) (hub s h).waiters) }
 {
-    (0..hubs_in(t, ts)).all(|h| hub_rising(t, ts, keys, h))
+    (0..hubs_in(t)).all(|h| hub_rising(t, keys, h))
 }
 
 // "Lists are ordered by effective priority, and well formed says so too", where these are the keys: asked once the lists are
 // found exact.
-pub fn in_order(t: &[u32], ts: usize, keys: &[u32]) -> bool
-    requires { Table ts t.now }
-    ensures { (L : Layout) (s : State) → Laid ts L → Sound s → t.now ≡ words L s
+pub fn in_order(t: &TableView<'_>, keys: &[u32]) -> bool
+    ensures { (L : Layout) (s : State) → Laid t.now.ts.words L → Sound s → t.now.words.now ≡ words L s
         → result ≡ in_order_by (λ j. get_or keys.now j 0) s }
 {
-    let a = records::ready_at(ts);
-    if !list_rising(&t[a..a + LIST_SIZE], keys) {
+    let a = records::ready_at(t.ts);
+    if !list_rising(&t.words[a..a + LIST_SIZE], keys) {
         return false;
     }
-    hubs_rising(t, ts, keys)
+    hubs_rising(t, keys)
 }

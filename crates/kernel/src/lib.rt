@@ -15,16 +15,13 @@ ghost use Rattle.rules.specs.Reply.{bears_answer, outcome, refusal_number, summa
 ghost use Rattle.rules.specs.Services.{service_named};
 ghost use Rattle.rules.specs.Table.{Layout, State, read, words};
 
-use records::TaskNo;
+use records::{TaskNo, TaskSize};
 use rules::{Call, Kind, Outcome, Refusal, Reply, Served, Service, Summary};
 
 // "Refusal numbers, tested in this order": 1 to 3 here, then the service's own. Of a table that is well formed `keys` then holds each
 // task's effective priority, which the test of order has asked for: the call joins lists by them. An accepted call's service comes back.
-fn refusal_of(t: &[u32], ts: usize, c: Call, keys: &mut [u32; 16]) -> Result<Service, Refusal>
-    requires le_ts { 8 ≤ ts }
-    requires ts_bound { ts ≤ 9 }
-    requires keys_len { length keys.old ≡ 16 }
-    ensures judged { (L : Layout) → Laid ts L → Judged L t.now c (refusal_number result) keys.new }
+fn refusal_of(t: &[u32], ts: TaskSize, c: Call, keys: &mut [u32; 16]) -> Result<Service, Refusal>
+    ensures judged { (L : Layout) → Laid ts.words L → Judged L t.now c (refusal_number result) keys.new }
     ensures named { IfOk result (λ v. service_named (Some v) ≡ service_of c.service) }
 {
     rules::need(t.len() == records::table_size(ts), Refusal::WrongLength)?;
@@ -42,11 +39,10 @@ fn refusal_of(t: &[u32], ts: usize, c: Call, keys: &mut [u32; 16]) -> Result<Ser
 }
 
 // "side 1 starts it at once": a task is added, and joins by its own priority.
-fn add_started(t: &mut [u32], ts: usize, keys: &[u32; 16], priority: u32)
-    requires table { Table ts t.old }
+fn add_started(t: &mut [u32], ts: TaskSize, keys: &[u32; 16], priority: u32)
+    requires table { Table ts.words t.old }
     requires t_bound { get_or t.old 1 0 < 16 }
-    requires keys_len { length keys.now ≡ 16 }
-    ensures { (L : Layout) (s : State) → Laid ts L → length s.tasks < 16 → t.old ≡ words L s
+    ensures { (L : Layout) (s : State) → Laid ts.words L → length s.tasks < 16 → t.old ≡ words L s
         → t.new ≡ words L (add_started (key_of keys.now) priority s) }
 {
     let n = t[records::TASKS] as usize;
@@ -58,11 +54,10 @@ fn add_started(t: &mut [u32], ts: usize, keys: &[u32; 16], priority: u32)
 }
 
 // "Add task: target is priority, side 1 starts it at once, side 0 doesn't."
-fn serve_add_task(t: &mut [u32], ts: usize, keys: &[u32; 16], c: Call)
-    requires table { Table ts t.old }
+fn serve_add_task(t: &mut [u32], ts: TaskSize, keys: &[u32; 16], c: Call)
+    requires table { Table ts.words t.old }
     requires t_bound { get_or t.old 1 0 < 16 }
-    requires keys_len { length keys.now ≡ 16 }
-    ensures { (L : Layout) (s : State) → Laid ts L → length s.tasks < 16 → t.old ≡ words L s
+    ensures { (L : Layout) (s : State) → Laid ts.words L → length s.tasks < 16 → t.old ≡ words L s
         → t.new ≡ words L (serve (key_of keys.now) AddTask s c) }
 {
     if c.side == 1 {
@@ -73,13 +68,10 @@ fn serve_add_task(t: &mut [u32], ts: usize, keys: &[u32; 16], c: Call)
 }
 
 // One accepted call's service, by the keys that it is given, and what it hands up: only a hub request has any ahead.
-fn serve(t: &mut [u32], ts: usize, keys: &[u32; 16], service: Service, c: Call) -> Served
-    requires le_ts { 8 ≤ ts }
-    requires ts_bound { ts ≤ 9 }
-    requires accepts { Accepts ts t.old c }
+fn serve(t: &mut [u32], ts: TaskSize, keys: &[u32; 16], service: Service, c: Call) -> Served
+    requires accepts { Accepts ts.words t.old c }
     requires named { service_named (Some service) ≡ service_of c.service }
-    requires keys_len { length keys.now ≡ 16 }
-    ensures { (L : Layout) → Laid ts L → refusal_in L t.old c ≡ 0
+    ensures { (L : Layout) → Laid ts.words L → refusal_in L t.old c ≡ 0
         → ServedIn L (serve (key_of keys.now) (service_of c.service) (read L t.old) c) c result t.new }
 {
     match service {
@@ -100,12 +92,10 @@ fn serve(t: &mut [u32], ts: usize, keys: &[u32; 16], service: Service, c: Call) 
 
 // Whether a call leaves who waits for whose lock as it was, so that no effective priority changes: Start, Suspend, Resume, Yield
 // and Sleep do, and a hub request at any hub but a Resource. After Blank there is no task.
-fn is_calm(t: &[u32], ts: usize, service: Service, c: Call) -> bool
-    requires le_ts { 8 ≤ ts }
-    requires ts_bound { ts ≤ 9 }
-    requires accepts { Accepts ts t.now c }
+fn is_calm(t: &[u32], ts: TaskSize, service: Service, c: Call) -> bool
+    requires accepts { Accepts ts.words t.now c }
     requires named { service_named (Some service) ≡ service_of c.service }
-    ensures calm { (L : Layout) → Laid ts L → refusal_in L t.now c ≡ 0 → result ≡ true
+    ensures calm { (L : Layout) → Laid ts.words L → refusal_in L t.now c ≡ 0 → result ≡ true
         → served (read L t.now) c
         ≡ serve (effective (read L t.now)) (service_of c.service) (read L t.now) c }
     ensures not_blank { result ≡ false → c.service ≢ 0 }
@@ -127,13 +117,10 @@ fn is_calm(t: &[u32], ts: usize, service: Service, c: Call) -> bool
 
 // One accepted call: its service by the effective priorities before it, and at its end all tasks whose effective priority changed
 // are put in order (M-108); the number ahead is the same before that and after. After a calm call nobody is asked.
-fn serve_call(t: &mut [u32], ts: usize, keys: &[u32; 16], service: Service, c: Call) -> Served
-    requires le_ts { 8 ≤ ts }
-    requires ts_bound { ts ≤ 9 }
-    requires accepts { Accepts ts t.old c }
+fn serve_call(t: &mut [u32], ts: TaskSize, keys: &[u32; 16], service: Service, c: Call) -> Served
+    requires accepts { Accepts ts.words t.old c }
     requires named { service_named (Some service) ≡ service_of c.service }
-    requires keys_len { length keys.now ≡ 16 }
-    ensures { (L : Layout) → Laid ts L → Judged L t.old c 0 keys.now
+    ensures { (L : Layout) → Laid ts.words L → Judged L t.old c 0 keys.now
         → ServedIn L (served (read L t.old) c) c result t.new }
 {
     let n = t[records::TASKS] as usize;
@@ -163,10 +150,10 @@ fn bears_answer(service: Service) -> bool
 }
 
 // "nothing yet (answer 0), OK 1, FAIL 2"
-fn outcome_of(t: &[u32], ts: usize, service: Service, c: Call) -> Outcome
-    requires table { Table ts t.now }
+fn outcome_of(t: &[u32], ts: TaskSize, service: Service, c: Call) -> Outcome
+    requires table { Table ts.words t.now }
     requires named { service_named (Some service) ≡ service_of c.service }
-    ensures { (L : Layout) (s : State) → Laid ts L → length s.tasks ≤ 16
+    ensures { (L : Layout) (s : State) → Laid ts.words L → length s.tasks ≤ 16
         → (bears_answer (service_of c.service) ≡ true → c.caller < length s.tasks)
         → t.now ≡ words L s → result ≡ outcome s c }
 {
@@ -183,10 +170,8 @@ fn outcome_of(t: &[u32], ts: usize, service: Service, c: Call) -> Outcome
 }
 
 // A call: refused under its number with the table untouched, or served and answered.
-fn call_in(t: &mut [u32], ts: usize, c: Call) -> Reply
-    requires le_ts { 8 ≤ ts }
-    requires ts_bound { ts ≤ 9 }
-    ensures { (L : Layout) → Laid ts L → CalledIn L t.old c result t.new }
+fn call_in(t: &mut [u32], ts: TaskSize, c: Call) -> Reply
+    ensures { (L : Layout) → Laid ts.words L → CalledIn L t.old c result t.new }
 {
     let mut keys = [0u32; 16];
     let service = match refusal_of(&*t, ts, c, &mut keys) {

@@ -9,21 +9,19 @@ ghost use Rattle.listing.specs.Listing.{ListedFrom, ListedIn, line_at, lines_at,
 ghost use Rattle.rules.proofs.Layouts.{Laid};
 ghost use Rattle.rules.specs.Table.{Layout};
 
-use records::HubNo;
+use records::{HubNo, TaskSize};
 use rules::Refusal;
 
 // Line k: the Blank line, then the tasks, n of them, then the hubs.
-fn line_at(t: &[u32], ts: usize, n: usize, k: usize) -> [u32; 8]
-    requires le_ts { 8 ≤ ts }
-    requires ts_bound { ts ≤ 9 }
+fn line_at(t: &[u32], ts: TaskSize, n: usize, k: usize) -> [u32; 8]
     requires k_bound { k ≤ 65535 }
-    ensures { result ≡ line_at ts t.now n k }
+    ensures { result ≡ line_at ts.words t.now n k }
 {
     if k == 0 {
         return [rules::BLANK, 0, 0, 0, 0, 0, 0, 0];
     }
     if k <= n {
-        let priority = records::field(t, records::TASKS_AT, ts, k - 1, records::PRIORITY);
+        let priority = records::field(t, records::TASKS_AT, ts.words, k - 1, records::PRIORITY);
         return [rules::ADD_TASK, 0, priority, 0, 0, 0, 0, 0];
     }
     let h = records::hub(t, records::hubs_at(ts), HubNo(k - 1 - n));
@@ -31,12 +29,10 @@ fn line_at(t: &[u32], ts: usize, n: usize, k: usize) -> [u32; 8]
 }
 
 // How long the listing is, where n tasks and m hubs are in use.
-fn measure(t: &[u32], ts: usize, n: usize, m: usize) -> usize
-    requires le_ts { 8 ≤ ts }
-    requires ts_bound { ts ≤ 9 }
+fn measure(t: &[u32], ts: TaskSize, n: usize, m: usize) -> usize
     requires n_bound { n ≤ 16 }
     requires m_bound { m ≤ 16 }
-    ensures value { result ≡ length (text_of_lines (lines_at ts t.now n m)) }
+    ensures value { result ≡ length (text_of_lines (lines_at ts.words t.now n m)) }
     ensures upper_bound { result ≤ 2904 }
 {
     let mut bytes = 0;
@@ -48,14 +44,12 @@ fn measure(t: &[u32], ts: usize, n: usize, m: usize) -> usize
 }
 
 // The lines, one behind the other.
-fn write_lines(t: &[u32], ts: usize, n: usize, m: usize, text: &mut [u8])
-    requires le_ts { 8 ≤ ts }
-    requires ts_bound { ts ≤ 9 }
+fn write_lines(t: &[u32], ts: TaskSize, n: usize, m: usize, text: &mut [u8])
     requires n_bound { n ≤ 16 }
     requires m_bound { m ≤ 16 }
-    requires m_in_bounds { length (text_of_lines (lines_at ts t.now n m)) ≤ length text.old }
-    ensures { Put text.old 0 (text_of_lines (lines_at ts t.now n m))
-        (length (text_of_lines (lines_at ts t.now n m))) text.new }
+    requires m_in_bounds { length (text_of_lines (lines_at ts.words t.now n m)) ≤ length text.old }
+    ensures { Put text.old 0 (text_of_lines (lines_at ts.words t.now n m))
+        (length (text_of_lines (lines_at ts.words t.now n m))) text.new }
 {
     let mut at = 0;
     for done in 0..1 + n + m {
@@ -65,10 +59,8 @@ fn write_lines(t: &[u32], ts: usize, n: usize, m: usize, text: &mut [u8])
 }
 
 // The listing of a table whose task records have ts words, and its length. Refused, "nothing is written".
-fn list_in(t: &[u32], ts: usize, text: &mut [u8]) -> Result<u32, Refusal>
-    requires le_ts { 8 ≤ ts }
-    requires ts_bound { ts ≤ 9 }
-    ensures { (L : Layout) → Laid ts L → ListedIn L t.now text.old result text.new }
+fn list_in(t: &[u32], ts: TaskSize, text: &mut [u8]) -> Result<u32, Refusal>
+    ensures { (L : Layout) → Laid ts.words L → ListedIn L t.now text.old result text.new }
 {
     refusals::for_table(t, ts)?;
     let n = t[records::TASKS] as usize;

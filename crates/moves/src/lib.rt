@@ -14,7 +14,7 @@ ghost use Rattle.rules.specs.Lists.{answer, first_waiting, leave, queued, readie
 ghost use Rattle.rules.specs.Table.{Layout, State, hub, set_hub, set_ready, set_task, task, words};
 ghost use Rattle.lists.specs.Lists.{occ, without};
 
-use records::{HubNo, TaskNo, TaskRecord};
+use records::{HubNo, TaskNo, TaskRecord, TaskSize};
 
 // The lists in which tasks stand.
 #[derive(Clone, Copy, Debug, PartialEq, Eq)]
@@ -24,10 +24,10 @@ pub enum TaskList {
 }
 
 // Task i joins the ready list by its key, and its place is what comes back; ts is the number of words in a task record.
-pub fn join_ready(t: &mut [u32], ts: usize, keys: &[u32], i: TaskNo) -> usize
-    requires table { Table ts t.old }
+pub fn join_ready(t: &mut [u32], ts: TaskSize, keys: &[u32], i: TaskNo) -> usize
+    requires table { Table ts.words t.old }
     requires i_bound { i.0 < 16 }
-    ensures { JoinsReady ts keys.now i.0 t.old result t.new }
+    ensures { JoinsReady ts.words keys.now i.0 t.old result t.new }
 {
     let n = i.0;
     let a = records::ready_at(ts);
@@ -36,11 +36,11 @@ pub fn join_ready(t: &mut [u32], ts: usize, keys: &[u32], i: TaskNo) -> usize
 
 // Task i joins hub h's list by its key, and its place is what comes back. Not one function with join_ready: each promises of its own
 // list what the other's hasn't (JoinsReady, JoinsHub).
-pub fn join_hub(t: &mut [u32], ts: usize, keys: &[u32], h: HubNo, i: TaskNo) -> usize
-    requires table { Table ts t.old }
+pub fn join_hub(t: &mut [u32], ts: TaskSize, keys: &[u32], h: HubNo, i: TaskNo) -> usize
+    requires table { Table ts.words t.old }
     requires h_bound { h.0 < 16 }
     requires i_bound { i.0 < 16 }
-    ensures { JoinsHub ts keys.now h.0 i.0 t.old result t.new }
+    ensures { JoinsHub ts.words keys.now h.0 i.0 t.old result t.new }
 {
     let n = i.0;
     let a = records::waits_at(ts, h);
@@ -48,10 +48,9 @@ pub fn join_hub(t: &mut [u32], ts: usize, keys: &[u32], h: HubNo, i: TaskNo) -> 
 }
 
 // Where a list starts.
-fn list_at(ts: usize, list: TaskList) -> usize
-    requires ts_bound { ts ≤ 9 }
+fn list_at(ts: TaskSize, list: TaskList) -> usize
     requires hub_bound { IsList list }
-    ensures { result ≡ list_at ts list }
+    ensures { result ≡ list_at ts.words list }
 {
     match list {
         TaskList::Ready => records::ready_at(ts),
@@ -60,20 +59,20 @@ fn list_at(ts: usize, list: TaskList) -> usize
 }
 
 // The record of task i.
-pub fn task_at(t: &[u32], ts: usize, i: TaskNo) -> TaskRecord
-    requires table { Table ts t.now }
+pub fn task_at(t: &[u32], ts: TaskSize, i: TaskNo) -> TaskRecord
+    requires table { Table ts.words t.now }
     requires i_bound { i.0 ≤ 4294967295 }
-    ensures { TaskHeld ts i.0 t.now result }
+    ensures { TaskHeld ts.words i.0 t.now result }
 {
     records::task(t, ts, i)
 }
 
 // The record of task i, written.
-pub fn set_task(t: &mut [u32], ts: usize, i: TaskNo, x: TaskRecord)
-    requires table { Table ts t.old }
+pub fn set_task(t: &mut [u32], ts: TaskSize, i: TaskNo, x: TaskRecord)
+    requires table { Table ts.words t.old }
     requires i_bound { i.0 ≤ 4294967295 }
-    requires word_bound { x.word < messages (width ts) }
-    ensures { (L : Layout) (s : State) → Laid ts L → length s.tasks ≤ 16 → i.0 < length s.tasks
+    requires word_bound { x.word < messages (width ts.words) }
+    ensures { (L : Layout) (s : State) → Laid ts.words L → length s.tasks ≤ 16 → i.0 < length s.tasks
         → t.old ≡ words L s
         → t.new ≡ words L (set_task i.0 (task_of x) s) }
 {
@@ -81,10 +80,10 @@ pub fn set_task(t: &mut [u32], ts: usize, i: TaskNo, x: TaskRecord)
 }
 
 // The first task that waits at hub h on this side, if there is one. One list holds one side only, so its first entry tells.
-pub fn first_waiter(t: &[u32], ts: usize, h: HubNo, side: u32) -> Option<TaskNo>
-    requires table { Table ts t.now }
+pub fn first_waiter(t: &[u32], ts: TaskSize, h: HubNo, side: u32) -> Option<TaskNo>
+    requires table { Table ts.words t.now }
     requires h_bound { h.0 < 16 }
-    ensures value { (L : Layout) (s : State) → Laid ts L → Sound s → Waits s → h.0 < length s.hubs
+    ensures value { (L : Layout) (s : State) → Laid ts.words L → Sound s → Waits s → h.0 < length s.hubs
         → t.now ≡ words L s
         → numbered result ≡ first_waiting s side (hub s h.0).waiters }
     ensures low { Low result }
@@ -110,10 +109,10 @@ pub fn list_of(x: TaskRecord) -> Option<TaskList>
 
 // "taken from any list": the one in which its record says that the task stands.
 // Of the others nothing is asked, so that tasks can be taken out one after the other (M-108).
-pub fn leave_list(t: &mut [u32], ts: usize, i: TaskNo)
-    requires table { Table ts t.old }
+pub fn leave_list(t: &mut [u32], ts: TaskSize, i: TaskNo)
+    requires table { Table ts.words t.old }
     requires i_bound { i.0 < 16 }
-    ensures { (L : Layout) (s : State) → Laid ts L → Stands i.0 s → i.0 < length s.tasks
+    ensures { (L : Layout) (s : State) → Laid ts.words L → Stands i.0 s → i.0 < length s.tasks
         → t.old ≡ words L s
         → t.new ≡ words L (leave i.0 s) }
 {
@@ -124,11 +123,11 @@ pub fn leave_list(t: &mut [u32], ts: usize, i: TaskNo)
 }
 
 // Task i gets an answer and a word.
-pub fn give_answer(t: &mut [u32], ts: usize, i: TaskNo, a: u32, w: u64)
-    requires table { Table ts t.old }
+pub fn give_answer(t: &mut [u32], ts: TaskSize, i: TaskNo, a: u32, w: u64)
+    requires table { Table ts.words t.old }
     requires i_bound { i.0 < 16 }
-    requires w_bound { w < messages (width ts) }
-    ensures { (L : Layout) (s : State) → Laid ts L → length s.tasks ≤ 16 → i.0 < length s.tasks
+    requires w_bound { w < messages (width ts.words) }
+    ensures { (L : Layout) (s : State) → Laid ts.words L → length s.tasks ≤ 16 → i.0 < length s.tasks
         → t.old ≡ words L s
         → t.new ≡ words L (answer i.0 a w s) }
 {
@@ -146,11 +145,11 @@ pub fn give_answer(t: &mut [u32], ts: usize, i: TaskNo, a: u32, w: u64)
 }
 
 // Task i's record becomes a ready one. It does not stand in the ready list yet.
-pub fn make_ready(t: &mut [u32], ts: usize, i: TaskNo, a: u32, w: u64)
-    requires table { Table ts t.old }
+pub fn make_ready(t: &mut [u32], ts: TaskSize, i: TaskNo, a: u32, w: u64)
+    requires table { Table ts.words t.old }
     requires i_bound { i.0 < 16 }
-    requires w_bound { w < messages (width ts) }
-    ensures { (L : Layout) (s : State) → Laid ts L → length s.tasks ≤ 16 → i.0 < length s.tasks
+    requires w_bound { w < messages (width ts.words) }
+    ensures { (L : Layout) (s : State) → Laid ts.words L → length s.tasks ≤ 16 → i.0 < length s.tasks
         → t.old ≡ words L s
         → t.new ≡ words L (set_task i.0 (readied a w (task s i.0)) s) }
 {
@@ -172,11 +171,11 @@ pub fn make_ready(t: &mut [u32], ts: usize, i: TaskNo, a: u32, w: u64)
 }
 
 // A waiter or sleeper leaves its list and becomes ready behind its equals with this answer and word.
-pub fn wake_task(t: &mut [u32], ts: usize, keys: &[u32], i: TaskNo, a: u32, w: u64)
-    requires table { Table ts t.old }
+pub fn wake_task(t: &mut [u32], ts: TaskSize, keys: &[u32], i: TaskNo, a: u32, w: u64)
+    requires table { Table ts.words t.old }
     requires i_bound { i.0 < 16 }
-    requires w_bound { w < messages (width ts) }
-    ensures { (L : Layout) (s : State) → Laid ts L → Sound s → i.0 < length s.tasks
+    requires w_bound { w < messages (width ts.words) }
+    ensures { (L : Layout) (s : State) → Laid ts.words L → Sound s → i.0 < length s.tasks
         → t.old ≡ words L s
         → t.new ≡ words L (wake (key_of keys.now) i.0 a w s) }
 {

@@ -5,7 +5,7 @@
 #![tactic(auto)]
 
 ghost use Rattle.std.specs.Prelude.{◌*◌, ◌+◌, ◌-◌, ◌<◌, ◌≤◌, get_or, length, set, ◌≡◌};
-ghost use Rattle.records.specs.Records.{RowAt, TaskRead, hub_at, hub_words, hubs_at, ready_at, store_size, stores_at, table_size, task_size_of, task_words, waits_at, width};
+ghost use Rattle.records.specs.Records.{Table, RowAt, TaskRead, hub_at, hub_words, hubs_at, ready_at, store_size, stores_at, table_size, task_size_of, task_words, waits_at, width};
 ghost use Rattle.std.proofs.lemmas.List.Edits.{sets};
 
 mod entries;
@@ -15,12 +15,12 @@ pub use entries::{entry, entry_of};
 // "The table is a lent slice of exactly 600 words", and its task records have 8: edition 1
 pub const TABLE_SIZE: usize = 600;
 
-pub const TASK_SIZE: usize = 8;
+pub const TASK_SIZE: TaskSize = TaskSize { words: 8 };
 
 // edition 2 (M-105): "744 words in all", and "Task records have 9 words"
 pub const TABLE_SIZE_TWO: usize = 744;
 
-pub const TASK_SIZE_TWO: usize = 9;
+pub const TASK_SIZE_TWO: TaskSize = TaskSize { words: 9 };
 
 // "contents: edition 1, tasks T, hubs H": the words that hold T and H
 pub const TASKS: usize = 1;
@@ -63,6 +63,22 @@ pub const COUNT: usize = 1;
 pub const LIMIT: usize = 2;
 
 pub const START: usize = 3;
+
+// How many words a task record has: that alone tells one edition from the other.
+#[derive(Clone, Copy, Debug)]
+pub struct TaskSize {
+    pub words: usize,
+    pub ghost low: { 8 ≤ words },
+    pub ghost high: { words ≤ 9 },
+}
+
+// A table of an edition, to be read: its words, and how many of them a task record has.
+#[derive(Clone, Copy, Debug)]
+pub struct TableView<'a> {
+    pub words: &'a [u32],
+    pub ts: TaskSize,
+    pub ghost table: { Table ts.words words.now },
+}
 
 // "A task number and a hub number are two kinds of number and are never taken for each other."
 #[derive(Clone, Copy, Debug, PartialEq, Eq)]
@@ -121,70 +137,59 @@ fn record_at(at: usize, size: usize, i: usize) -> usize
 }
 
 // How many words a message has: as many as its edition's number says. The other seven words of a task record have one each.
-pub fn width_of(ts: usize) -> usize
-    requires { 8 ≤ ts }
-    ensures { result ≡ width ts }
+pub fn width_of(ts: TaskSize) -> usize
+    ensures { result ≡ width ts.words }
 {
-    ts - 7
+    ts.words - 7
 }
 
 // Where the hub records start, behind the contents and 16 task records.
-pub fn hubs_at(ts: usize) -> usize
-    requires { ts ≤ 9 }
-    ensures { result ≡ hubs_at ts }
+pub fn hubs_at(ts: TaskSize) -> usize
+    ensures { result ≡ hubs_at ts.words }
 {
-    TASKS_AT + 16 * ts
+    TASKS_AT + 16 * ts.words
 }
 
 // Where the ready list starts, behind 16 hub records.
-pub fn ready_at(ts: usize) -> usize
-    requires { ts ≤ 9 }
-    ensures { result ≡ ready_at ts }
+pub fn ready_at(ts: TaskSize) -> usize
+    ensures { result ≡ ready_at ts.words }
 {
     hubs_at(ts) + 16 * HUB_SIZE
 }
 
 // Where hub h's waiting list starts: they follow the ready list.
-pub fn waits_at(ts: usize, h: HubNo) -> usize
-    requires ts_bound { ts ≤ 9 }
+pub fn waits_at(ts: TaskSize, h: HubNo) -> usize
     requires h_bound { h.0 ≤ 4294967295 }
-    ensures { result ≡ waits_at ts + h.0 * 16 }
+    ensures { result ≡ waits_at ts.words + h.0 * 16 }
 {
     let n = h.0;
     ready_at(ts) + LIST_SIZE + n * LIST_SIZE
 }
 
 // Where the stores start, behind 16 waiting lists.
-pub fn stores_at(ts: usize) -> usize
-    requires { ts ≤ 9 }
-    ensures { result ≡ stores_at ts }
+pub fn stores_at(ts: TaskSize) -> usize
+    ensures { result ≡ stores_at ts.words }
 {
     waits_at(ts, HubNo(16))
 }
 
 // How many words a store has.
-pub fn store_size(ts: usize) -> usize
-    requires le_ts { 8 ≤ ts }
-    requires ts_bound { ts ≤ 9 }
-    ensures { result ≡ store_size ts }
+pub fn store_size(ts: TaskSize) -> usize
+    ensures { result ≡ store_size ts.words }
 {
     STORE_MESSAGES * width_of(ts)
 }
 
 // How many words a table has.
-pub fn table_size(ts: usize) -> usize
-    requires le_ts { 8 ≤ ts }
-    requires ts_bound { ts ≤ 9 }
-    ensures { result ≡ table_size ts }
+pub fn table_size(ts: TaskSize) -> usize
+    ensures { result ≡ table_size ts.words }
 {
     stores_at(ts) + 16 * store_size(ts)
 }
 
 // How many words a task record has in a table of n words: the edition is the one that fits the length.
-pub fn task_size(n: usize) -> usize
-    ensures value { result ≡ task_size_of n }
-    ensures lower_bound { 8 ≤ result }
-    ensures upper_bound { result ≤ 9 }
+pub fn task_size(n: usize) -> TaskSize
+    ensures { result.words ≡ task_size_of n }
 {
     if n == table_size(TASK_SIZE_TWO) {
         TASK_SIZE_TWO
@@ -194,20 +199,17 @@ pub fn task_size(n: usize) -> usize
 }
 
 // Where the record of task i starts.
-pub fn task_at(ts: usize, i: TaskNo) -> usize
-    requires ts_bound { ts ≤ 9 }
+pub fn task_at(ts: TaskSize, i: TaskNo) -> usize
     requires i_bound { i.0 < 16 }
-    ensures { RowAt 8 ts i.0 result }
+    ensures { RowAt 8 ts.words i.0 result }
 {
-    record_at(TASKS_AT, ts, i.0)
+    record_at(TASKS_AT, ts.words, i.0)
 }
 
 // Where hub h's store starts.
-pub fn store_at(ts: usize, h: HubNo) -> usize
-    requires le_ts { 8 ≤ ts }
-    requires ts_bound { ts ≤ 9 }
+pub fn store_at(ts: TaskSize, h: HubNo) -> usize
     requires h_bound { h.0 < 16 }
-    ensures { RowAt (stores_at ts) (store_size ts) h.0 result }
+    ensures { RowAt (stores_at ts.words) (store_size ts.words) h.0 result }
 {
     record_at(stores_at(ts), store_size(ts), h.0)
 }
@@ -225,38 +227,34 @@ pub fn field(t: &[u32], at: usize, size: usize, i: usize, f: usize) -> u32
 }
 
 // The record of task i.
-pub fn task(t: &[u32], ts: usize, i: TaskNo) -> TaskRecord
-    requires le_ts { 8 ≤ ts }
-    requires ts_bound { ts ≤ 9 }
+pub fn task(t: &[u32], ts: TaskSize, i: TaskNo) -> TaskRecord
     requires i_bound { i.0 ≤ 4294967295 }
-    ensures { TaskRead ts t.now i.0 result }
+    ensures { TaskRead ts.words t.now i.0 result }
 {
     let n = i.0;
     let w = width_of(ts);
-    let p = record_at(TASKS_AT, ts, n) + WORD;
+    let p = record_at(TASKS_AT, ts.words, n) + WORD;
     TaskRecord {
-        state: field(t, TASKS_AT, ts, n, STATE),
-        suspended: field(t, TASKS_AT, ts, n, SUSPENDED),
-        priority: field(t, TASKS_AT, ts, n, PRIORITY),
-        hub: field(t, TASKS_AT, ts, n, HUB),
-        ticks: field(t, TASKS_AT, ts, n, TICKS),
-        side: field(t, TASKS_AT, ts, n, SIDE),
+        state: field(t, TASKS_AT, ts.words, n, STATE),
+        suspended: field(t, TASKS_AT, ts.words, n, SUSPENDED),
+        priority: field(t, TASKS_AT, ts.words, n, PRIORITY),
+        hub: field(t, TASKS_AT, ts.words, n, HUB),
+        ticks: field(t, TASKS_AT, ts.words, n, TICKS),
+        side: field(t, TASKS_AT, ts.words, n, SIDE),
         word: messages::message(t, p, w),
         answer: lists::word(t, p + w),
     }
 }
 
 // The record of task i, written whole.
-pub fn set_task(t: &mut [u32], ts: usize, i: TaskNo, x: TaskRecord)
-    requires le_ts { 8 ≤ ts }
-    requires ts_bound { ts ≤ 9 }
+pub fn set_task(t: &mut [u32], ts: TaskSize, i: TaskNo, x: TaskRecord)
     requires i_bound { i.0 ≤ 4294967295 }
-    ensures { t.new ≡ sets t.old (8 + i.0 * ts) (task_words ts x) }
+    ensures { t.new ≡ sets t.old (8 + i.0 * ts.words) (task_words ts.words x) }
 {
     let n = i.0;
     let w = width_of(ts);
     let words = [x.state, x.suspended, x.priority, x.hub, x.ticks, x.side];
-    let p = record_at(TASKS_AT, ts, n);
+    let p = record_at(TASKS_AT, ts.words, n);
     set_words(t, p, &words);
     messages::set_message(t, p + WORD, w, x.word);
     lists::set_word(t, p + WORD + w, x.answer);

@@ -14,14 +14,12 @@ ghost use Rattle.rules.specs.Reply.{refusal_number};
 ghost use Rattle.rules.specs.Table.{Layout, State, kind_of, words};
 ghost use Rattle.rules.specs.WellFormed.{within};
 
-use records::{HubNo, TaskNo};
+use records::{HubNo, TaskNo, TaskSize};
 use rules::{Call, Kind, Mode, Refusal, Service};
 
 // "Length isn't 600 words", "not well formed": a table of words, before anything else is asked of it.
-pub fn for_table(t: &[u32], ts: usize) -> Result<(), Refusal>
-    requires le_ts { 8 ≤ ts }
-    requires ts_bound { ts ≤ 9 }
-    ensures { (L : Layout) → Laid ts L → refusal_number result ≡ on_table L t.now 0 }
+pub fn for_table(t: &[u32], ts: TaskSize) -> Result<(), Refusal>
+    ensures { (L : Layout) → Laid ts.words L → refusal_number result ≡ on_table L t.now 0 }
 {
     rules::need(t.len() == records::table_size(ts), Refusal::WrongLength)?;
     rules::need(wellformed::well_formed(t, ts), Refusal::NotWellFormed)
@@ -39,21 +37,17 @@ pub fn find_hub(t: &[u32], n: u32) -> Option<HubNo>
 }
 
 // The flag of task i.
-fn is_suspended(t: &[u32], ts: usize, i: TaskNo) -> bool
-    requires le_ts { 8 ≤ ts }
-    requires ts_bound { ts ≤ 9 }
+fn is_suspended(t: &[u32], ts: TaskSize, i: TaskNo) -> bool
     requires i_bound { i.0 ≤ 4294967295 }
-    ensures { result ≡ not (eqb (task_at ts t.now i.0).suspended 0) }
+    ensures { result ≡ not (eqb (task_at ts.words t.now i.0).suspended 0) }
 {
     let x = records::task(t, ts, i);
     x.suspended != 0
 }
 
 // "The running task is the first task in the ready list that isn't suspended; there may be none."
-fn running(t: &[u32], ts: usize) -> Option<TaskNo>
-    requires le_ts { 8 ≤ ts }
-    requires ts_bound { ts ≤ 9 }
-    ensures number { (L : Layout) (s : State) → Laid ts L → Room s → Listed s → t.now ≡ words L s
+fn running(t: &[u32], ts: TaskSize) -> Option<TaskNo>
+    ensures number { (L : Layout) (s : State) → Laid ts.words L → Room s → Listed s → t.now ≡ words L s
         → next_number result ≡ next s }
     ensures low { IfSome result (λ i. i.0 < 4294967295) }
 {
@@ -72,10 +66,8 @@ fn running(t: &[u32], ts: usize) -> Option<TaskNo>
 }
 
 // "Next is the running task plus 1, or 0."
-pub fn next(t: &[u32], ts: usize) -> u32
-    requires le_ts { 8 ≤ ts }
-    requires ts_bound { ts ≤ 9 }
-    ensures { (L : Layout) (s : State) → Laid ts L → Room s → Listed s → t.now ≡ words L s
+pub fn next(t: &[u32], ts: TaskSize) -> u32
+    ensures { (L : Layout) (s : State) → Laid ts.words L → Room s → Listed s → t.now ≡ words L s
         → result ≡ next s }
 {
     match running(t, ts) {
@@ -84,10 +76,8 @@ pub fn next(t: &[u32], ts: usize) -> u32
     }
 }
 
-fn is_running(t: &[u32], ts: usize, caller: u32) -> bool
-    requires le_ts { 8 ≤ ts }
-    requires ts_bound { ts ≤ 9 }
-    ensures { (L : Layout) (s : State) → Laid ts L → Room s → Listed s → t.now ≡ words L s
+fn is_running(t: &[u32], ts: TaskSize, caller: u32) -> bool
+    ensures { (L : Layout) (s : State) → Laid ts.words L → Room s → Listed s → t.now ≡ words L s
         → result ≡ eqb (next s) (suc caller) }
 {
     match running(t, ts) {
@@ -153,11 +143,9 @@ fn good_hub(kind: u32, limit: u32, start: u32) -> bool
 }
 
 // 1 Hub request: "the hub is looked up before side, mode and ticks; an unused number ends the call there"
-fn for_request(t: &[u32], ts: usize, c: Call) -> Result<(), Refusal>
-    requires le_ts { 8 ≤ ts }
-    requires ts_bound { ts ≤ 9 }
+fn for_request(t: &[u32], ts: TaskSize, c: Call) -> Result<(), Refusal>
     ensures { refusal_number result ≡ need (ltb c.target (hubs_in t.now)) 5
-        (need (good_request (kind_of (kind_in ts t.now c.target)) c) 6 0) }
+        (need (good_request (kind_of (kind_in ts.words t.now c.target)) c) 6 0) }
 {
     let h = find_hub(t, c.target).ok_or(Refusal::NotInUse)?;
     let x = records::hub(t, records::hubs_at(ts), h);
@@ -207,10 +195,8 @@ fn for_add_hub(t: &[u32], c: Call) -> Result<(), Refusal>
 
 // "services 1 to 7: caller isn't the running task"
 #[tactic(auto, unfolding(rules::specs::Refusals::by_running))]
-fn by_running(t: &[u32], ts: usize, c: Call) -> Result<(), Refusal>
-    requires le_ts { 8 ≤ ts }
-    requires ts_bound { ts ≤ 9 }
-    ensures { (L : Layout) (s : State) → Laid ts L → Room s → Listed s → t.now ≡ words L s
+fn by_running(t: &[u32], ts: TaskSize, c: Call) -> Result<(), Refusal>
+    ensures { (L : Layout) (s : State) → Laid ts.words L → Room s → Listed s → t.now ≡ words L s
         → refusal_number result ≡ by_running s c 0 }
 {
     rules::need(is_running(t, ts, c.caller), Refusal::NotRunning)
@@ -218,10 +204,8 @@ fn by_running(t: &[u32], ts: usize, c: Call) -> Result<(), Refusal>
 
 // Document 01's tests of a call on a table that is well formed, by service, each row's in the order of their numbers. Blank and
 // Tick are never refused here.
-fn by_service(t: &[u32], ts: usize, c: Call) -> Result<(), Refusal>
-    requires le_ts { 8 ≤ ts }
-    requires ts_bound { ts ≤ 9 }
-    ensures { (L : Layout) (s : State) → Laid ts L → Valid s → Room s → t.now ≡ words L s
+fn by_service(t: &[u32], ts: TaskSize, c: Call) -> Result<(), Refusal>
+    ensures { (L : Layout) (s : State) → Laid ts.words L → Valid s → Room s → t.now ≡ words L s
         → refusal_number result ≡ refusal s c }
 {
     let Some(service) = Service::of(c.service) else {
@@ -248,19 +232,16 @@ fn by_service(t: &[u32], ts: usize, c: Call) -> Result<(), Refusal>
 }
 
 // "with a high word above 0 a hub request on them is refusal 6" (M-105): only edition 2 has messages of two words.
-fn good_message(ts: usize, c: Call) -> bool
-    requires { 8 ≤ ts }
-    ensures { (L : Layout) → Laid ts L → result ≡ good_message L c }
+fn good_message(ts: TaskSize, c: Call) -> bool
+    ensures { (L : Layout) → Laid ts.words L → result ≡ good_message L c }
 {
     (Service::of(c.service) != Some(Service::HubRequest))
         | ((2 <= records::width_of(ts)) | (c.high == 0))
 }
 
 // A call on a table that is well formed: refused, or not.
-pub fn for_service(t: &[u32], ts: usize, c: Call) -> Result<(), Refusal>
-    requires le_ts { 8 ≤ ts }
-    requires ts_bound { ts ≤ 9 }
-    ensures { (L : Layout) (s : State) → Laid ts L → Valid s → Room s → t.now ≡ words L s
+pub fn for_service(t: &[u32], ts: TaskSize, c: Call) -> Result<(), Refusal>
+    ensures { (L : Layout) (s : State) → Laid ts.words L → Valid s → Room s → t.now ≡ words L s
         → refusal_number result ≡ refusal_at L s c }
 {
     by_service(t, ts, c)?;

@@ -15,7 +15,7 @@ ghost use Rattle.rules.specs.Reorder.{put_back, rejoin, reordered, taken_out};
 ghost use Rattle.rules.specs.Table.{Layout, State, words};
 
 use moves::TaskList;
-use records::TaskNo;
+use records::{TableView, TaskNo, TaskSize};
 
 // Whether task i's key is another than before.
 fn is_changed(before: &[u32; 16], after: &[u32; 16], i: usize) -> bool
@@ -26,10 +26,10 @@ fn is_changed(before: &[u32; 16], after: &[u32; 16], i: usize) -> bool
 }
 
 // "taken out of their lists": of the tasks below n those whose key is another than before.
-fn take_changed(t: &mut [u32], ts: usize, before: &[u32; 16], after: &[u32; 16], n: usize)
-    requires table { Table ts t.old }
+fn take_changed(t: &mut [u32], ts: TaskSize, before: &[u32; 16], after: &[u32; 16], n: usize)
+    requires table { Table ts.words t.old }
     requires n_bound { n ≤ 16 }
-    ensures { (L : Layout) (s : State) → Laid ts L → Sound s → n ≤ length s.tasks → t.old ≡ words L s
+    ensures { (L : Layout) (s : State) → Laid ts.words L → Sound s → n ≤ length s.tasks → t.old ≡ words L s
         → t.new ≡ words L (taken_out (differs n before.now after.now) s) }
 {
     for i in 0..n {
@@ -40,10 +40,10 @@ fn take_changed(t: &mut [u32], ts: usize, before: &[u32; 16], after: &[u32; 16],
 }
 
 // "put back behind their equals": task i joins the list in which its record says that it stands.
-fn put_back(t: &mut [u32], ts: usize, keys: &[u32; 16], i: usize)
-    requires table { Table ts t.old }
+fn put_back(t: &mut [u32], ts: TaskSize, keys: &[u32; 16], i: usize)
+    requires table { Table ts.words t.old }
     requires i_bound { i < 16 }
-    ensures { (L : Layout) (s : State) → Laid ts L → HubsUsed s → i < length s.tasks → t.old ≡ words L s
+    ensures { (L : Layout) (s : State) → Laid ts.words L → HubsUsed s → i < length s.tasks → t.old ≡ words L s
         → t.new ≡ words L (rejoin (key_of keys.now) i s) }
 {
     match moves::list_of(moves::task_at(t, ts, TaskNo(i))) {
@@ -59,10 +59,10 @@ fn put_back(t: &mut [u32], ts: usize, keys: &[u32; 16], i: usize)
 
 // "then put back .. in task number order": the same tasks. A loop of its own: over a closure that writes the table, the one loop
 // for both would say nothing of what the table holds then.
-fn put_changed(t: &mut [u32], ts: usize, before: &[u32; 16], after: &[u32; 16], n: usize)
-    requires table { Table ts t.old }
+fn put_changed(t: &mut [u32], ts: TaskSize, before: &[u32; 16], after: &[u32; 16], n: usize)
+    requires table { Table ts.words t.old }
     requires n_bound { n ≤ 16 }
-    ensures { (L : Layout) (s : State) → Laid ts L → HubsUsed s → n ≤ length s.tasks → t.old ≡ words L s
+    ensures { (L : Layout) (s : State) → Laid ts.words L → HubsUsed s → n ≤ length s.tasks → t.old ≡ words L s
         → t.new ≡ words L (put_back (key_of after.now)
         (differs n before.now after.now) n s) }
 {
@@ -74,10 +74,10 @@ fn put_changed(t: &mut [u32], ts: usize, before: &[u32; 16], after: &[u32; 16], 
 }
 
 // The reordering, where the keys before and after are known: all out first, since one by one would leave lists out of order.
-fn reorder_by(t: &mut [u32], ts: usize, before: &[u32; 16], after: &[u32; 16], n: usize)
-    requires table { Table ts t.old }
+fn reorder_by(t: &mut [u32], ts: TaskSize, before: &[u32; 16], after: &[u32; 16], n: usize)
+    requires table { Table ts.words t.old }
     requires n_bound { n ≤ 16 }
-    ensures { (L : Layout) (s s' : State) → Laid ts L → Sound s' → n ≡ length s.tasks → n ≤ length s'.tasks
+    ensures { (L : Layout) (s s' : State) → Laid ts.words L → Sound s' → n ≡ length s.tasks → n ≤ length s'.tasks
         → ((j : ℕ) → get_or before.now j 0 ≡ effective s j)
         → ((j : ℕ) → get_or after.now j 0 ≡ effective s' j)
         → t.old ≡ words L s' → t.new ≡ words L (reordered s s') }
@@ -92,14 +92,14 @@ fn reorder_by(t: &mut [u32], ts: usize, before: &[u32; 16], after: &[u32; 16], n
 
 // The end of an accepted call: the lists in order by effective priority again. `before` are the keys before the call, and n is
 // the number of tasks then; the table is the one when the call's service is done.
-pub fn reorder(t: &mut [u32], ts: usize, before: &[u32; 16], n: usize)
-    requires table { Table ts t.old }
+pub fn reorder(t: &mut [u32], ts: TaskSize, before: &[u32; 16], n: usize)
+    requires table { Table ts.words t.old }
     requires n_bound { n ≤ 16 }
-    ensures { (L : Layout) (s s' : State) → Laid ts L → Sound s' → n ≡ length s.tasks → n ≤ length s'.tasks
+    ensures { (L : Layout) (s s' : State) → Laid ts.words L → Sound s' → n ≡ length s.tasks → n ≤ length s'.tasks
         → ((j : ℕ) → get_or before.now j 0 ≡ effective s j)
         → t.old ≡ words L s' → t.new ≡ words L (reordered s s') }
 {
     let mut after = [0u32; 16];
-    inherit::find_keys(t, ts, &mut after);
+    inherit::find_keys(&TableView { words: t, ts }, &mut after);
     reorder_by(t, ts, before, &after, n);
 }

@@ -20,16 +20,16 @@ ghost use Rattle.rules.specs.Refusals.{refusal_for};
 ghost use Rattle.rules.specs.Table.{Hub, Layout, State, hub, set_task, task, words};
 
 use hubtable::{Meeting, Store, Verdict};
-use records::{HubNo, TaskNo, TaskRecord};
+use records::{HubNo, TaskNo, TaskRecord, TaskSize};
 use rules::{Call, Kind, Served};
 
 // "A request that is met answers 1." The waiter met with it, if there is one, becomes ready.
-fn meet(t: &mut [u32], ts: usize, keys: &[u32], c: Call, m: Meeting)
-    requires table { Table ts t.old }
+fn meet(t: &mut [u32], ts: TaskSize, keys: &[u32], c: Call, m: Meeting)
+    requires table { Table ts.words t.old }
     requires caller_bound { c.caller < 16 }
     requires target_bound { c.target < 16 }
-    requires below { Below (messages (width ts)) (Met m) }
-    ensures { (L : Layout) (s : State) → Laid ts L → Valid s → refusal_for HubRequest s c ≡ 0
+    requires below { Below (messages (width ts.words)) (Met m) }
+    ensures { (L : Layout) (s : State) → Laid ts.words L → Valid s → refusal_for HubRequest s c ≡ 0
         → says (hub s c.target).held (Met m) ≡ verdict s c → t.old ≡ words L s
         → t.new ≡ words L (serve (key_of keys.now) HubRequest s c) }
 {
@@ -45,11 +45,11 @@ fn meet(t: &mut [u32], ts: usize, keys: &[u32], c: Call, m: Meeting)
 }
 
 // The first that waits at hub h, if there is one, is met with this word.
-fn meet_first(t: &mut [u32], ts: usize, keys: &[u32], h: HubNo, w: u64)
-    requires table { Table ts t.old }
+fn meet_first(t: &mut [u32], ts: TaskSize, keys: &[u32], h: HubNo, w: u64)
+    requires table { Table ts.words t.old }
     requires h_bound { h.0 < 16 }
-    requires w_bound { w < messages (width ts) }
-    ensures { (L : Layout) (s : State) → Laid ts L → Sound s → h.0 < length s.hubs → t.old ≡ words L s
+    requires w_bound { w < messages (width ts.words) }
+    ensures { (L : Layout) (s : State) → Laid ts.words L → Sound s → h.0 < length s.hubs → t.old ≡ words L s
         → t.new ≡ words L (meet_one (key_of keys.now) w (hub s h.0).waiters s) }
 {
     let first = records::entry(lists::word(&*t, records::waits_at(ts, h)));
@@ -61,11 +61,11 @@ fn meet_first(t: &mut [u32], ts: usize, keys: &[u32], h: HubNo, w: u64)
 }
 
 // "every waiting reader is met with the word, in list order": each that is met leaves the list, so the next stands first.
-fn meet_all(t: &mut [u32], ts: usize, keys: &[u32], h: HubNo, w: u64)
-    requires table { Table ts t.old }
+fn meet_all(t: &mut [u32], ts: TaskSize, keys: &[u32], h: HubNo, w: u64)
+    requires table { Table ts.words t.old }
     requires h_bound { h.0 < 16 }
-    requires w_bound { w < messages (width ts) }
-    ensures { (L : Layout) (s : State) → Laid ts L → Sound s → h.0 < length s.hubs → t.old ≡ words L s
+    requires w_bound { w < messages (width ts.words) }
+    ensures { (L : Layout) (s : State) → Laid ts.words L → Sound s → h.0 < length s.hubs → t.old ≡ words L s
         → t.new ≡ words L (meet_all (key_of keys.now) (meetings w (hub s h.0).waiters) s) }
 {
     for _ in 0..records::LIST_SIZE {
@@ -74,12 +74,12 @@ fn meet_all(t: &mut [u32], ts: usize, keys: &[u32], h: HubNo, w: u64)
 }
 
 // Side 1 at a Board: "always OK, and every waiting reader is met with the word, in list order".
-fn update(t: &mut [u32], ts: usize, keys: &[u32], c: Call)
-    requires table { Table ts t.old }
+fn update(t: &mut [u32], ts: TaskSize, keys: &[u32], c: Call)
+    requires table { Table ts.words t.old }
     requires caller_bound { c.caller < 16 }
     requires target_bound { c.target < 16 }
-    requires c_bound { message c < messages (width ts) }
-    ensures { (L : Layout) (s : State) → Laid ts L → Valid s → refusal_for HubRequest s c ≡ 0
+    requires c_bound { message c < messages (width ts.words) }
+    ensures { (L : Layout) (s : State) → Laid ts.words L → Valid s → refusal_for HubRequest s c ≡ 0
         → (hub s c.target).kind ≡ 6 → c.side ≡ 1 → t.old ≡ words L s
         → t.new ≡ words L (serve (key_of keys.now) HubRequest s c) }
 {
@@ -111,12 +111,12 @@ fn kept_word(kind: u32, side: u32, word: u64) -> u64
 }
 
 // "gets state 3, the hub, side and ticks, answer 0"
-fn make_waiting(t: &mut [u32], ts: usize, c: Call, word: u64)
-    requires table { Table ts t.old }
+fn make_waiting(t: &mut [u32], ts: TaskSize, c: Call, word: u64)
+    requires table { Table ts.words t.old }
     requires caller_bound { c.caller < 16 }
     requires target_bound { c.target < 16 }
-    requires word_bound { word < messages (width ts) }
-    ensures { (L : Layout) (s : State) → Laid ts L → length s.tasks ≤ 16 → c.caller < length s.tasks
+    requires word_bound { word < messages (width ts.words) }
+    ensures { (L : Layout) (s : State) → Laid ts.words L → length s.tasks ≤ 16 → c.caller < length s.tasks
         → t.old ≡ words L s
         → t.new ≡ words L (set_task c.caller (waits c.target c.ticks c.side word (task s c.caller)) s) }
 {
@@ -140,12 +140,12 @@ fn make_waiting(t: &mut [u32], ts: usize, c: Call, word: u64)
 
 // "the caller leaves the ready list, ... and joins the hub's list behind all entries of its own or a more urgent priority"
 // The place at which it joins is how many stand before it.
-fn wait_there(t: &mut [u32], ts: usize, keys: &[u32], c: Call) -> u32
-    requires table { Table ts t.old }
+fn wait_there(t: &mut [u32], ts: TaskSize, keys: &[u32], c: Call) -> u32
+    requires table { Table ts.words t.old }
     requires caller_bound { c.caller < 16 }
     requires target_bound { c.target < 16 }
-    requires c_bound { message c < messages (width ts) }
-    ensures { (L : Layout) (s : State) → Laid ts L → Sound s → c.caller < length s.tasks
+    requires c_bound { message c < messages (width ts.words) }
+    ensures { (L : Layout) (s : State) → Laid ts.words L → Sound s → c.caller < length s.tasks
         → c.target < length s.hubs
         → t.old ≡ words L s → Leaves L (wait (key_of keys.now) s c) c result t.new }
 {
@@ -159,10 +159,10 @@ fn wait_there(t: &mut [u32], ts: usize, keys: &[u32], c: Call) -> u32
 }
 
 // "FAIL in every mode", and "'not now' under NW answers 2": nothing changes but the caller's answer and word.
-fn fail(t: &mut [u32], ts: usize, caller: TaskNo)
-    requires table { Table ts t.old }
+fn fail(t: &mut [u32], ts: TaskSize, caller: TaskNo)
+    requires table { Table ts.words t.old }
     requires caller_bound { caller.0 < 16 }
-    ensures { (L : Layout) (s : State) → Laid ts L → length s.tasks ≤ 16 → caller.0 < length s.tasks
+    ensures { (L : Layout) (s : State) → Laid ts.words L → length s.tasks ≤ 16 → caller.0 < length s.tasks
         → t.old ≡ words L s
         → t.new ≡ words L (answer caller.0 2 0 s) }
 {
@@ -170,12 +170,12 @@ fn fail(t: &mut [u32], ts: usize, caller: TaskNo)
 }
 
 // Any request but the update of a Board: met, failed, or not now, which under NW fails and under W and WT waits.
-fn settle(t: &mut [u32], ts: usize, keys: &[u32], c: Call) -> u32
-    requires table { Table ts t.old }
+fn settle(t: &mut [u32], ts: TaskSize, keys: &[u32], c: Call) -> u32
+    requires table { Table ts.words t.old }
     requires caller_bound { c.caller < 16 }
     requires target_bound { c.target < 16 }
-    requires c_bound { message c < messages (width ts) }
-    ensures { (L : Layout) (s : State) → Laid ts L → Valid s → refusal_for HubRequest s c ≡ 0
+    requires c_bound { message c < messages (width ts.words) }
+    ensures { (L : Layout) (s : State) → Laid ts.words L → Valid s → refusal_for HubRequest s c ≡ 0
         → ((hub s c.target).kind ≡ 6 → c.side ≡ 1 → ⊥) → t.old ≡ words L s
         → Leaves L (serve (key_of keys.now) HubRequest s c) c result t.new }
 {
@@ -202,12 +202,12 @@ fn settle(t: &mut [u32], ts: usize, keys: &[u32], c: Call) -> u32
 }
 
 // Service 1, accepted.
-pub fn request(t: &mut [u32], ts: usize, keys: &[u32], c: Call) -> Served
-    requires table { Table ts t.old }
+pub fn request(t: &mut [u32], ts: TaskSize, keys: &[u32], c: Call) -> Served
+    requires table { Table ts.words t.old }
     requires caller_bound { c.caller < 16 }
     requires target_bound { c.target < 16 }
-    requires c_bound { message c < messages (width ts) }
-    ensures { (L : Layout) (s : State) → Laid ts L → Valid s → refusal_for HubRequest s c ≡ 0
+    requires c_bound { message c < messages (width ts.words) }
+    ensures { (L : Layout) (s : State) → Laid ts.words L → Valid s → refusal_for HubRequest s c ≡ 0
         → t.old ≡ words L s
         → Leaves L (serve (key_of keys.now) HubRequest s c) c result.ahead t.new }
 {

@@ -8,7 +8,7 @@ ghost use Rattle.records.specs.Records.{hubs_at};
 ghost use Rattle.rows.specs.Rows.{KeysOf, hub_row, marked_in, row_at, rows, task_row};
 ghost use Rattle.rows.specs.Rows.{apart, differ, marked, shown, used};
 
-use records::HubNo;
+use records::{HubNo, TaskSize};
 
 // What a row is about. A number is a task's or a hub's.
 #[derive(Clone, Copy, PartialEq, Eq, Debug)]
@@ -71,11 +71,9 @@ fn hub_row(h: u32, j: u32) -> Row
 #[derive(Clone, Copy)]
 pub struct View<'a> {
     pub words: &'a [u32],
-    pub ts: usize,
+    pub ts: TaskSize,
     pub runs: u32,
     pub keys: [u32; 16],
-    pub ghost le_ts: { 8 ≤ ts },
-    pub ghost ts_bound: { ts ≤ 9 },
     pub ghost keys_of: { KeysOf words.now keys },
 }
 
@@ -84,7 +82,7 @@ pub struct View<'a> {
 pub struct Pair<'a, 'b> {
     pub left: View<'a>,
     pub right: View<'b>,
-    pub ghost one_edition: { left.ts ≡ right.ts },
+    pub ghost one_edition: { left.ts.words ≡ right.ts.words },
 }
 
 impl View<'_> {
@@ -128,15 +126,15 @@ impl Pair<'_, '_> {
     // Of a task's record.
     fn task_differs(&self, i: u32, f: usize, n: usize) -> bool
         requires { f + n ≤ 65535 }
-        ensures { result ≡ differ_from self.now (8 + i * self.now.left.ts + f) n }
+        ensures { result ≡ differ_from self.now (8 + i * self.now.left.ts.words + f) n }
     {
-        self.differ(records::TASKS_AT, self.left.ts, i, f, n)
+        self.differ(records::TASKS_AT, self.left.ts.words, i, f, n)
     }
 
     // Of a hub's record.
     fn hub_differs(&self, h: u32, f: usize, n: usize) -> bool
         requires { f + n ≤ 65535 }
-        ensures { result ≡ differ_from self.now (hubs_at self.now.left.ts + h * 4 + f) n }
+        ensures { result ≡ differ_from self.now (hubs_at self.now.left.ts.words + h * 4 + f) n }
     {
         self.differ(records::hubs_at(self.left.ts), records::HUB_SIZE, h, f, n)
     }

@@ -42,7 +42,7 @@ pub fn put_title(out: &mut Writer, row: Row)
 #[tactic(auto, unfolding(crate::specs::RowTexts::used_text))]
 fn put_store(out: &mut Writer, table: &View, h: u32)
     requires { h < 16 }
-    ensures { Wrote out.old (used_text table.now.ts table.now.words.now table.now.runs (Row.Holds h)) out.new }
+    ensures { Wrote out.old (used_text table.now.ts.words table.now.words.now table.now.runs (Row.Holds h)) out.new }
 {
     let ts = table.ts;
     let store = Store {
@@ -56,12 +56,12 @@ fn put_store(out: &mut Writer, table: &View, h: u32)
 
 // A task's priority, and by the table's keys its effective one.
 fn put_priorities(out: &mut Writer, table: &View, i: u32)
-    ensures { Wrote out.old (used_text table.now.ts table.now.words.now table.now.runs (Row.Priority i)) out.new }
+    ensures { Wrote out.old (used_text table.now.ts.words table.now.words.now table.now.runs (Row.Priority i)) out.new }
 {
     let own = records::field(
         table.words,
         records::TASKS_AT,
-        table.ts,
+        table.ts.words,
         i as usize,
         records::PRIORITY,
     );
@@ -73,7 +73,7 @@ fn put_priorities(out: &mut Writer, table: &View, i: u32)
 #[tactic(auto, unfolding(crate::specs::RowTexts::used_text))]
 fn put_used(out: &mut Writer, table: &View, row: Row)
     requires { row_number row < 16 }
-    ensures { Wrote out.old (used_text table.now.ts table.now.words.now table.now.runs row) out.new }
+    ensures { Wrote out.old (used_text table.now.ts.words table.now.words.now table.now.runs row) out.new }
 {
     let t = table.words;
     let ts = table.ts;
@@ -96,7 +96,7 @@ fn put_used(out: &mut Writer, table: &View, row: Row)
 #[tactic(auto, unfolding(crate::specs::RowTexts::cell))]
 pub fn put_cell(out: &mut Writer, table: &View, row: Row)
     requires { row_number row < 16 }
-    ensures { Wrote out.old (cell table.now.ts table.now.words.now table.now.runs row) out.new }
+    ensures { Wrote out.old (cell table.now.ts.words table.now.words.now table.now.runs row) out.new }
 {
     if table.uses(row) {
         put_used(out, table, row);

@@ -8,12 +8,12 @@ ghost use Rattle.rules.proofs.Layouts.{Laid};
 ghost use Rattle.rules.specs.Calls.{add_hub, add_task, blank};
 ghost use Rattle.rules.specs.Table.{Layout, State, kind_of, stored, words};
 
-use records::{HubNo, HubRecord, TaskNo, TaskRecord};
+use records::{HubNo, HubRecord, TaskNo, TaskRecord, TaskSize};
 
 // "contents 1, 0, 0, 8, 136, 200, 216, 472 and the other words 0"; an edition's number is how many words a message has
-pub fn blank(t: &mut [u32], ts: usize)
-    requires { Table ts t.old }
-    ensures { (L : Layout) → Laid ts L → t.new ≡ words L blank }
+pub fn blank(t: &mut [u32], ts: TaskSize)
+    requires { Table ts.words t.old }
+    ensures { (L : Layout) → Laid ts.words L → t.new ≡ words L blank }
 {
     t.fill(0);
     t[0] = records::width_of(ts) as u32;
@@ -25,10 +25,10 @@ pub fn blank(t: &mut [u32], ts: usize)
 }
 
 // "Each takes the next number": a task of this priority, inactive.
-pub fn add_task(t: &mut [u32], ts: usize, priority: u32)
-    requires table { Table ts t.old }
+pub fn add_task(t: &mut [u32], ts: TaskSize, priority: u32)
+    requires table { Table ts.words t.old }
     requires t_bound { get_or t.old 1 0 < 16 }
-    ensures { (L : Layout) (s : State) → Laid ts L → length s.tasks < 16 → t.old ≡ words L s
+    ensures { (L : Layout) (s : State) → Laid ts.words L → length s.tasks < 16 → t.old ≡ words L s
         → t.new ≡ words L (add_task priority s) }
 {
     let n = t[records::TASKS] as usize;
@@ -51,10 +51,10 @@ pub fn add_task(t: &mut [u32], ts: usize, priority: u32)
 }
 
 // "target is kind, ticks the limit, word the start, count = start"; its store is 0 already
-pub fn add_hub(t: &mut [u32], ts: usize, kind: u32, limit: u32, start: u32)
-    requires table { Table ts t.old }
+pub fn add_hub(t: &mut [u32], ts: TaskSize, kind: u32, limit: u32, start: u32)
+    requires table { Table ts.words t.old }
     requires t_bound { get_or t.old 2 0 < 16 }
-    ensures { (L : Layout) (s : State) → Laid ts L → length s.hubs < 16 → t.old ≡ words L s
+    ensures { (L : Layout) (s : State) → Laid ts.words L → length s.hubs < 16 → t.old ≡ words L s
         → t.new ≡ words L (add_hub record {
           kind = kind;
           count = start;

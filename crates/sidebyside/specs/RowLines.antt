@@ -26,10 +26,10 @@ rows_text ts a b runs runs' (r ∷ rs) = row_text ts a b runs runs' r ++ rows_te
 -- ---- the same of two tables as the code is handed them
 
 abbrev pub line_of : Pair → Row → List ℕ
-line_of v r = line_text v.left.ts v.left.words.now v.right.words.now v.left.runs v.right.runs r
+line_of v r = line_text v.left.ts.words v.left.words.now v.right.words.now v.left.runs v.right.runs r
 
 abbrev pub row_of : Pair → Row → List ℕ
-row_of v r = row_text v.left.ts v.left.words.now v.right.words.now v.left.runs v.right.runs r
+row_of v r = row_text v.left.ts.words v.left.words.now v.right.words.now v.left.runs v.right.runs r
 
 abbrev pub rows_of : Pair → List Row → List ℕ
-rows_of v rs = rows_text v.left.ts v.left.words.now v.right.words.now v.left.runs v.right.runs rs
+rows_of v rs = rows_text v.left.ts.words v.left.words.now v.right.words.now v.left.runs v.right.runs rs

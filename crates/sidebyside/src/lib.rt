@@ -12,6 +12,7 @@ ghost use Rattle.sidebyside.specs.RowLines.{line_of, row_of, rows_of};
 ghost use Rattle.sidebyside.specs.Shows.{ShownAs, Shows, pair_refusal, runs_in, size_of};
 ghost use Rattle.texts.specs.Texts.{Put, Wrote};
 
+use records::TableView;
 use rows::{Pair, Row, View};
 use rules::Refusal;
 use texts::Writer;
@@ -99,7 +100,7 @@ fn show_in(tables: &Pair, text: &mut [u8]) -> Result<Shown, Refusal>
 fn view(words: &[u32]) -> View<'_>
     requires { table_refusal words.now 0 ≡ 0 }
     ensures words { result.words.now ≡ words.now }
-    ensures ts { result.ts ≡ size_of words.now }
+    ensures ts { result.ts.words ≡ size_of words.now }
     ensures runs { result.runs ≡ runs_in words.now }
 {
     let ts = records::task_size(words.len());
@@ -107,7 +108,7 @@ fn view(words: &[u32]) -> View<'_>
         words,
         ts,
         runs: refusals::next(words, ts),
-        keys: inherit::keys(words, ts),
+        keys: inherit::keys(&TableView { words, ts }),
     }
 }
 

@@ -15,13 +15,13 @@ ghost use Rattle.rules.specs.Table.{Layout, State, hub, kind_of, words};
 ghost use Rattle.stores.specs.Fits.{StoreFits};
 
 use hubtable::{Meeting, Store};
-use records::{HubNo, HubRecord};
+use records::{HubNo, HubRecord, TaskSize};
 
 // The record of hub h.
-pub fn hub_at(t: &[u32], ts: usize, h: HubNo) -> HubRecord
-    requires table { Table ts t.now }
+pub fn hub_at(t: &[u32], ts: TaskSize, h: HubNo) -> HubRecord
+    requires table { Table ts.words t.now }
     requires h_bound { h.0 ≤ 4294967295 }
-    ensures { (L : Layout) (s : State) → Laid ts L → length s.hubs ≤ 16 → h.0 < length s.hubs
+    ensures { (L : Layout) (s : State) → Laid ts.words L → length s.hubs ≤ 16 → h.0 < length s.hubs
         → t.now ≡ words L s
         → RecordOf result (hub s h.0) }
 {
@@ -29,12 +29,12 @@ pub fn hub_at(t: &[u32], ts: usize, h: HubNo) -> HubRecord
 }
 
 // Message k of the 8 in hub h's store, 0 where it holds fewer.
-pub fn held_at(t: &[u32], ts: usize, h: HubNo, k: usize) -> u64
-    requires table { Table ts t.now }
+pub fn held_at(t: &[u32], ts: TaskSize, h: HubNo, k: usize) -> u64
+    requires table { Table ts.words t.now }
     requires h_bound { h.0 < 16 }
     requires k_bound { k < 8 }
-    ensures upper_bound { result < messages (width ts) }
-    ensures value { (L : Layout) (s : State) → Laid ts L → h.0 < length s.hubs → t.now ≡ words L s
+    ensures upper_bound { result < messages (width ts.words) }
+    ensures value { (L : Layout) (s : State) → Laid ts.words L → h.0 < length s.hubs → t.now ≡ words L s
         → result ≡ get_or (hub s h.0).held k 0 }
 {
     let v = records::width_of(ts);
@@ -42,10 +42,10 @@ pub fn held_at(t: &[u32], ts: usize, h: HubNo, k: usize) -> u64
 }
 
 // Memory: whether block b of hub h is out. A number from 8 on has no mark.
-pub fn is_out(t: &[u32], ts: usize, h: HubNo, b: u64) -> bool
-    requires table { Table ts t.now }
+pub fn is_out(t: &[u32], ts: TaskSize, h: HubNo, b: u64) -> bool
+    requires table { Table ts.words t.now }
     requires h_bound { h.0 < 16 }
-    ensures { (L : Layout) (s : State) → Laid ts L → h.0 < length s.hubs → length (hub s h.0).held ≤ 8
+    ensures { (L : Layout) (s : State) → Laid ts.words L → h.0 < length s.hubs → length (hub s h.0).held ≤ 8
         → t.now ≡ words L s
         → result ≡ is_out b (hub s h.0) }
 {
@@ -57,11 +57,11 @@ pub fn is_out(t: &[u32], ts: usize, h: HubNo, b: u64) -> bool
 }
 
 // Memory: the lowest free block of hub h, the first whose mark is 0; its limit where none is.
-pub fn lowest_free(t: &[u32], ts: usize, h: HubNo) -> u64
-    requires table { Table ts t.now }
+pub fn lowest_free(t: &[u32], ts: TaskSize, h: HubNo) -> u64
+    requires table { Table ts.words t.now }
     requires h_bound { h.0 < 16 }
     ensures upper_bound { result ≤ 8 }
-    ensures value { (L : Layout) (s : State) → Laid ts L → h.0 < length s.hubs → length (hub s h.0).held ≤ 8
+    ensures value { (L : Layout) (s : State) → Laid ts.words L → h.0 < length s.hubs → length (hub s h.0).held ≤ 8
         → t.now ≡ words L s
         → result ≡ lowest_free (hub s h.0) }
 {
@@ -74,10 +74,10 @@ pub fn lowest_free(t: &[u32], ts: usize, h: HubNo) -> u64
 }
 
 // The oldest message goes out of hub h's store.
-fn take_oldest(t: &mut [u32], ts: usize, h: HubNo)
-    requires table { Table ts t.old }
+fn take_oldest(t: &mut [u32], ts: TaskSize, h: HubNo)
+    requires table { Table ts.words t.old }
     requires h_bound { h.0 < 16 }
-    ensures { (L : Layout) (s : State) → Laid ts L → h.0 < length s.hubs → length (hub s h.0).held ≤ 8
+    ensures { (L : Layout) (s : State) → Laid ts.words L → h.0 < length s.hubs → length (hub s h.0).held ≤ 8
         → t.old ≡ words L s
         → t.new ≡ words L (hold h.0 (hub s h.0).count (drop 1 (hub s h.0).held) s) }
 {
@@ -87,11 +87,11 @@ fn take_oldest(t: &mut [u32], ts: usize, h: HubNo)
 }
 
 // A message goes into hub h's store behind the n messages held.
-fn append_word(t: &mut [u32], ts: usize, h: HubNo, n: usize, w: u64)
-    requires table { Table ts t.old }
+fn append_word(t: &mut [u32], ts: TaskSize, h: HubNo, n: usize, w: u64)
+    requires table { Table ts.words t.old }
     requires h_bound { h.0 < 16 }
-    requires w_bound { w < messages (width ts) }
-    ensures { (L : Layout) (s : State) → Laid ts L → h.0 < length s.hubs → n ≡ length (hub s h.0).held
+    requires w_bound { w < messages (width ts.words) }
+    ensures { (L : Layout) (s : State) → Laid ts.words L → h.0 < length s.hubs → n ≡ length (hub s h.0).held
         → n < 8
         → t.old ≡ words L s
         → t.new ≡ words L (hold h.0 (hub s h.0).count ((hub s h.0).held ++ w ∷ []) s) }
@@ -103,11 +103,11 @@ fn append_word(t: &mut [u32], ts: usize, h: HubNo, n: usize, w: u64)
 }
 
 // Memory: mark b of the n in hub h's store becomes m; a number from n on has none.
-fn set_mark(t: &mut [u32], ts: usize, h: HubNo, n: usize, b: u64, m: u64)
-    requires table { Table ts t.old }
+fn set_mark(t: &mut [u32], ts: TaskSize, h: HubNo, n: usize, b: u64, m: u64)
+    requires table { Table ts.words t.old }
     requires h_bound { h.0 < 16 }
-    requires m_bound { m < messages (width ts) }
-    ensures { (L : Layout) (s : State) → Laid ts L → h.0 < length s.hubs → n ≡ length (hub s h.0).held
+    requires m_bound { m < messages (width ts.words) }
+    ensures { (L : Layout) (s : State) → Laid ts.words L → h.0 < length s.hubs → n ≡ length (hub s h.0).held
         → n ≤ 8
         → t.old ≡ words L s
         → t.new ≡ words L (hold h.0 (hub s h.0).count (set (hub s h.0).held b m) s) }
@@ -121,11 +121,11 @@ fn set_mark(t: &mut [u32], ts: usize, h: HubNo, n: usize, b: u64, m: u64)
 }
 
 // What a verdict does to hub h's store, which holds n messages.
-fn change_store(t: &mut [u32], ts: usize, h: HubNo, n: usize, store: Store)
-    requires table { Table ts t.old }
+fn change_store(t: &mut [u32], ts: TaskSize, h: HubNo, n: usize, store: Store)
+    requires table { Table ts.words t.old }
     requires h_bound { h.0 < 16 }
-    requires store_below { StoreBelow (messages (width ts)) store }
-    ensures { (L : Layout) (s : State) → Laid ts L → h.0 < length s.hubs
+    requires store_below { StoreBelow (messages (width ts.words)) store }
+    ensures { (L : Layout) (s : State) → Laid ts.words L → h.0 < length s.hubs
         → n ≡ length (hub s h.0).held → StoreFits store (hub s h.0).held
         → t.old ≡ words L s
         → t.new ≡ words L (hold h.0 (hub s h.0).count (store_after store (hub s h.0).held) s) }
@@ -152,11 +152,11 @@ fn change_store(t: &mut [u32], ts: usize, h: HubNo, n: usize, store: Store)
 }
 
 // The count and the store of hub h after a meeting.
-pub fn hold_hub(t: &mut [u32], ts: usize, h: HubNo, m: Meeting)
-    requires table { Table ts t.old }
+pub fn hold_hub(t: &mut [u32], ts: TaskSize, h: HubNo, m: Meeting)
+    requires table { Table ts.words t.old }
     requires h_bound { h.0 < 16 }
-    requires store_below { StoreBelow (messages (width ts)) m.store }
-    ensures { (L : Layout) (s : State) → Laid ts L → length s.hubs ≤ 16 → h.0 < length s.hubs
+    requires store_below { StoreBelow (messages (width ts.words)) m.store }
+    ensures { (L : Layout) (s : State) → Laid ts.words L → length s.hubs ≤ 16 → h.0 < length s.hubs
         → Held (kind_of (hub s h.0).kind) (hub s h.0) → StoreFits m.store (hub s h.0).held
         → t.old ≡ words L s
         → t.new ≡ words L (hold h.0 m.count (store_after m.store (hub s h.0).held) s) }

@@ -9,6 +9,7 @@ ghost use Rattle.rules.specs.Reply.{summary_in};
 ghost use Rattle.rules.specs.Table.{Layout};
 ghost use Rattle.summaries.specs.Mask.{bit_of, mask_of};
 
+use records::TaskSize;
 use rules::{Refusal, Summary};
 
 // The bit of an entry's task. An entry is a task number plus 1, and an empty one, 0, has no bit.
@@ -35,10 +36,8 @@ fn mask_of(list: &[u32]) -> u32
     mask
 }
 
-pub fn summarise(t: &[u32], ts: usize, hub: u32) -> Result<Summary, Refusal>
-    requires le_ts { 8 ≤ ts }
-    requires ts_bound { ts ≤ 9 }
-    ensures { (L : Layout) → Laid ts L → result ≡ summary_in L t.now hub }
+pub fn summarise(t: &[u32], ts: TaskSize, hub: u32) -> Result<Summary, Refusal>
+    ensures { (L : Layout) → Laid ts.words L → result ≡ summary_in L t.now hub }
 {
     refusals::for_table(t, ts)?;
     let h = refusals::find_hub(t, hub).ok_or(Refusal::NotInUse)?;

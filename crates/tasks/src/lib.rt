@@ -10,15 +10,15 @@ ghost use Rattle.rules.proofs.Valid.{Sound, Valid};
 ghost use Rattle.rules.specs.Calls.{Resume, Sleep, Start, Stop, Suspend, Yield, flag, grant, may_stop, may_suspend, serve};
 ghost use Rattle.rules.specs.Table.{Layout, State, inactive, set_task, words};
 
-use records::{TaskNo, TaskRecord};
+use records::{TaskNo, TaskRecord, TaskSize};
 use rules::Call;
 
 // "Start an inactive task: ready, behind its equals."
-pub fn start_task(t: &mut [u32], ts: usize, keys: &[u32], c: Call)
-    requires table { Table ts t.old }
+pub fn start_task(t: &mut [u32], ts: TaskSize, keys: &[u32], c: Call)
+    requires table { Table ts.words t.old }
     requires caller_bound { c.caller < 16 }
     requires target_bound { c.target < 16 }
-    ensures { (L : Layout) (s : State) → Laid ts L → Sound s → c.caller < length s.tasks
+    ensures { (L : Layout) (s : State) → Laid ts.words L → Sound s → c.caller < length s.tasks
         → c.target < length s.tasks
         → t.old ≡ words L s → t.new ≡ words L (serve (key_of keys.now) Start s c) }
 {
@@ -34,10 +34,10 @@ pub fn start_task(t: &mut [u32], ts: usize, keys: &[u32], c: Call)
 }
 
 // "made inactive with all but state and priority 0"
-fn make_inactive(t: &mut [u32], ts: usize, i: TaskNo, priority: u32)
-    requires table { Table ts t.old }
+fn make_inactive(t: &mut [u32], ts: TaskSize, i: TaskNo, priority: u32)
+    requires table { Table ts.words t.old }
     requires i_bound { i.0 < 16 }
-    ensures { (L : Layout) (s : State) → Laid ts L → length s.tasks ≤ 16 → i.0 < length s.tasks
+    ensures { (L : Layout) (s : State) → Laid ts.words L → length s.tasks ≤ 16 → i.0 < length s.tasks
         → t.old ≡ words L s
         → t.new ≡ words L (set_task i.0 (inactive priority) s) }
 {
@@ -66,12 +66,12 @@ fn may_stop(x: TaskRecord, c: Call) -> bool
 }
 
 // Stop: "taken from any list, made inactive"; "after the task leaves its list, each Resource it owns passes".
-pub fn stop_task(t: &mut [u32], ts: usize, keys: &[u32], c: Call)
-    requires table { Table ts t.old }
+pub fn stop_task(t: &mut [u32], ts: TaskSize, keys: &[u32], c: Call)
+    requires table { Table ts.words t.old }
     requires caller_bound { c.caller < 16 }
     requires target_bound { c.target < 16 }
     requires t_bound { get_or t.old 2 0 ≤ 16 }
-    ensures { (L : Layout) (s : State) → Laid ts L → Valid s → c.caller < length s.tasks
+    ensures { (L : Layout) (s : State) → Laid ts.words L → Valid s → c.caller < length s.tasks
         → c.target < length s.tasks → t.old ≡ words L s
         → t.new ≡ words L (serve (key_of keys.now) Stop s c) }
 {
@@ -90,11 +90,11 @@ pub fn stop_task(t: &mut [u32], ts: usize, keys: &[u32], c: Call)
 }
 
 // The flag of the call's target and nothing else, where its condition holds; the caller's answer says whether it did.
-fn set_flag(t: &mut [u32], ts: usize, c: Call, holds: bool, f: u32)
-    requires table { Table ts t.old }
+fn set_flag(t: &mut [u32], ts: TaskSize, c: Call, holds: bool, f: u32)
+    requires table { Table ts.words t.old }
     requires caller_bound { c.caller < 16 }
     requires target_bound { c.target < 16 }
-    ensures { (L : Layout) (s : State) → Laid ts L → length s.tasks ≤ 16 → c.caller < length s.tasks
+    ensures { (L : Layout) (s : State) → Laid ts.words L → length s.tasks ≤ 16 → c.caller < length s.tasks
         → c.target < length s.tasks → t.old ≡ words L s
         → t.new ≡ words L (grant holds (flag f c.target s) s c) }
 {
@@ -117,11 +117,11 @@ fn may_suspend(x: TaskRecord, c: Call) -> bool
 }
 
 // Suspend: "flag set, state and lists kept".
-pub fn suspend_task(t: &mut [u32], ts: usize, c: Call)
-    requires table { Table ts t.old }
+pub fn suspend_task(t: &mut [u32], ts: TaskSize, c: Call)
+    requires table { Table ts.words t.old }
     requires caller_bound { c.caller < 16 }
     requires target_bound { c.target < 16 }
-    ensures { (L : Layout) (key : ℕ → ℕ) (s : State) → Laid ts L → Sound s → c.caller < length s.tasks
+    ensures { (L : Layout) (key : ℕ → ℕ) (s : State) → Laid ts.words L → Sound s → c.caller < length s.tasks
         → c.target < length s.tasks → t.old ≡ words L s
         → t.new ≡ words L (serve key Suspend s c) }
 {
@@ -130,11 +130,11 @@ pub fn suspend_task(t: &mut [u32], ts: usize, c: Call)
 }
 
 // "Resume a suspended task: flag cleared."
-pub fn resume_task(t: &mut [u32], ts: usize, c: Call)
-    requires table { Table ts t.old }
+pub fn resume_task(t: &mut [u32], ts: TaskSize, c: Call)
+    requires table { Table ts.words t.old }
     requires caller_bound { c.caller < 16 }
     requires target_bound { c.target < 16 }
-    ensures { (L : Layout) (key : ℕ → ℕ) (s : State) → Laid ts L → Sound s → c.caller < length s.tasks
+    ensures { (L : Layout) (key : ℕ → ℕ) (s : State) → Laid ts.words L → Sound s → c.caller < length s.tasks
         → c.target < length s.tasks → t.old ≡ words L s
         → t.new ≡ words L (serve key Resume s c) }
 {
@@ -143,10 +143,10 @@ pub fn resume_task(t: &mut [u32], ts: usize, c: Call)
 }
 
 // "Yield: caller goes behind its equals, answer 1."
-pub fn yield_turn(t: &mut [u32], ts: usize, keys: &[u32], c: Call)
-    requires table { Table ts t.old }
+pub fn yield_turn(t: &mut [u32], ts: TaskSize, keys: &[u32], c: Call)
+    requires table { Table ts.words t.old }
     requires caller_bound { c.caller < 16 }
-    ensures { (L : Layout) (s : State) → Laid ts L → Sound s → c.caller < length s.tasks
+    ensures { (L : Layout) (s : State) → Laid ts.words L → Sound s → c.caller < length s.tasks
         → t.old ≡ words L s
         → t.new ≡ words L (serve (key_of keys.now) Yield s c) }
 {
@@ -157,10 +157,10 @@ pub fn yield_turn(t: &mut [u32], ts: usize, keys: &[u32], c: Call)
 }
 
 // "Sleep (ticks): state 4, these ticks, answer 0, out of the ready list."
-pub fn sleep_task(t: &mut [u32], ts: usize, c: Call)
-    requires table { Table ts t.old }
+pub fn sleep_task(t: &mut [u32], ts: TaskSize, c: Call)
+    requires table { Table ts.words t.old }
     requires caller_bound { c.caller < 16 }
-    ensures { (L : Layout) (key : ℕ → ℕ) (s : State) → Laid ts L → Sound s → c.caller < length s.tasks
+    ensures { (L : Layout) (key : ℕ → ℕ) (s : State) → Laid ts.words L → Sound s → c.caller < length s.tasks
         → t.old ≡ words L s
         → t.new ≡ words L (serve key Sleep s c) }
 {

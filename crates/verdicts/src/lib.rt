@@ -17,15 +17,15 @@ ghost use Rattle.rules.specs.Table.{Layout, State, hub, task, words};
 ghost use Rattle.std.proofs.Math.Option.{some};
 
 use hubtable::Verdict;
-use records::{HubNo, HubRecord, TaskNo};
+use records::{HubNo, HubRecord, TaskNo, TaskSize};
 use rules::{Call, Kind};
 
 // The message of a waiter, if there is one.
-fn word_of(t: &[u32], ts: usize, waiter: Option<TaskNo>) -> u64
-    requires table { Table ts t.now }
+fn word_of(t: &[u32], ts: TaskSize, waiter: Option<TaskNo>) -> u64
+    requires table { Table ts.words t.now }
     requires low { Low waiter }
-    ensures upper_bound { result < messages (width ts) }
-    ensures value { (L : Layout) (s : State) (w : ℕ) → Laid ts L → length s.tasks ≤ 16
+    ensures upper_bound { result < messages (width ts.words) }
+    ensures value { (L : Layout) (s : State) (w : ℕ) → Laid ts.words L → length s.tasks ≤ 16
         → t.now ≡ words L s → numbered waiter ≡ some w
         → w < length s.tasks → result ≡ (task s w).word }
 {
@@ -36,12 +36,12 @@ fn word_of(t: &[u32], ts: usize, waiter: Option<TaskNo>) -> u64
 }
 
 // What a Memory hub, whose record is x, says of a block that is given back or asked for.
-fn judge_block(t: &[u32], ts: usize, x: HubRecord, c: Call) -> Verdict
-    requires table { Table ts t.now }
+fn judge_block(t: &[u32], ts: TaskSize, x: HubRecord, c: Call) -> Verdict
+    requires table { Table ts.words t.now }
     requires target_bound { c.target < 16 }
-    requires c_bound { message c < messages (width ts) }
-    ensures below { Below (messages (width ts)) result }
-    ensures result_value { (L : Layout) (s : State) → Laid ts L → Valid s → refusal_for HubRequest s c ≡ 0
+    requires c_bound { message c < messages (width ts.words) }
+    ensures below { Below (messages (width ts.words)) result }
+    ensures result_value { (L : Layout) (s : State) → Laid ts.words L → Valid s → refusal_for HubRequest s c ≡ 0
         → RecordOf x (hub s c.target) → (hub s c.target).kind ≡ 7
         → t.now ≡ words L s → says (hub s c.target).held result ≡ verdict s c }
 {
@@ -56,13 +56,13 @@ fn judge_block(t: &[u32], ts: usize, x: HubRecord, c: Call) -> Verdict
 }
 
 // What the hub that it names says of a call, but for the update of a Board (`update`).
-pub fn judge(t: &[u32], ts: usize, c: Call) -> Verdict
-    requires table { Table ts t.now }
+pub fn judge(t: &[u32], ts: TaskSize, c: Call) -> Verdict
+    requires table { Table ts.words t.now }
     requires target_bound { c.target < 16 }
     requires caller_bound { c.caller < 16 }
-    requires c_bound { message c < messages (width ts) }
-    ensures below { Below (messages (width ts)) result }
-    ensures result_value { (L : Layout) (s : State) → Laid ts L → Valid s → refusal_for HubRequest s c ≡ 0
+    requires c_bound { message c < messages (width ts.words) }
+    ensures below { Below (messages (width ts.words)) result }
+    ensures result_value { (L : Layout) (s : State) → Laid ts.words L → Valid s → refusal_for HubRequest s c ≡ 0
         → ((hub s c.target).kind ≡ 6 → c.side ≡ 1 → ⊥)
         → t.now ≡ words L s → says (hub s c.target).held result ≡ verdict s c }
 {

@@ -13,7 +13,7 @@ use Rattle.bodies.proofs.bodies_right.Goals as goal
 
 pub returns : goal.returns
 returns c L y =
-    let m = get_or c.args.t.now 2 0 in
-    every_number (body_test L c.args.t.now) m c.all.result
-    (cases_from_all _ _ _ (λ h. h < m → body_test L c.args.t.now h ≡ true) (λ h. h < m → body_test L c.args.t.now h ≡ false) c.all.ensures.ran
+    let m = get_or c.args.t.now.words.now 2 0 in
+    every_number (body_test L c.args.t.now.words.now) m c.all.result
+    (cases_from_all _ _ _ (λ h. h < m → body_test L c.args.t.now.words.now h ≡ true) (λ h. h < m → body_test L c.args.t.now.words.now h ≡ false) c.all.ensures.ran
     (YieldsList-from_range 0 m m (cc) (omega arith)) (λ h q k. search (rules, tests)) (λ h q k. search (rules, tests)))

@@ -9,7 +9,7 @@ unfolding body_test
 returns-then-not-kind_right c L y = rw (sym (c.kind_right.ensures L y) ∙ c.if-not-kind_right.true)
 
 pub store_sound-requires : goal.store_sound-requires
-store_sound-requires c = record { used = c.requires.used; h_bound = c.requires.h_bound; h_value = λ L y. sym (c.kind_right.ensures L y) ∙ c.if-not-kind_right.false }
+store_sound-requires c = record { h_bound = c.requires.h_bound; h_value = λ L y. sym (c.kind_right.ensures L y) ∙ c.if-not-kind_right.false }
 
 pub returns-then-not-store_sound : goal.returns-then-not-store_sound
 unfolding body_test

@@ -12,7 +12,7 @@ pub returns-then-m-gt1 : goal.returns-then-m-gt1
 returns-then-m-gt1 c L y =
     let l = c.loop-b in
     counting_no L _ _ _ l.free l.b (l.invariant.1 L y) c.loop-b-test.true _ (c.message-m.ensures.value
-    ∙ mark_read L c.args.t.now c.args.h c.args.limit y c.requires.used.low c.requires.limit_bound c.loop-b.b _ _ c.loop-b-test.true
+    ∙ mark_read L c.args.t.now.words.now c.args.h c.args.limit y c.args.t.now.used.low c.requires.limit_bound c.loop-b.b _ _ c.loop-b-test.true
     c.store_at-at.ensures.place c.width_of-v.ensures) c.if-m-gt1.true _
 
 pub loop-b-preserved : goal.loop-b-preserved
@@ -20,7 +20,7 @@ loop-b-preserved c =
     let l = c.loop-b in (
       omega (arith, l.invariant.0),
       λ L y. counting_turn L _ _ _ l.free l.b (l.invariant.1 L y) c.loop-b-test.true _ (c.message-m.ensures.value
-          ∙ mark_read L c.args.t.now c.args.h c.args.limit y c.requires.used.low c.requires.limit_bound c.loop-b.b _ _ c.loop-b-test.true
+          ∙ mark_read L c.args.t.now.words.now c.args.h c.args.limit y c.args.t.now.used.low c.requires.limit_bound c.loop-b.b _ _ c.loop-b-test.true
           c.store_at-at.ensures.place c.width_of-v.ensures) (omega arith),
     )
 

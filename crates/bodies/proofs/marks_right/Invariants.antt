@@ -7,4 +7,4 @@ use Rattle.rules.specs.Table.{Layout}
 use Rattle.bodies.proofs.marks_right.Given as goal
 
 abbrev pub invariant-loop-b : goal.invariant-loop-b
-invariant-loop-b l = (l.free ≤ l.b) × ((L : Layout) → Laid l.ts L → Counting L l.t l.h l.limit l.free l.b)
+invariant-loop-b l = (l.free ≤ l.b) × ((L : Layout) → Laid l.fn.t.ts.words L → Counting L l.t.words.now l.h l.limit l.free l.b)

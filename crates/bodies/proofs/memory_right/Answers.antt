@@ -9,7 +9,7 @@ use Rattle.bodies.proofs.memory_right.Goals as goal
 pub marks_right-requires : goal.marks_right-requires
 marks_right-requires c =
     let p = c.requires in
-    let a = c.args in record { used = p.used; h_bound = p.h_bound; limit_bound = leb-true a.limit 8 (and_r (leb 1 a.limit) _ c.if-limit.true) }
+    let a = c.args in record { h_bound = p.h_bound; limit_bound = leb-true a.limit 8 (and_r (leb 1 a.limit) _ c.if-limit.true) }
 
 pub returns-then-start-limit : goal.returns-then-start-limit
 returns-then-start-limit c L y =

@@ -10,4 +10,4 @@ returns c L y =
     let s = c.store_at-at in
     let n = c.store_size in
     c.zeros.ensures
-    ∙ store_part_lem L c.args.t.now c.args.h s.result n.result (s.ensures.place ∙ store_place y c.args.h) (omega arith)
+    ∙ store_part_lem L c.args.t.now.words.now c.args.h s.result n.result (s.ensures.place ∙ store_place y c.args.h) (omega arith)

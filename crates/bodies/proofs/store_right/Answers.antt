@@ -24,22 +24,22 @@ eight ts t h b n v used u kind at is =
     mul-le-mul_right v (in_some ts used.low used.high (λ L y. rw is (held_fits L t h u b (at L y) (kind L y))))
 
 pub overflow_mul-n : goal.overflow_mul-n
-overflow_mul-n c = omega (arith, eight c.args.ts c.args.t.now c.args.h (c.hubs_at.result + c.args.h * 4) c.stored-n.result c.width_of.result c.requires.used c.requires.h_bound c.requires.h_value (λ L y. omega arith) c.stored-n.ensures)
+overflow_mul-n c = omega (arith, eight c.args.t.now.ts.words c.args.t.now.words.now c.args.h (c.hubs_at.result + c.args.h * 4) c.stored-n.result c.width_of.result c.args.t.now.used c.requires.h_bound c.requires.h_value (λ L y. omega arith) c.stored-n.ensures)
 
 pub offset_bounds-store-n : goal.offset_bounds-store-n
-offset_bounds-store-n c = omega (arith, eight c.args.ts c.args.t.now c.args.h (c.hubs_at.result + c.args.h * 4) c.stored-n.result c.width_of.result c.requires.used c.requires.h_bound c.requires.h_value (λ L y. omega arith) c.stored-n.ensures)
+offset_bounds-store-n c = omega (arith, eight c.args.t.now.ts.words c.args.t.now.words.now c.args.h (c.hubs_at.result + c.args.h * 4) c.stored-n.result c.width_of.result c.args.t.now.used c.requires.h_bound c.requires.h_value (λ L y. omega arith) c.stored-n.ensures)
 
 pub slice_bounds-zeros-count : goal.slice_bounds-zeros-count
-slice_bounds-zeros-count c = omega (arith, eight c.args.ts c.args.t.now c.args.h (c.hubs_at.result + c.args.h * 4) c.stored-n.result c.width_of.result c.requires.used c.requires.h_bound c.requires.h_value (λ L y. omega arith) c.stored-n.ensures, lent-long c.args.t.now c.store_at-at.result c.store_size.result (omega arith))
+slice_bounds-zeros-count c = omega (arith, eight c.args.t.now.ts.words c.args.t.now.words.now c.args.h (c.hubs_at.result + c.args.h * 4) c.stored-n.result c.width_of.result c.args.t.now.used c.requires.h_bound c.requires.h_value (λ L y. omega arith) c.stored-n.ensures, lent-long c.args.t.now.words.now c.store_at-at.result c.store_size.result (omega arith))
 
 pub slice_bounds-zeros-start : goal.slice_bounds-zeros-start
-slice_bounds-zeros-start c = omega (arith, eight c.args.ts c.args.t.now c.args.h (c.hubs_at.result + c.args.h * 4) c.stored-n.result c.width_of.result c.requires.used c.requires.h_bound c.requires.h_value (λ L y. omega arith) c.stored-n.ensures, lent-long c.args.t.now c.store_at-at.result c.store_size.result (omega arith))
+slice_bounds-zeros-start c = omega (arith, eight c.args.t.now.ts.words c.args.t.now.words.now c.args.h (c.hubs_at.result + c.args.h * 4) c.stored-n.result c.width_of.result c.args.t.now.used c.requires.h_bound c.requires.h_value (λ L y. omega arith) c.stored-n.ensures, lent-long c.args.t.now.words.now c.store_at-at.result c.store_size.result (omega arith))
 
 pub returns : goal.returns
 returns c L y =
     let p = c.hubs_at in
     let s = c.store_at-at in
     let n = c.store_size in
-    c.zeros.ensures ∙ ap all_zero (to_end (c.stored-n.result * c.width_of.result) (take (s.result + n.result - s.result) (drop s.result c.args.t.now)))
+    c.zeros.ensures ∙ ap all_zero (to_end (c.stored-n.result * c.width_of.result) (take (s.result + n.result - s.result) (drop s.result c.args.t.now.words.now)))
     ∙ rw (c.stored-n.ensures, c.width_of.ensures ∙ wide y)
-    (sym (store_as L c.args.t.now c.args.h c.requires.h_bound (p.result + c.args.h * 4) (omega arith) s.result n.result (s.ensures.place ∙ store_place y c.args.h) (omega arith)))
+    (sym (store_as L c.args.t.now.words.now c.args.h c.requires.h_bound (p.result + c.args.h * 4) (omega arith) s.result n.result (s.ensures.place ∙ store_place y c.args.h) (omega arith)))

@@ -10,4 +10,4 @@ use Rattle.clock.proofs.tick.Given as goal
 
 abbrev pub invariant-loop-i : goal.invariant-loop-i
 invariant-loop-i l =
-    (L : Layout) (s : State) → Laid l.ts L → Sound s → l.initial.t ≡ words L s → (l.n ≡ length s.tasks) × (l.t ≡ words L (tick_all (key_of l.keys) l.i s))
+    (L : Layout) (s : State) → Laid l.ts.words L → Sound s → l.initial.t ≡ words L s → (l.n ≡ length s.tasks) × (l.t ≡ words L (tick_all (key_of l.keys) l.i s))

@@ -6,4 +6,4 @@ use Rattle.differences.proofs.refusal_of.Goals as goal
 
 pub returns : goal.returns
 unfolding table_refusal
-returns c = c.for_table.ensures (edition_of _) (edition_laid_of c.args.t.now _ c.task_size.ensures.value)
+returns c = c.for_table.ensures (edition_of _) (edition_laid_of c.args.t.now _ c.task_size.ensures)

@@ -12,7 +12,7 @@ returns c =
     let a = c.args in
     c.set_words.ensures
     ∙ ap (λ (l : List ℕ). sets a.to.now 0 l)
-    (contents_are a.ts a.from.now
+    (contents_are a.ts.words a.from.now
     c.width_of.ensures
     c.word.ensures
     c.word-2.ensures

@@ -17,8 +17,8 @@ pub loop-i-preserved : goal.loop-i-preserved
 loop-i-preserved c =
     let a = c.args in
     let l = c.loop-i in
-    let wide : (j : ℕ) → length (task_words a.ts (task_at a.fs a.from.now j)) ≡ a.ts = λ j. length_record a.ts c.requires.le_ts.0 c.requires.le_ts.1 (task_at a.fs a.from.now j) in
-    (c.set_task.ensures ∙ joined_turn a.ts (λ j. task_words a.ts (task_at a.fs a.from.now j)) wide a.to.now l.to _ 8 l.i l.invariant (ap (task_words a.ts) c.task-x.ensures.value))
+    let wide : (j : ℕ) → length (task_words a.ts.words (task_at a.fs.words a.from.now j)) ≡ a.ts.words = λ j. length_record a.ts.words c.args.ts.low c.args.ts.high (task_at a.fs.words a.from.now j) in
+    (c.set_task.ensures ∙ joined_turn a.ts.words (λ j. task_words a.ts.words (task_at a.fs.words a.from.now j)) wide a.to.now l.to _ 8 l.i l.invariant (ap (task_words a.ts.words) c.task-x.ensures.value))
 
 pub shape_of-to : goal.shape_of-to
 shape_of-to c = rw c.loop-i.invariant (simp length-sets)

@@ -6,4 +6,4 @@ use mathlib.Core.Path.{◌≡◌}
 use Rattle.editions.proofs.set_tasks.Given as goal
 
 abbrev pub invariant-loop-i : goal.invariant-loop-i
-invariant-loop-i l = l.to ≡ sets l.initial.to 8 (joined l.i (λ j. task_words l.ts (task_at l.fs l.from j)))
+invariant-loop-i l = l.to ≡ sets l.initial.to 8 (joined l.i (λ j. task_words l.ts.words (task_at l.fs.words l.from j)))

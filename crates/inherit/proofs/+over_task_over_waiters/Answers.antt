@@ -19,7 +19,7 @@ over_task-loop-h-init t c =
 
 pub over_task-over_waiters-best-requires : goal.over_task-over_waiters-best-requires
 over_task-over_waiters-best-requires t c =
-    (omega (arith, c.decreases, c.if-depth-eq0.false), (c.requires.table, (c.requires.linked, c.loop-h-test.true)))
+    (omega (arith, c.decreases, c.if-depth-eq0.false), (c.requires.linked, c.loop-h-test.true))
 
 pub over_task-loop-h-smaller : goal.over_task-loop-h-smaller
 over_task-loop-h-smaller t c = omega (arith, c.loop-h-test.true, c.requires.linked.rises c.loop-h.h c.loop-h-test.true)
@@ -42,22 +42,22 @@ pub over_waiters-returns-then-e-eq0 : goal.over_waiters-returns-then-e-eq0
 over_waiters-returns-then-e-eq0 t c =
     let l = c.loop-e in
     let at = c.waits_at-at.result in
-    let low : l.e-index < 16 = omega (arith, c.loop-e-test.true, lent_long c.args.t.now at (omega (arith, c.requires.h_bound, c.waits_at-at.ensures))) in
-    asking_end _ _ _ _ _ l.best l.e-index l.invariant _ c.waits_at-at.ensures low (sym (lent_word c.args.t.now at l.e-index low) ∙ c.if-e-eq0.true)
+    let low : l.e-index < 16 = omega (arith, c.loop-e-test.true, lent_long c.args.t.now.words.now at (omega (arith, c.requires.h_bound, c.waits_at-at.ensures))) in
+    asking_end _ _ _ _ _ l.best l.e-index l.invariant _ c.waits_at-at.ensures low (sym (lent_word c.args.t.now.words.now at l.e-index low) ∙ c.if-e-eq0.true)
 
 pub over_waiters-over_task-best-requires : goal.over_waiters-over_task-best-requires
-over_waiters-over_task-best-requires t c = (omega (arith, c.decreases), (c.requires.table, c.requires.linked))
+over_waiters-over_task-best-requires t c = (omega (arith, c.decreases), c.requires.linked)
 
 pub over_waiters-loop-e-preserved : goal.over_waiters-loop-e-preserved
 over_waiters-loop-e-preserved t c =
     let l = c.loop-e in
     let at = c.waits_at-at.result in
-    let low : l.e-index < 16 = omega (arith, c.loop-e-test.true, lent_long c.args.t.now at (omega (arith, c.requires.h_bound, c.waits_at-at.ensures))) in
-    asking_step _ _ _ _ _ l.best l.e-index l.invariant low _ (lent_word c.args.t.now at l.e-index low) c.if-e-eq0.false c.over_task-best.result c.over_task-best.ensures
+    let low : l.e-index < 16 = omega (arith, c.loop-e-test.true, lent_long c.args.t.now.words.now at (omega (arith, c.requires.h_bound, c.waits_at-at.ensures))) in
+    asking_step _ _ _ _ _ l.best l.e-index l.invariant low _ (lent_word c.args.t.now.words.now at l.e-index low) c.if-e-eq0.false c.over_task-best.result c.over_task-best.ensures
 
 pub over_waiters-returns : goal.over_waiters-returns
 over_waiters-returns t c =
     let l = c.loop-e in
     let at = c.waits_at-at.result in
-    let past : 16 ≤ l.e-index = omega (arith, c.loop-e-test.false, lent_long c.args.t.now at (omega (arith, c.requires.h_bound, c.waits_at-at.ensures))) in
+    let past : 16 ≤ l.e-index = omega (arith, c.loop-e-test.false, lent_long c.args.t.now.words.now at (omega (arith, c.requires.h_bound, c.waits_at-at.ensures))) in
     asking_full _ _ _ _ _ l.best l.e-index l.invariant _ c.waits_at-at.ensures past

@@ -13,10 +13,10 @@ abbrev pub decreases-over_waiters : goal.decreases-over_waiters
 decreases-over_waiters l = 2 * l.depth + 1
 
 abbrev pub invariant-over_task-loop-h : goal.invariant-over_task-loop-h
-invariant-over_task-loop-h l = Owning l.ts l.t l.depth l.p l.n l.best l.h
+invariant-over_task-loop-h l = Owning l.t.ts.words l.t.words.now l.depth l.p l.n l.best l.h
 
 abbrev pub decreases-over_task-loop-h : goal.decreases-over_task-loop-h
 decreases-over_task-loop-h l = 16 - l.h
 
 abbrev pub invariant-over_waiters-loop-e : goal.invariant-over_waiters-loop-e
-invariant-over_waiters-loop-e l = Asking l.ts l.t l.depth l.p l.at l.best l.e-index
+invariant-over_waiters-loop-e l = Asking l.t.ts.words l.t.words.now l.depth l.p l.at l.best l.e-index

@@ -4,4 +4,4 @@ use Rattle.inherit.proofs.Sixteen.{Filling}
 use Rattle.inherit.proofs.asked_keys.Given as goal
 
 abbrev pub invariant-loop-i : goal.invariant-loop-i
-invariant-loop-i l = Filling l.ts l.t l.keys l.i
+invariant-loop-i l = Filling l.t.ts.words l.t.words.now l.keys l.i

@@ -9,11 +9,11 @@ pub returns-then-t-a-eq0 : goal.returns-then-t-a-eq0
 returns-then-t-a-eq0 c L s y x w u =
     let a = c.args in
     let p = c.waits_at-a in
-    hub_short L s y x a.t.now w a.h u a.keys.now p.result p.ensures c.if-t-a-eq0.true
+    hub_short L s y x a.t.now.words.now w a.h u a.keys.now p.result p.ensures c.if-t-a-eq0.true
 
 pub returns : goal.returns
 returns c L s y x w u =
     let a = c.args in
     let p = c.waits_at-a in
     c.list_rising.ensures
-    ∙ hub-lent L s y x a.t.now w a.h u a.keys.now p.result p.ensures (p.result + 16 - p.result) (omega arith)
+    ∙ hub-lent L s y x a.t.now.words.now w a.h u a.keys.now p.result p.ensures (p.result + 16 - p.result) (omega arith)

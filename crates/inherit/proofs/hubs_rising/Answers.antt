@@ -21,8 +21,8 @@ pub returns : goal.returns
 returns c L s y x w =
     let m = c.hubs_in.result in
     let ks = c.args.keys.now in
-    let here = used c.args.t.now m c.hubs_in.ensures L s w in
+    let here = used c.args.t.now.words.now m c.hubs_in.ensures L s w in
     every_number (ordered ks s) m c.all.result
     (cases_from_all _ _ _ (λ h. h < m → ordered ks s h ≡ true) (λ h. h < m → ordered ks s h ≡ false) c.all.ensures.ran
     (YieldsList-from_range 0 m m (cc) (omega arith)) (λ h q k. search (rules, tests, here h)) (λ h q k. search (rules, tests, here h)))
-    ∙ ap (λ (n : ℕ). for_all n (ordered ks s)) (many-used c.args.t.now m c.hubs_in.ensures L s w x)
+    ∙ ap (λ (n : ℕ). for_all n (ordered ks s)) (many-used c.args.t.now.words.now m c.hubs_in.ensures L s w x)

@@ -10,7 +10,7 @@ returns-then-not-list_rising c L s y x w =
     let a = c.args in
     let p = c.ready_at-a in
     let r = c.list_rising in
-    let is = r.ensures ∙ ready-lent L s y x a.t.now w a.keys.now p.result (p.result + 16 - p.result) p.ensures (omega arith) in
+    let is = r.ensures ∙ ready-lent L s y x a.t.now.words.now w a.keys.now p.result (p.result + 16 - p.result) p.ensures (omega arith) in
     order_no _ s r.result is c.if-not-list_rising.true
 
 pub returns : goal.returns
@@ -18,5 +18,5 @@ returns c L s y x w =
     let a = c.args in
     let p = c.ready_at-a in
     let r = c.list_rising in
-    let is = r.ensures ∙ ready-lent L s y x a.t.now w a.keys.now p.result (p.result + 16 - p.result) p.ensures (omega arith) in
+    let is = r.ensures ∙ ready-lent L s y x a.t.now.words.now w a.keys.now p.result (p.result + 16 - p.result) p.ensures (omega arith) in
     order_yes _ s r.result is c.if-not-list_rising.false c.hubs_rising.result (c.hubs_rising.ensures L s y x w)

@@ -9,4 +9,4 @@ pub returns : goal.returns
 returns c L s y x w u =
     let a = c.args in
     let kind = c.eq.ensures ∙ same_kind c.of.result Resource _ c.of.ensures in
-    rw (kind, c.hubs_at.ensures, c.waits_at.ensures) (sym (asked-words L s y x a.h u a.t.now w))
+    rw (kind, c.hubs_at.ensures, c.waits_at.ensures) (sym (asked-words L s y x a.h u a.t.now.words.now w))

@@ -3,4 +3,4 @@ use Rattle.inherit.proofs.Linking.{Linking}
 use Rattle.inherit.proofs.links.Given as goal
 
 abbrev pub invariant-loop-h : goal.invariant-loop-h
-invariant-loop-h l = Linking l.ts l.t l.ks l.h
+invariant-loop-h l = Linking l.t.ts.words l.t.words.now l.ks l.h

@@ -3,4 +3,4 @@ use Rattle.inherit.proofs.Linking.{Unasked}
 use Rattle.inherit.proofs.nobody_asked.Given as goal
 
 abbrev pub invariant-loop-h : goal.invariant-loop-h
-invariant-loop-h l = Unasked l.ts l.t l.m l.nobody l.h
+invariant-loop-h l = Unasked l.t.ts.words l.t.words.now l.m l.nobody l.h

@@ -3,4 +3,4 @@ use Rattle.inherit.proofs.Sixteen.{Reading}
 use Rattle.inherit.proofs.own_keys.Given as goal
 
 abbrev pub invariant-loop-i : goal.invariant-loop-i
-invariant-loop-i l = Reading l.ts l.t l.keys l.i
+invariant-loop-i l = Reading l.t.ts.words l.t.words.now l.keys l.i

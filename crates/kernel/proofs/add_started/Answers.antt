@@ -10,9 +10,6 @@ use mathlib.Core.Path.{◌∙◌, ◌≡◌, refl, sym}
 use native.Mathlib.Omega.{arith}
 use Rattle.kernel.proofs.add_started.Goals as goal
 
-pub slice_bounds-join_ready-end : goal.slice_bounds-join_ready-end
-slice_bounds-join_ready-end c = simp length-set (sym c.requires.keys_len)
-
 pub returns : goal.returns
 unfolding add_started start
 returns c =
@@ -24,7 +21,7 @@ returns c =
     let grown = length-add_task a.priority s in
     let fits : length s'.tasks ≤ 16 = omega (arith, grown) in
     let used : n < length s'.tasks = omega (arith, grown, many) in
-    let low : n < length a.keys.now = omega (arith, c.requires.keys_len, many) in
+    let low : n < length a.keys.now = omega (arith, many) in
     let added = c.add_task.ensures L s y room e in
     let made = c.make_ready.ensures L s' y fits used added in
     c.join_ready.ensures.table L _ y made

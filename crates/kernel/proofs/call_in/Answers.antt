@@ -15,14 +15,14 @@ returns-in-Err c = λ L y. called_refused L _ _ _ (c.in-Err.ensures.judged L y).
 
 pub serve_call-served-requires-clause-accepts : goal.serve_call-served-requires-clause-accepts
 serve_call-served-requires-clause-accepts c =
-    let e = edition_of_lem _ c.requires.le_ts c.requires.ts_bound in
+    let e = edition_of_lem _ c.args.ts.low c.args.ts.high in
     record { edition = e; none = sym (c.in-Ok.ensures.judged e.layout e.laid).refusal }
 
 pub outcome_of-requires-clause-table : goal.outcome_of-requires-clause-table
 outcome_of-requires-clause-table c =
     let p = c.requires in
-    let e = edition_of_lem _ p.le_ts p.ts_bound in
-    let fits = fits-table e.laid p.le_ts p.ts_bound c.args.t.now c.args.c (sym (c.in-Ok.ensures.judged e.layout e.laid).refusal) in
+    let e = edition_of_lem _ c.args.ts.low c.args.ts.high in
+    let fits = fits-table e.laid c.args.ts.low c.args.ts.high c.args.t.now c.args.c (sym (c.in-Ok.ensures.judged e.layout e.laid).refusal) in
     search rules
 
 pub returns : goal.returns

@@ -25,7 +25,7 @@ returns-in-Blank-clause-calm c L y a e =
     let p = c.requires in
     let k = c.args.c in
     let s = read L c.args.t.now in
-    let calm = λ (v : Service) (n : service_of k.service ≡ v) (d : v ≡ Blank → ⊥) (h : Calm v). calm_served s (known_as y p.le_ts p.ts_bound c.args.t.now k a c.shared_slice_known-1.given v n d).valid k (known_as y p.le_ts p.ts_bound c.args.t.now k a c.shared_slice_known-1.given v n d).accepted (subst Calm (sym n) h) in
+    let calm = λ (v : Service) (n : service_of k.service ≡ v) (d : v ≡ Blank → ⊥) (h : Calm v). calm_served s (known_as y c.args.ts.low c.args.ts.high c.args.t.now k a c.shared_slice_known-1.given v n d).valid k (known_as y c.args.ts.low c.args.ts.high c.args.t.now k a c.shared_slice_known-1.given v n d).accepted (subst Calm (sym n) h) in
     elim c.in-Blank.is [
       | inl j ↦ let v = named_is k _ _ p.named j in served-blank s k v ∙ rw v refl
       | inr (inl j) ↦ calm Start (named_is k _ _ p.named j) (λ z. cc) calm_start
@@ -41,7 +41,7 @@ bounds-t-hubs_at c =
     let e = p.accepts in
     let k = c.args.c in
     let v = named_is k _ _ p.named c.in-HubRequest.is in
-    let q = known_as e.edition.laid p.le_ts p.ts_bound c.args.t.now k e.none c.shared_slice_known-1.given HubRequest v (λ z. cc) in
+    let q = known_as e.edition.laid c.args.ts.low c.args.ts.high c.args.t.now k e.none c.shared_slice_known-1.given HubRequest v (λ z. cc) in
     let low = (request_tests (read e.edition.layout c.args.t.now) q.valid.listed k (asks q HubRequest v)).named in
     let few = q.valid.hubs in
     let fits = q.fits in
@@ -54,7 +54,7 @@ returns-in-HubRequest-clause-calm c L y a other =
     let t = c.args.t.now in
     let k = c.args.c in
     let v = named_is k _ _ p.named c.in-HubRequest.is in
-    let q = known_as y p.le_ts p.ts_bound t k a c.shared_slice_known-1.given HubRequest v (λ z. cc) in
+    let q = known_as y c.args.ts.low c.args.ts.high t k a c.shared_slice_known-1.given HubRequest v (λ z. cc) in
     let s = read L t in
     let used = (request_tests s q.valid.listed k (asks q HubRequest v)).named in
     let place = c.hubs_at.ensures in

@@ -1,4 +1,5 @@
 -- `kernel::refusal_of` meets its contract. Assumes nothing.
+use borrow.Author.Rules.{rules}
 use Rattle.kernel.proofs.Laws.{blank_0, judged_no, refused_1, refused_2, refused_3, refused_by_service, unnamed}
 use Rattle.rules.proofs.After.{valid_in, words_in}
 use Rattle.rules.proofs.Coded.{code-some, fails, handed_on, passes}
@@ -25,7 +26,7 @@ returns-then-eq-clause-judged c =
     let none = eqb-true c.args.c.service 0 (sym (c.eq.ensures ∙ same_service c.of-service.result Blank _ c.of-service.ensures) ∙ c.if-eq.true) in
     record {
       refusal = blank_0 L _ _ (eqb-true _ _ (passes _ 0 c.in_ok-need.ensures) ∙ (c.table_size.ensures ∙ store_place y 16)) none;
-      long = λ z. c.requires.keys_len;
+      long = λ z. search rules;
       keys = λ z n. absurd (n none);
     }
 

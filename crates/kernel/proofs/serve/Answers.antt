@@ -19,7 +19,7 @@ use Rattle.kernel.proofs.serve.Goals as goal
 pub blank-requires : goal.blank-requires
 blank-requires c =
     let p = c.requires in
-    fits-table p.accepts.edition.laid p.le_ts p.ts_bound _ _ p.accepts.none
+    fits-table p.accepts.edition.laid c.args.ts.low c.args.ts.high _ _ p.accepts.none
 
 pub returns-in-Blank : goal.returns-in-Blank
 unfolding ahead ahead_for serve
@@ -36,8 +36,8 @@ request-requires c =
     let e = p.accepts in
     let s = read e.edition.layout c.args.t.now in
     let v = named_is k _ _ p.named c.in-HubRequest.is in
-    let q = known_as e.edition.laid p.le_ts p.ts_bound c.args.t.now k e.none c.slice_known-1.given HubRequest v (λ z. cc) in
-    record { table = q.fits; caller_bound = omega (arith, runs q (rw v refl), q.valid.tasks); target_bound = omega (arith, (request_tests s q.valid.listed k (asks q HubRequest v)).named, q.valid.hubs); c_bound = message-fits _ _ e.edition.laid p.le_ts p.ts_bound k (accepted-message e.edition.layout c.args.t.now k e.none) (service_number_of HubRequest k.service (sym v) (λ z. cc)) (search rules) (search rules) }
+    let q = known_as e.edition.laid c.args.ts.low c.args.ts.high c.args.t.now k e.none c.slice_known-1.given HubRequest v (λ z. cc) in
+    record { table = q.fits; caller_bound = omega (arith, runs q (rw v refl), q.valid.tasks); target_bound = omega (arith, (request_tests s q.valid.listed k (asks q HubRequest v)).named, q.valid.hubs); c_bound = message-fits _ _ e.edition.laid c.args.ts.low c.args.ts.high k (accepted-message e.edition.layout c.args.t.now k e.none) (service_number_of HubRequest k.service (sym v) (λ z. cc)) (search rules) (search rules) }
 
 pub returns-in-HubRequest : goal.returns-in-HubRequest
 unfolding ahead
@@ -47,7 +47,7 @@ returns-in-HubRequest c =
     let k = c.args.c in
     let s = read L c.args.t.now in
     let v = named_is k _ _ p.named c.in-HubRequest.is in
-    let q = known_as y p.le_ts p.ts_bound c.args.t.now k a c.slice_known-1.given HubRequest v (λ z. cc) in
+    let q = known_as y c.args.ts.low c.args.ts.high c.args.t.now k a c.slice_known-1.given HubRequest v (λ z. cc) in
     record { table = rw v ((c.request.ensures L s y q.valid (asks q HubRequest v) q.table).table); ahead = rw v (c.request.ensures L s y q.valid (asks q HubRequest v) q.table).ahead }
 
 pub start_task-requires : goal.start_task-requires
@@ -58,7 +58,7 @@ start_task-requires c =
     let e = p.accepts in
     let s = read e.edition.layout c.args.t.now in
     let v = named_is k _ _ p.named c.in-Start.is in
-    let q = known_as e.edition.laid p.le_ts p.ts_bound c.args.t.now k e.none c.slice_known-1.given Start v (λ z. cc) in
+    let q = known_as e.edition.laid c.args.ts.low c.args.ts.high c.args.t.now k e.none c.slice_known-1.given Start v (λ z. cc) in
     record { table = q.fits; caller_bound = omega (arith, runs q (rw v refl), q.valid.tasks); target_bound = omega (arith, on_a_task q (rw v refl), q.valid.tasks) }
 
 pub returns-in-Start : goal.returns-in-Start
@@ -69,7 +69,7 @@ returns-in-Start c =
     let k = c.args.c in
     let s = read L c.args.t.now in
     let v = named_is k _ _ p.named c.in-Start.is in
-    let q = known_as y p.le_ts p.ts_bound c.args.t.now k a c.slice_known-1.given Start v (λ z. cc) in
+    let q = known_as y c.args.ts.low c.args.ts.high c.args.t.now k a c.slice_known-1.given Start v (λ z. cc) in
     record { table = rw v (c.start_task.ensures L s y (valid_sound s q.valid) (runs q (rw v refl)) (on_a_task q (rw v refl)) q.table); ahead = rw v refl }
 
 pub stop_task-requires : goal.stop_task-requires
@@ -80,7 +80,7 @@ stop_task-requires c =
     let e = p.accepts in
     let s = read e.edition.layout c.args.t.now in
     let v = named_is k _ _ p.named c.in-Stop.is in
-    let q = known_as e.edition.laid p.le_ts p.ts_bound c.args.t.now k e.none c.slice_known-1.given Stop v (λ z. cc) in
+    let q = known_as e.edition.laid c.args.ts.low c.args.ts.high c.args.t.now k e.none c.slice_known-1.given Stop v (λ z. cc) in
     record { table = q.fits; caller_bound = omega (arith, runs q (rw v refl), q.valid.tasks); target_bound = omega (arith, on_a_task q (rw v refl), q.valid.tasks); t_bound = rw q.table (rw (hubs-word e.edition.layout s) q.valid.hubs) }
 
 pub returns-in-Stop : goal.returns-in-Stop
@@ -91,7 +91,7 @@ returns-in-Stop c =
     let k = c.args.c in
     let s = read L c.args.t.now in
     let v = named_is k _ _ p.named c.in-Stop.is in
-    let q = known_as y p.le_ts p.ts_bound c.args.t.now k a c.slice_known-1.given Stop v (λ z. cc) in
+    let q = known_as y c.args.ts.low c.args.ts.high c.args.t.now k a c.slice_known-1.given Stop v (λ z. cc) in
     record { table = rw v (c.stop_task.ensures L s y q.valid (runs q (rw v refl)) (on_a_task q (rw v refl)) q.table); ahead = rw v refl }
 
 pub suspend_task-requires : goal.suspend_task-requires
@@ -102,7 +102,7 @@ suspend_task-requires c =
     let e = p.accepts in
     let s = read e.edition.layout c.args.t.now in
     let v = named_is k _ _ p.named c.in-Suspend.is in
-    let q = known_as e.edition.laid p.le_ts p.ts_bound c.args.t.now k e.none c.slice_known-1.given Suspend v (λ z. cc) in
+    let q = known_as e.edition.laid c.args.ts.low c.args.ts.high c.args.t.now k e.none c.slice_known-1.given Suspend v (λ z. cc) in
     record { table = q.fits; caller_bound = omega (arith, runs q (rw v refl), q.valid.tasks); target_bound = omega (arith, on_a_task q (rw v refl), q.valid.tasks) }
 
 pub returns-in-Suspend : goal.returns-in-Suspend
@@ -113,7 +113,7 @@ returns-in-Suspend c =
     let k = c.args.c in
     let s = read L c.args.t.now in
     let v = named_is k _ _ p.named c.in-Suspend.is in
-    let q = known_as y p.le_ts p.ts_bound c.args.t.now k a c.slice_known-1.given Suspend v (λ z. cc) in
+    let q = known_as y c.args.ts.low c.args.ts.high c.args.t.now k a c.slice_known-1.given Suspend v (λ z. cc) in
     record { table = rw v (c.suspend_task.ensures L (key_of c.args.keys.now) s y (valid_sound s q.valid) (runs q (rw v refl)) (on_a_task q (rw v refl)) q.table); ahead = rw v refl }
 
 pub resume_task-requires : goal.resume_task-requires
@@ -124,7 +124,7 @@ resume_task-requires c =
     let e = p.accepts in
     let s = read e.edition.layout c.args.t.now in
     let v = named_is k _ _ p.named c.in-Resume.is in
-    let q = known_as e.edition.laid p.le_ts p.ts_bound c.args.t.now k e.none c.slice_known-1.given Resume v (λ z. cc) in
+    let q = known_as e.edition.laid c.args.ts.low c.args.ts.high c.args.t.now k e.none c.slice_known-1.given Resume v (λ z. cc) in
     record { table = q.fits; caller_bound = omega (arith, runs q (rw v refl), q.valid.tasks); target_bound = omega (arith, on_a_task q (rw v refl), q.valid.tasks) }
 
 pub returns-in-Resume : goal.returns-in-Resume
@@ -135,7 +135,7 @@ returns-in-Resume c =
     let k = c.args.c in
     let s = read L c.args.t.now in
     let v = named_is k _ _ p.named c.in-Resume.is in
-    let q = known_as y p.le_ts p.ts_bound c.args.t.now k a c.slice_known-1.given Resume v (λ z. cc) in
+    let q = known_as y c.args.ts.low c.args.ts.high c.args.t.now k a c.slice_known-1.given Resume v (λ z. cc) in
     record { table = rw v (c.resume_task.ensures L (key_of c.args.keys.now) s y (valid_sound s q.valid) (runs q (rw v refl)) (on_a_task q (rw v refl)) q.table); ahead = rw v refl }
 
 pub yield_turn-requires : goal.yield_turn-requires
@@ -146,7 +146,7 @@ yield_turn-requires c =
     let e = p.accepts in
     let s = read e.edition.layout c.args.t.now in
     let v = named_is k _ _ p.named c.in-Yield.is in
-    let q = known_as e.edition.laid p.le_ts p.ts_bound c.args.t.now k e.none c.slice_known-1.given Yield v (λ z. cc) in
+    let q = known_as e.edition.laid c.args.ts.low c.args.ts.high c.args.t.now k e.none c.slice_known-1.given Yield v (λ z. cc) in
     record { table = q.fits; caller_bound = omega (arith, runs q (rw v refl), q.valid.tasks) }
 
 pub returns-in-Yield : goal.returns-in-Yield
@@ -157,7 +157,7 @@ returns-in-Yield c =
     let k = c.args.c in
     let s = read L c.args.t.now in
     let v = named_is k _ _ p.named c.in-Yield.is in
-    let q = known_as y p.le_ts p.ts_bound c.args.t.now k a c.slice_known-1.given Yield v (λ z. cc) in
+    let q = known_as y c.args.ts.low c.args.ts.high c.args.t.now k a c.slice_known-1.given Yield v (λ z. cc) in
     record { table = rw v (c.yield_turn.ensures L s y (valid_sound s q.valid) (runs q (rw v refl)) q.table); ahead = rw v refl }
 
 pub sleep_task-requires : goal.sleep_task-requires
@@ -168,7 +168,7 @@ sleep_task-requires c =
     let e = p.accepts in
     let s = read e.edition.layout c.args.t.now in
     let v = named_is k _ _ p.named c.in-Sleep.is in
-    let q = known_as e.edition.laid p.le_ts p.ts_bound c.args.t.now k e.none c.slice_known-1.given Sleep v (λ z. cc) in
+    let q = known_as e.edition.laid c.args.ts.low c.args.ts.high c.args.t.now k e.none c.slice_known-1.given Sleep v (λ z. cc) in
     record { table = q.fits; caller_bound = omega (arith, runs q (rw v refl), q.valid.tasks) }
 
 pub returns-in-Sleep : goal.returns-in-Sleep
@@ -179,7 +179,7 @@ returns-in-Sleep c =
     let k = c.args.c in
     let s = read L c.args.t.now in
     let v = named_is k _ _ p.named c.in-Sleep.is in
-    let q = known_as y p.le_ts p.ts_bound c.args.t.now k a c.slice_known-1.given Sleep v (λ z. cc) in
+    let q = known_as y c.args.ts.low c.args.ts.high c.args.t.now k a c.slice_known-1.given Sleep v (λ z. cc) in
     record { table = rw v (c.sleep_task.ensures L (key_of c.args.keys.now) s y (valid_sound s q.valid) (runs q (rw v refl)) q.table); ahead = rw v refl }
 
 pub tick-requires : goal.tick-requires
@@ -189,7 +189,7 @@ tick-requires c =
     let e = p.accepts in
     let s = read e.edition.layout c.args.t.now in
     let v = named_is k _ _ p.named c.in-Tick.is in
-    let q = known_as e.edition.laid p.le_ts p.ts_bound c.args.t.now k e.none c.slice_known-1.given Tick v (λ z. cc) in
+    let q = known_as e.edition.laid c.args.ts.low c.args.ts.high c.args.t.now k e.none c.slice_known-1.given Tick v (λ z. cc) in
     record { table = q.fits; t_bound = rw q.table (rw (tasks-word e.edition.layout s) q.valid.tasks) }
 
 pub returns-in-Tick : goal.returns-in-Tick
@@ -200,7 +200,7 @@ returns-in-Tick c =
     let k = c.args.c in
     let s = read L c.args.t.now in
     let v = named_is k _ _ p.named c.in-Tick.is in
-    let q = known_as y p.le_ts p.ts_bound c.args.t.now k a c.slice_known-1.given Tick v (λ z. cc) in
+    let q = known_as y c.args.ts.low c.args.ts.high c.args.t.now k a c.slice_known-1.given Tick v (λ z. cc) in
     record { table = rw v (c.tick.ensures L s y (valid_sound s q.valid) q.table); ahead = rw v refl }
 
 pub serve_add_task-requires : goal.serve_add_task-requires
@@ -210,8 +210,8 @@ serve_add_task-requires c =
     let e = p.accepts in
     let s = read e.edition.layout c.args.t.now in
     let v = named_is k _ _ p.named c.in-AddTask.is in
-    let q = known_as e.edition.laid p.le_ts p.ts_bound c.args.t.now k e.none c.slice_known-1.given AddTask v (λ z. cc) in
-    record { table = q.fits; t_bound = rw q.table (rw (tasks-word e.edition.layout s) (task_tests s k (asks q AddTask v)).1); keys_len = p.keys_len }
+    let q = known_as e.edition.laid c.args.ts.low c.args.ts.high c.args.t.now k e.none c.slice_known-1.given AddTask v (λ z. cc) in
+    record { table = q.fits; t_bound = rw q.table (rw (tasks-word e.edition.layout s) (task_tests s k (asks q AddTask v)).1) }
 
 pub returns-in-AddTask : goal.returns-in-AddTask
 unfolding ahead ahead_for
@@ -221,7 +221,7 @@ returns-in-AddTask c =
     let k = c.args.c in
     let s = read L c.args.t.now in
     let v = named_is k _ _ p.named c.in-AddTask.is in
-    let q = known_as y p.le_ts p.ts_bound c.args.t.now k a c.slice_known-1.given AddTask v (λ z. cc) in
+    let q = known_as y c.args.ts.low c.args.ts.high c.args.t.now k a c.slice_known-1.given AddTask v (λ z. cc) in
     record { table = rw v (c.serve_add_task.ensures L s y (task_tests s k (asks q AddTask v)).1 q.table); ahead = rw v refl }
 
 pub add_hub-requires : goal.add_hub-requires
@@ -231,7 +231,7 @@ add_hub-requires c =
     let e = p.accepts in
     let s = read e.edition.layout c.args.t.now in
     let v = named_is k _ _ p.named c.in-AddHub.is in
-    let q = known_as e.edition.laid p.le_ts p.ts_bound c.args.t.now k e.none c.slice_known-1.given AddHub v (λ z. cc) in
+    let q = known_as e.edition.laid c.args.ts.low c.args.ts.high c.args.t.now k e.none c.slice_known-1.given AddHub v (λ z. cc) in
     record { table = q.fits; t_bound = rw q.table (rw (hubs-word e.edition.layout s) (hub_tests s k (asks q AddHub v)).1) }
 
 pub returns-in-AddHub : goal.returns-in-AddHub
@@ -242,5 +242,5 @@ returns-in-AddHub c =
     let k = c.args.c in
     let s = read L c.args.t.now in
     let v = named_is k _ _ p.named c.in-AddHub.is in
-    let q = known_as y p.le_ts p.ts_bound c.args.t.now k a c.slice_known-1.given AddHub v (λ z. cc) in
+    let q = known_as y c.args.ts.low c.args.ts.high c.args.t.now k a c.slice_known-1.given AddHub v (λ z. cc) in
     record { table = rw v (c.add_hub.ensures L s y (hub_tests s k (asks q AddHub v)).1 q.table); ahead = rw v refl }

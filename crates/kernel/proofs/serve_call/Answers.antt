@@ -18,7 +18,7 @@ use Rattle.kernel.proofs.serve_call.Goals as goal
 pub bounds-t-1 : goal.bounds-t-1
 bounds-t-1 c =
     let p = c.requires in
-    let fits = fits-table p.accepts.edition.laid p.le_ts p.ts_bound _ _ p.accepts.none in
+    let fits = fits-table p.accepts.edition.laid c.args.ts.low c.args.ts.high _ _ p.accepts.none in
     search rules
 
 pub reorder-requires : goal.reorder-requires
@@ -26,7 +26,7 @@ reorder-requires c =
     let e = c.requires.accepts in
     let t = c.args.t.now in
     let L = e.edition.layout in
-    let q = known e.edition.laid c.requires.le_ts c.requires.ts_bound t c.args.c e.none c.slice_known-1.given (c.is_calm-calm.ensures.not_blank c.if-not-calm.true) in
+    let q = known e.edition.laid c.args.ts.low c.args.ts.high t c.args.c e.none c.slice_known-1.given (c.is_calm-calm.ensures.not_blank c.if-not-calm.true) in
     let fits = q.fits in
     let few : get_or t 1 0 ≤ 16 = rw q.table (rw (tasks-word L (read L t)) q.valid.tasks) in record { table = search rules; n_bound = omega (arith, few) }
 
@@ -38,7 +38,7 @@ returns-then-not-calm c =
     let t = c.args.t.now in
     let s = read L t in
     let some = c.is_calm-calm.ensures.not_blank c.if-not-calm.true in
-    let q = known y c.requires.le_ts c.requires.ts_bound t k (sym j.refusal) c.slice_known-1.given some in
+    let q = known y c.args.ts.low c.args.ts.high t k (sym j.refusal) c.slice_known-1.given some in
     let same = by_keys c.args.keys.now s k (j.keys refl) in
     let one = c.serve-served.ensures L y (sym j.refusal) in
     let many : get_or t 1 0 ≡ length s.tasks = ap (λ (l : List ℕ). get_or l 1 0) q.table ∙ tasks-word L s in

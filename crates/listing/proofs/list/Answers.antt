@@ -5,5 +5,5 @@ use Rattle.listing.proofs.list.Goals as goal
 
 pub returns : goal.returns
 returns c =
-    let r = c.list_in.ensures (edition_of _) (edition_laid_of _ _ c.task_size-ts.ensures.value) in
+    let r = c.list_in.ensures (edition_of _) (edition_laid_of _ _ c.task_size-ts.ensures) in
     record { reply = r.reply; bytes = r.bytes }

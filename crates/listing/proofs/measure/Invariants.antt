@@ -7,4 +7,4 @@ use mathlib.Core.Path.{◌≡◌}
 use Rattle.listing.proofs.measure.Given as goal
 
 abbrev pub invariant-loop-k : goal.invariant-loop-k
-invariant-loop-k l = (l.bytes ≤ l.k * 88) × (l.bytes + length (rest (line_at l.ts l.t l.n) (1 + l.n + l.m) l.k) ≡ length (whole (line_at l.ts l.t l.n) (1 + l.n + l.m)))
+invariant-loop-k l = (l.bytes ≤ l.k * 88) × (l.bytes + length (rest (line_at l.ts.words l.t l.n) (1 + l.n + l.m) l.k) ≡ length (whole (line_at l.ts.words l.t l.n) (1 + l.n + l.m)))

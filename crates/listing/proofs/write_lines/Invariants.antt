@@ -5,4 +5,4 @@ use Rattle.listing.specs.Listing.{line_at}
 use Rattle.listing.proofs.write_lines.Given as goal
 
 abbrev pub invariant-loop-done : goal.invariant-loop-done
-invariant-loop-done l = Filling (line_at l.ts l.t l.n) (1 + l.n + l.m) l.initial.text l.text l.at l.done
+invariant-loop-done l = Filling (line_at l.ts.words l.t l.n) (1 + l.n + l.m) l.initial.text l.text l.at l.done

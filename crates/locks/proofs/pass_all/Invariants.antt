@@ -11,4 +11,4 @@ use Rattle.locks.proofs.pass_all.Given as goal
 
 abbrev pub invariant-loop-h : goal.invariant-loop-h
 invariant-loop-h l =
-    (L : Layout) (s : State) → Laid l.ts L → Sound s → Good s → l.n ≡ length s.hubs → l.initial.t ≡ words L s → l.t ≡ words L (pass_all (key_of l.keys) l.i.0 l.h s)
+    (L : Layout) (s : State) → Laid l.ts.words L → Sound s → Good s → l.n ≡ length s.hubs → l.initial.t ≡ words L s → l.t ≡ words L (pass_all (key_of l.keys) l.i.0 l.h s)

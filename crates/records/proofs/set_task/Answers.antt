@@ -17,10 +17,10 @@ returns c =
     let a = c.args in
     let x = a.x in
     let t = a.t.now in
-    let p : ℕ = 8 + a.i.0 * a.ts in
+    let p : ℕ = 8 + a.i.0 * a.ts.words in
     let head : List ℕ = x.state ∷ x.suspended ∷ x.priority ∷ x.hub ∷ x.ticks ∷ x.side ∷ [] in
-    let said : List ℕ = message_words (width a.ts) x.word in
-    let long : length said ≡ width a.ts = length-message (width a.ts) x.word (omega arith) (omega arith) in
+    let said : List ℕ = message_words (width a.ts.words) x.word in
+    let long : length said ≡ width a.ts.words = length-message (width a.ts.words) x.word (omega arith) (omega arith) in
     rw (
       c.set_word.ensures,
       c.set_message.ensures,

@@ -5,7 +5,7 @@ use native.Mathlib.Omega.{arith}
 use Rattle.records.proofs.task.Goals as goal
 
 pub overflow_add-p-2 : goal.overflow_add-p-2
-overflow_add-p-2 c = omega (arith, c.record_at-p.ensures.low, c.width_of-w.ensures, c.requires.ts_bound)
+overflow_add-p-2 c = omega (arith, c.record_at-p.ensures.low, c.width_of-w.ensures, c.args.ts.high)
 
 pub returns : goal.returns
 unfolding task_at

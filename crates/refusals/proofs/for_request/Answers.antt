@@ -34,4 +34,4 @@ returns c =
     -- the hub is the one looked up, and in use
     let looked = hub_found c.args.t.now c.args.c.target _ (c.in_ok-h.ensures.value ∙ rw c.find_hub.ensures refl) in
     c.need.ensures
-    ∙ rw (hub_in_use _ _ _ looked, ← kind c.args.ts c.args.t.now c.args.c.target c.hubs_at.result c.in_ok-h.h.0 c.hub-x.result c.hub-x.ensures c.hubs_at.ensures (hub-number _ _ _ looked), c.good_request.ensures)
+    ∙ rw (hub_in_use _ _ _ looked, ← kind c.args.ts.words c.args.t.now c.args.c.target c.hubs_at.result c.in_ok-h.h.0 c.hub-x.result c.hub-x.ensures c.hubs_at.ensures (hub-number _ _ _ looked), c.good_request.ensures)

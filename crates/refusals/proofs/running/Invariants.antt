@@ -10,4 +10,4 @@ use Rattle.refusals.proofs.running.Given as goal
 
 abbrev pub invariant-loop-k : goal.invariant-loop-k
 invariant-loop-k l =
-    (L : Layout) (s : State) → Laid l.ts L → Room s → Listed s → l.t ≡ words L s → next s ≡ first_free s (drop l.k s.ready)
+    (L : Layout) (s : State) → Laid l.ts.words L → Room s → Listed s → l.t ≡ words L s → next s ≡ first_free s (drop l.k s.ready)

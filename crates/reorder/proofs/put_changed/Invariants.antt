@@ -3,4 +3,4 @@ use Rattle.reorder.proofs.Loops.{Putting}
 use Rattle.reorder.proofs.put_changed.Given as goal
 
 abbrev pub invariant-loop-i : goal.invariant-loop-i
-invariant-loop-i l = Putting l.ts l.initial.t l.t l.before l.after l.n l.i
+invariant-loop-i l = Putting l.ts.words l.initial.t l.t l.before l.after l.n l.i

@@ -19,4 +19,4 @@ returns c =
     let out = c.take_changed in
     let back = c.put_changed in
     let a = c.args in
-    reorder_all a.before.now a.after.now a.n s s' many before after a.t.now out.new.t back.new.t a.ts out.ensures back.ensures L y x few w
+    reorder_all a.before.now a.after.now a.n s s' many before after a.t.now out.new.t back.new.t a.ts.words out.ensures back.ensures L y x few w

@@ -11,4 +11,4 @@ use Rattle.requests.proofs.meet_all.Given as goal
 
 abbrev pub invariant-loop : goal.invariant-loop
 invariant-loop l =
-    (L : Layout) (s : State) → Laid l.ts L → Sound s → l.h.0 < length s.hubs → l.initial.t ≡ words L s → l.t ≡ words L (steps (key_of l.keys) l.w l.h.0 l.counter s)
+    (L : Layout) (s : State) → Laid l.ts.words L → Sound s → l.h.0 < length s.hubs → l.initial.t ≡ words L s → l.t ≡ words L (steps (key_of l.keys) l.w l.h.0 l.counter s)

@@ -6,4 +6,4 @@ use Rattle.sidebyside.proofs.put_rows.Given as goal
 abbrev pub invariant-loop-k : goal.invariant-loop-k
 invariant-loop-k l =
     let p = l.tables in
-    Joining l.initial.out l.out (text_left p.left.ts p.left.words.now p.right.words.now p.left.runs p.right.runs l.k) (text_all p.left.ts p.left.words.now p.right.words.now p.left.runs p.right.runs)
+    Joining l.initial.out l.out (text_left p.left.ts.words p.left.words.now p.right.words.now p.left.runs p.right.runs l.k) (text_all p.left.ts.words p.left.words.now p.right.words.now p.left.runs p.right.runs)

@@ -6,18 +6,17 @@ use lib.ListN.{get_or}
 use native.Mathlib.Omega.{arith}
 use Rattle.sidebyside.proofs.view.Goals as goal
 
-pub keys-requires : goal.keys-requires
-keys-requires c = let size = c.task_size-ts.ensures in table_is c.args.words.now (table-formed c.args.words.now c.requires) size.value size.lower_bound size.upper_bound
+pub invariant_of-keys : goal.invariant_of-keys
+invariant_of-keys c = let ts = c.task_size-ts.result in record { table = table_is c.args.words.now (table-formed c.args.words.now c.requires) c.task_size-ts.ensures ts.low ts.high }
 
 pub invariant_of-result : goal.invariant_of-result
 invariant_of-result c =
-    let size = c.task_size-ts.ensures in
     let t = c.args.words.now in
     let low : (k : ℕ) → get_or t k 0 < 4294967296 = λ k. omega (arith, c.type_inv.words k) in
-    record { le_ts = size.lower_bound; ts_bound = size.upper_bound; keys_of = keys_are t (table-formed t c.requires) low size.value c.keys.ensures.each }
+    record { keys_of = keys_are t (table-formed t c.requires) low c.task_size-ts.ensures c.keys.ensures.each }
 
 pub returns-clause-runs : goal.returns-clause-runs
 returns-clause-runs c =
     let t = c.args.words.now in
     let low : (k : ℕ) → get_or t k 0 < 4294967296 = λ k. omega (arith, c.type_inv.words k) in
-    runs_is t (table-formed t c.requires) low c.task_size-ts.ensures.value c.next.ensures
+    runs_is t (table-formed t c.requires) low c.task_size-ts.ensures c.next.ensures

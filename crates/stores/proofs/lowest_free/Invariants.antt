@@ -11,4 +11,4 @@ use Rattle.stores.proofs.lowest_free.Given as goal
 abbrev pub invariant-loop-b : goal.invariant-loop-b
 invariant-loop-b l =
     (l.b ≤ 8)
-    × ((L : Layout) (s : State) → Laid l.ts L → l.h.0 < length s.hubs → length (hub s l.h.0).held ≤ 8 → l.t ≡ words L s → Looking (hub s l.h.0).held l.b)
+    × ((L : Layout) (s : State) → Laid l.ts.words L → l.h.0 < length s.hubs → length (hub s l.h.0).held ≤ 8 → l.t ≡ words L s → Looking (hub s l.h.0).held l.b)

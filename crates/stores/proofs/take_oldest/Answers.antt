@@ -13,6 +13,6 @@ returns c =
     let p = c.requires in
     let at = c.store_at-a.result in
     let n : ℕ = at + c.store_size-n.result - at in
-    let many : n ≡ store_size a.ts = omega (arith, c.store_size-n.ensures) in
+    let many : n ≡ store_size a.ts.words = omega (arith, c.store_size-n.ensures) in
     store_taken y p.table.low p.table.high s a.h.0 p.h_bound used a.t.now e at c.store_at-a.ensures.place _ n many room
     (rw c.width_of.ensures at c.remove_first.ensures)

@@ -25,9 +25,9 @@ returns-in_err-h c L y =
     given_err _ _ _ _ c.from_residual-in_err-h.ensures.1 (missing.1 ∙ rw (good.0, good.1, read-hubs L c.args.t.now, missing.0))
 
 -- the hub is the one looked up, in use, and its list stands within the table, which is well formed: in every layout, and so in one
-pub waits_at-at-requires-clause-h_bound : goal.waits_at-at-requires-clause-h_bound
-waits_at-at-requires-clause-h_bound c =
-    let e = edition_of_lem c.args.ts c.requires.le_ts c.requires.ts_bound in
+pub waits_at-at-requires : goal.waits_at-at-requires
+waits_at-at-requires c =
+    let e = edition_of_lem c.args.ts.words c.args.ts.low c.args.ts.high in
     let L = e.layout in
     let y = e.laid in
     let f = found_here L c.args.t.now c.args.hub c.in_ok-h.h (c.in_ok-for_table.ensures L y) (c.in_ok-h.ensures.value ∙ rw c.find_hub.ensures refl) in
@@ -35,31 +35,31 @@ waits_at-at-requires-clause-h_bound c =
 
 pub overflow_add-at : goal.overflow_add-at
 overflow_add-at c =
-    let e = edition_of_lem c.args.ts c.requires.le_ts c.requires.ts_bound in
+    let e = edition_of_lem c.args.ts.words c.args.ts.low c.args.ts.high in
     let L = e.layout in
     let y = e.laid in
     let f = found_here L c.args.t.now c.args.hub c.in_ok-h.h (c.in_ok-for_table.ensures L y) (c.in_ok-h.ensures.value ∙ rw c.find_hub.ensures refl) in
-    omega (arith, f.below, c.waits_at-at.ensures, c.requires.ts_bound)
+    omega (arith, f.below, c.waits_at-at.ensures, c.args.ts.high)
 
 pub offset_bounds-t-at : goal.offset_bounds-t-at
 offset_bounds-t-at c =
-    let e = edition_of_lem c.args.ts c.requires.le_ts c.requires.ts_bound in
+    let e = edition_of_lem c.args.ts.words c.args.ts.low c.args.ts.high in
     let L = e.layout in
     let y = e.laid in
     let f = found_here L c.args.t.now c.args.hub c.in_ok-h.h (c.in_ok-for_table.ensures L y) (c.in_ok-h.ensures.value ∙ rw c.find_hub.ensures refl) in
-    omega (arith, f.below, c.waits_at-at.ensures, c.requires.ts_bound)
+    omega (arith, f.below, c.waits_at-at.ensures, c.args.ts.high)
 
 pub slice_bounds-mask_of-end : goal.slice_bounds-mask_of-end
 slice_bounds-mask_of-end c =
-    let e = edition_of_lem c.args.ts c.requires.le_ts c.requires.ts_bound in
+    let e = edition_of_lem c.args.ts.words c.args.ts.low c.args.ts.high in
     let L = e.layout in
     let y = e.laid in
     let f = found_here L c.args.t.now c.args.hub c.in_ok-h.h (c.in_ok-for_table.ensures L y) (c.in_ok-h.ensures.value ∙ rw c.find_hub.ensures refl) in
-    omega (arith, f.below, f.long, c.waits_at-at.ensures, e.laid.size, c.requires.le_ts)
+    omega (arith, f.below, f.long, c.waits_at-at.ensures, e.laid.size, c.args.ts.low)
 
 pub mask_of-mask-requires-clause-list_value : goal.mask_of-mask-requires-clause-list_value
 mask_of-mask-requires-clause-list_value c =
-    let e = edition_of_lem c.args.ts c.requires.le_ts c.requires.ts_bound in
+    let e = edition_of_lem c.args.ts.words c.args.ts.low c.args.ts.high in
     let L = e.layout in
     let y = e.laid in
     let f = found_here L c.args.t.now c.args.hub c.in_ok-h.h (c.in_ok-for_table.ensures L y) (c.in_ok-h.ensures.value ∙ rw c.find_hub.ensures refl) in
@@ -67,7 +67,7 @@ mask_of-mask-requires-clause-list_value c =
 
 pub mask_of-mask-requires-clause-list_bound : goal.mask_of-mask-requires-clause-list_bound
 mask_of-mask-requires-clause-list_bound c =
-    let e = edition_of_lem c.args.ts c.requires.le_ts c.requires.ts_bound in
+    let e = edition_of_lem c.args.ts.words c.args.ts.low c.args.ts.high in
     let L = e.layout in
     let y = e.laid in
     let f = found_here L c.args.t.now c.args.hub c.in_ok-h.h (c.in_ok-for_table.ensures L y) (c.in_ok-h.ensures.value ∙ rw c.find_hub.ensures refl) in

@@ -38,9 +38,9 @@ returns-then-not-contents_right c L y =
     let t = c.args.t.now in
     refused L t (contents_right L t) (λ w. (exact_passed L t w).contents) (sym (c.contents_right.ensures L y) ∙ c.if-not-contents_right.true)
 
-pub unused_zero-requires : goal.unused_zero-requires
-unused_zero-requires c =
-    used c.args.ts c.args.t.now c.requires.le_ts c.requires.ts_bound (c.if-t-table_size.false ∙ c.table_size.ensures) (λ L y. sym (c.contents_right.ensures L y) ∙ c.if-not-contents_right.false)
+pub invariant_of-counted : goal.invariant_of-counted
+invariant_of-counted c =
+    record { used = used c.args.ts.words c.args.t.now c.args.ts.low c.args.ts.high (c.if-t-table_size.false ∙ c.table_size.ensures) (λ L y. sym (c.contents_right.ensures L y) ∙ c.if-not-contents_right.false) }
 
 pub returns-then-not-unused_zero : goal.returns-then-not-unused_zero
 returns-then-not-unused_zero c L y =
@@ -49,8 +49,8 @@ returns-then-not-unused_zero c L y =
 
 pub walk-requires : goal.walk-requires
 walk-requires c =
-    let u = used c.args.ts c.args.t.now c.requires.le_ts c.requires.ts_bound (c.if-t-table_size.false ∙ c.table_size.ensures) (λ L y. sym (c.contents_right.ensures L y) ∙ c.if-not-contents_right.false) in
-    record { used = u; list_len = lent-long c.args.t.now c.ready_at-a.result 16 (omega (arith, u.long)); marks = record { long = refl; low = λ j. rw (no_marks 16 j) zero-le } }
+    let u = used c.args.ts.words c.args.t.now c.args.ts.low c.args.ts.high (c.if-t-table_size.false ∙ c.table_size.ensures) (λ L y. sym (c.contents_right.ensures L y) ∙ c.if-not-contents_right.false) in
+    record { list_len = lent-long c.args.t.now c.ready_at-a.result 16 (omega (arith, u.long)); marks = record { long = refl; low = λ j. rw (no_marks 16 j) zero-le } }
 
 pub returns-then-not-walk : goal.returns-then-not-walk
 returns-then-not-walk c L y =
@@ -60,21 +60,17 @@ returns-then-not-walk c L y =
 
 pub hubs_right-requires : goal.hubs_right-requires
 hubs_right-requires c =
-    let u = used c.args.ts c.args.t.now c.requires.le_ts c.requires.ts_bound (c.if-t-table_size.false ∙ c.table_size.ensures) (λ L y. sym (c.contents_right.ensures L y) ∙ c.if-not-contents_right.false) in
-    record { used = u; marks = in_some c.args.ts c.requires.le_ts c.requires.ts_bound (λ L y. ready-marks (lent c.ready_at-a.result c.args.t.now) (c.walk.ensures L y) c.if-not-walk.false (lent-long c.args.t.now c.ready_at-a.result 16 (omega (arith, u.long)))) }
+    let u = used c.args.ts.words c.args.t.now c.args.ts.low c.args.ts.high (c.if-t-table_size.false ∙ c.table_size.ensures) (λ L y. sym (c.contents_right.ensures L y) ∙ c.if-not-contents_right.false) in
+    record { marks = in_some c.args.ts.words c.args.ts.low c.args.ts.high (λ L y. ready-marks (lent c.ready_at-a.result c.args.t.now) (c.walk.ensures L y) c.if-not-walk.false (lent-long c.args.t.now c.ready_at-a.result 16 (omega (arith, u.long)))) }
 
 pub returns-then-not-hubs_right : goal.returns-then-not-hubs_right
 returns-then-not-hubs_right c L y =
     let t = c.args.t.now in
     refused L t (for_all (get_or t 2 0) (hub_right L t)) (λ w. (exact_passed L t w).hubs) (sym (c.hubs_right.ensures L y).right ∙ c.if-not-hubs_right.true)
 
-pub tasks_right-requires : goal.tasks_right-requires
-tasks_right-requires c =
-    used c.args.ts c.args.t.now c.requires.le_ts c.requires.ts_bound (c.if-t-table_size.false ∙ c.table_size.ensures) (λ L y. sym (c.contents_right.ensures L y) ∙ c.if-not-contents_right.false)
-
 pub returns : goal.returns
 returns c L y =
-    let u = used c.args.ts c.args.t.now c.requires.le_ts c.requires.ts_bound (c.if-t-table_size.false ∙ c.table_size.ensures) (λ L y. sym (c.contents_right.ensures L y) ∙ c.if-not-contents_right.false) in
+    let u = used c.args.ts.words c.args.t.now c.args.ts.low c.args.ts.high (c.if-t-table_size.false ∙ c.table_size.ensures) (λ L y. sym (c.contents_right.ensures L y) ∙ c.if-not-contents_right.false) in
     whole L c.args.t.now _ _ _ (omega (arith, u.long))
     (sym (c.contents_right.ensures L y) ∙ c.if-not-contents_right.false)
     (sym (c.unused_zero.ensures L y) ∙ c.if-not-unused_zero.false)

@@ -26,22 +26,22 @@ word-is : (ts : ℕ) (x : List ℕ) (L : Layout) → Laid ts L → (v w : ℕ) �
 word-is ts x L y v w wide_as is = is ∙ ap (λ (k : ℕ). message_at k x 6) (wide_as ∙ wide y) ∙ sym (y.reads x 6)
 
 pub returns-then-not-suspended-x : goal.returns-then-not-suspended-x
-returns-then-not-suspended-x c L s y = sym (record_range s (record_of L c.args.x.now) c.args.mark (sym (ranges-are c.args.ts c.args.x.now L y) ∙ c.if-not-suspended-x.true))
+returns-then-not-suspended-x c L s y = sym (record_range s (record_of L c.args.x.now) c.args.mark (sym (ranges-are c.args.ts.words c.args.x.now L y) ∙ c.if-not-suspended-x.true))
 
 pub returns-in-1 : goal.returns-in-1
 unfolding stage_of stage_right
 returns-in-1 c L s y =
     rw
-    (word-is c.args.ts c.args.x.now L y _ _ c.width_of.ensures c.message-word.ensures.value, answer_last L y c.args.x.now)
-    (sym (record_stage s (record_of L c.args.x.now) c.args.mark (sym (ranges-are c.args.ts c.args.x.now L y) ∙ c.if-not-suspended-x.false) 1 c.in-1.is))
+    (word-is c.args.ts.words c.args.x.now L y _ _ c.width_of.ensures c.message-word.ensures.value, answer_last L y c.args.x.now)
+    (sym (record_stage s (record_of L c.args.x.now) c.args.mark (sym (ranges-are c.args.ts.words c.args.x.now L y) ∙ c.if-not-suspended-x.false) 1 c.in-1.is))
 
 pub returns-in-4 : goal.returns-in-4
 unfolding stage_of stage_right
 returns-in-4 c L s y =
     rw
-    (word-is c.args.ts c.args.x.now L y _ _ c.width_of.ensures c.message-word.ensures.value, answer_last L y c.args.x.now)
-    (sym (record_stage s (record_of L c.args.x.now) c.args.mark (sym (ranges-are c.args.ts c.args.x.now L y) ∙ c.if-not-suspended-x.false) 4 c.in-4.is))
+    (word-is c.args.ts.words c.args.x.now L y _ _ c.width_of.ensures c.message-word.ensures.value, answer_last L y c.args.x.now)
+    (sym (record_stage s (record_of L c.args.x.now) c.args.mark (sym (ranges-are c.args.ts.words c.args.x.now L y) ∙ c.if-not-suspended-x.false) 4 c.in-4.is))
 
 pub returns-in_default : goal.returns-in_default
 returns-in_default c L s y =
-    sym (record_neither s (record_of L c.args.x.now) c.args.mark (sym (ranges-are c.args.ts c.args.x.now L y) ∙ c.if-not-suspended-x.false) c.requires.fact (λ e. omega arith) (λ e. omega arith))
+    sym (record_neither s (record_of L c.args.x.now) c.args.mark (sym (ranges-are c.args.ts.words c.args.x.now L y) ∙ c.if-not-suspended-x.false) c.requires.fact (λ e. omega arith) (λ e. omega arith))

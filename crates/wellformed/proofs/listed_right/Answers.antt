@@ -12,14 +12,14 @@ returns-then-not-x c L y = sym (listed_no _ (record_of L c.args.x.now) c.if-not-
 pub returns-in-2 : goal.returns-in-2
 unfolding stage_of
 returns-in-2 c L y =
-    let s = read L c.args.t.now in
+    let s = read L c.args.t.now.words.now in
     c.ready_right.ensures L s y
     ∙ sym (listed_as s (record_of L c.args.x.now) c.if-not-x.false 2 c.in-2.is refl)
 
 pub returns-in-3 : goal.returns-in-3
 unfolding stage_of
 returns-in-3 c L y =
-    let s = read L c.args.t.now in
+    let s = read L c.args.t.now.words.now in
     c.waiting_task.ensures L y
     ∙ sym (listed_as s (record_of L c.args.x.now) c.if-not-x.false 3 c.in-3.is refl)
 

@@ -11,7 +11,7 @@ pub queue_right-requires : goal.queue_right-requires
 queue_right-requires c =
     let l = c.loop-h in
     let u = c.loop-h-test.true in
-    let low = in_some c.args.ts c.requires.used.low c.requires.used.high (λ L y. passing_low L _ _ l.marks l.h (l.invariant L y) c.requires.used c.requires.marks u) in record { used = c.requires.used; h_bound = u; marks = low }
+    let low = in_some c.args.t.now.ts.words c.args.t.now.used.low c.args.t.now.used.high (λ L y. passing_low L _ _ l.marks l.h (l.invariant L y) c.args.t.now.used c.requires.marks u) in record { h_bound = u; marks = low }
 
 pub returns-then-not-queue_right : goal.returns-then-not-queue_right
 returns-then-not-queue_right c L y =

@@ -6,4 +6,4 @@ use Rattle.wellformed.proofs.Hubs.{Passing}
 use Rattle.wellformed.proofs.queues_right.Given as goal
 
 abbrev pub invariant-loop-h : goal.invariant-loop-h
-invariant-loop-h l = (L : Layout) → Laid l.ts L → Passing L l.t l.initial.marks l.marks l.h
+invariant-loop-h l = (L : Layout) → Laid l.t.ts.words L → Passing L l.t.words.now l.initial.marks l.marks l.h

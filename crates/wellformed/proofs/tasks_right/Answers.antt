@@ -19,7 +19,7 @@ passes L t marks i = task_right (read L t) i (get_or marks i 0)
 
 pub returns : goal.returns
 returns c L y =
-    let n = get_or c.args.t.now 1 0 in
-    every_number (passes L c.args.t.now c.args.marks.now) n c.all.result
-    (cases_from_all _ _ _ (λ i. i < n → passes L c.args.t.now c.args.marks.now i ≡ true) (λ i. i < n → passes L c.args.t.now c.args.marks.now i ≡ false) c.all.ensures.ran
-    (YieldsList-from_range 0 n n (cc) (omega arith)) (λ i q k. search (rules, tests, record_task L y c.args.t.now i)) (λ i q k. search (rules, tests, record_task L y c.args.t.now i)))
+    let n = get_or c.args.t.now.words.now 1 0 in
+    every_number (passes L c.args.t.now.words.now c.args.marks.now) n c.all.result
+    (cases_from_all _ _ _ (λ i. i < n → passes L c.args.t.now.words.now c.args.marks.now i ≡ true) (λ i. i < n → passes L c.args.t.now.words.now c.args.marks.now i ≡ false) c.all.ensures.ran
+    (YieldsList-from_range 0 n n (cc) (omega arith)) (λ i q k. search (rules, tests, record_task L y c.args.t.now.words.now i)) (λ i q k. search (rules, tests, record_task L y c.args.t.now.words.now i)))

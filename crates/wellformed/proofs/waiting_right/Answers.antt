@@ -18,13 +18,13 @@ pub returns-then-hub-t : goal.returns-then-hub-t
 unfolding stage_right
 returns-then-hub-t c L x y eh es ew ea =
     let a = c.args in
-    rw (eh, read-hubs L a.t.now, lt-leb a.hub (get_or a.t.now 2 0) c.if-hub-t.true, and-false)
+    rw (eh, read-hubs L a.t.now.words.now, lt-leb a.hub (get_or a.t.now.words.now 2 0) c.if-hub-t.true, and-false)
 
 pub returns : goal.returns
 unfolding stage_right
 returns c L x y eh es ew ea =
     let a = c.args in
-    let t = a.t.now in
+    let t = a.t.now.words.now in
     let n = c.if-hub-eq0.false in
     let u = c.if-hub-t.false in
     let p = c.hubs_at in

@@ -18,7 +18,7 @@ returns-then-not-wordless c L y =
     let wide_is = c.width_of.ensures ∙ wide y in
     let word = c.message-word.ensures.value ∙ ap (λ (w : ℕ). message_at w l 6) wide_is ∙ sym (y.reads l 6) in
     c.waiting_right.ensures L (record_of L l) y refl refl (sym word) (sym (answer_last L y l))
-    ∙ sym (waiting_as (read L c.args.t.now) (record_of L l) c.if-x-gt-MOST_TICKS.false)
+    ∙ sym (waiting_as (read L c.args.t.now.words.now) (record_of L l) c.if-x-gt-MOST_TICKS.false)
 
 pub returns : goal.returns
 returns c L y =
@@ -26,4 +26,4 @@ returns c L y =
     let none = sym (c.wordless.ensures L y) ∙ c.if-not-wordless.false in
     rw
     (answer_last L y l)
-    (sym (rw (read-hubs L c.args.t.now) at (waiting_bare (read L c.args.t.now) (record_of L l) c.if-x-gt-MOST_TICKS.false none)))
+    (sym (rw (read-hubs L c.args.t.now.words.now) at (waiting_bare (read L c.args.t.now.words.now) (record_of L l) c.if-x-gt-MOST_TICKS.false none)))

@@ -6,4 +6,4 @@ use Rattle.wellformed.proofs.Turns.{Walking}
 use Rattle.wellformed.proofs.walk.Given as goal
 
 abbrev pub invariant-loop-k : goal.invariant-loop-k
-invariant-loop-k l = (L : Layout) → Laid l.ts L → Walking L l.t l.list l.hub l.side l.owner l.initial.marks l.marks l.k
+invariant-loop-k l = (L : Layout) → Laid l.t.ts.words L → Walking L l.t.words.now l.list l.hub l.side l.owner l.initial.marks l.marks l.k

@@ -7,4 +7,4 @@ pub returns-then-not-exact : goal.returns-then-not-exact
 returns-then-not-exact c L y = formed_no L _ (sym (c.exact.ensures L y) ∙ c.if-not-exact.true)
 
 pub order_right-requires : goal.order_right-requires
-order_right-requires c = record { exact_table = exact_all _ _ c.requires.le_ts c.requires.ts_bound (λ L y. sym (c.exact.ensures L y) ∙ c.if-not-exact.false); keys_len = c.requires.keys_len }
+order_right-requires c = record { exact_table = exact_all _ _ c.args.ts.low c.args.ts.high (λ L y. sym (c.exact.ensures L y) ∙ c.if-not-exact.false) }

@@ -7,4 +7,4 @@ use Rattle.rows.proofs.Pair.count_marked.Given as goal
 abbrev pub invariant-loop-k : goal.invariant-loop-k
 invariant-loop-k l =
     let p = l.self in
-    (l.count ≤ l.k) × (l.count + marked_left p.left.ts p.left.words.now p.right.words.now p.left.runs p.right.runs l.k ≡ marked_all p.left.ts p.left.words.now p.right.words.now p.left.runs p.right.runs)
+    (l.count ≤ l.k) × (l.count + marked_left p.left.ts.words p.left.words.now p.right.words.now p.left.runs p.right.runs l.k ≡ marked_all p.left.ts.words p.left.words.now p.right.words.now p.left.runs p.right.runs)
