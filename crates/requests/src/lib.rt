@@ -21,7 +21,7 @@ ghost use Rattle.rules.specs.Table.{Hub, Layout, State, hub, set_task, task, wor
 
 use hubtable::{Meeting, Store, Verdict};
 use records::{HubNo, TaskNo, TaskRecord, TaskSize};
-use rules::{Call, Kind, Served};
+use rules::{Call, Kind, Mode, Served};
 
 // "A request that is met answers 1." The waiter met with it, if there is one, becomes ready.
 fn meet(t: &mut [u32], ts: TaskSize, keys: &[u32], c: Call, m: Meeting)
@@ -191,7 +191,7 @@ fn settle(t: &mut [u32], ts: TaskSize, keys: &[u32], c: Call) -> u32
             0
         }
         Verdict::NotNow => {
-            if c.mode == rules::NW {
+            if Mode::of(c.mode) == Some(Mode::Nw) {
                 fail(t, ts, caller);
                 0
             } else {

@@ -1,8 +1,7 @@
 -- Services after which nobody is put in another order (M-108): Start, Suspend, Resume, Yield and Sleep. They leave who waits for
 -- whom as it was, so no effective priority changes (`calm_still`). In order: a record, a state (`Rest`); the five; the law.
 -- Not here: hub requests (Unmoved.antt, Urgent.antt), Blank (Still.antt). Assumes nothing.
-use Prim.Native.Nat.{suc, zero, ℕ}
-use Rattle.lists.proofs.Laws.{bool_case}
+use Prim.Native.Nat.{ℕ}
 use Rattle.rules.proofs.Accepted.{caller-ready}
 use Rattle.rules.proofs.Changes.{set_case}
 use Rattle.rules.proofs.Hubs.{core, hubs-serve}
@@ -11,16 +10,15 @@ use Rattle.rules.proofs.Kept.{unsorted_low, unsorted_serve, unsorted_sound, vali
 use Rattle.rules.proofs.Quiet.{Other, is_resume, is_sleep, is_start, is_suspend, is_yield}
 use Rattle.rules.proofs.Still.{alike_still}
 use Rattle.rules.proofs.Valid.{Valid}
-use Rattle.rules.specs.Calls.{AddHub, AddTask, Blank, flag, grant, HubRequest, Resume, serve, Service, service_of, Sleep, slept, Start, start, Stop, Suspend, Tick, Unknown, Yield, yielded}
+use Rattle.rules.specs.Calls.{AddHub, AddTask, Blank, flag, grant, HubRequest, Resume, serve, Service, Sleep, slept, Start, start, Stop, Suspend, Tick, Unknown, Yield, yielded}
 use Rattle.rules.specs.Lists.{answer, answered, asleep, flagged, join_ready, leave, queued, readied}
 use Rattle.rules.specs.Refusals.{refusal_for}
 use Rattle.rules.specs.Reorder.{reordered}
 use Rattle.rules.specs.Reply.{bears_answer}
 use Rattle.rules.specs.Table.{Hub, State, Task, hub, kind_of, set_ready, set_task, task}
 use Rattle.rules.specs.declared.Call.{Call}
-use borrow.Author.Tests.{eqb-true, leb-true, ne_eqb}
-use lib.Dec.{eqb, leb}
-use mathlib.Core.Bool.{Bool, ◌&&◌, ◌||◌, and-false, false, false≢true, true}
+use borrow.Author.Tests.{eqb-true}
+use mathlib.Core.Bool.{Bool, false, true}
 use mathlib.Core.Logic.{◌≢◌}
 use mathlib.Core.Path.{◌∙◌, ◌≡◌, ap, refl, sym}
 use native.Mathlib.Omega.{arith}
@@ -31,23 +29,6 @@ pub data Calm : Service → Type 0 where
   calm_resume : Calm Resume
   calm_yield : Calm Yield
   calm_sleep : Calm Sleep
-
--- by their numbers
-pub calm_number : (n : ℕ) → (eqb n 2 || (leb 4 n && leb n 7)) ≡ true → Calm (service_of n)
-unfolding service_of
-calm_number zero e = absurd (false≢true e)
-calm_number (suc zero) e = absurd (false≢true e)
-calm_number (suc (suc zero)) e = calm_start
-calm_number (suc (suc (suc zero))) e = absurd (false≢true e)
-calm_number (suc (suc (suc (suc zero)))) e = calm_suspend
-calm_number (suc (suc (suc (suc (suc zero))))) e = calm_resume
-calm_number (suc (suc (suc (suc (suc (suc zero)))))) e = calm_yield
-calm_number (suc (suc (suc (suc (suc (suc (suc zero))))))) e = calm_sleep
-calm_number (suc (suc (suc (suc (suc (suc (suc (suc n)))))))) e =
-    let m = suc (suc (suc (suc (suc (suc (suc (suc n))))))) in
-    absurd (bool_case (leb m 7)
-    (λ b. omega (arith, leb-true m 7 b))
-    (λ b. false≢true (rw (ne_eqb m 2 (λ z. omega (arith, z)), b, and-false) at e)))
 
 -- ---- a record: who waits goes on at the same hub, nobody starts to, and the priority stays
 

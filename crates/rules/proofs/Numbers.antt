@@ -11,7 +11,7 @@ use Rattle.rules.specs.WellFormed.{bears_word, for_all}
 use borrow.Author.Tests.{ne_eqb}
 use lib.Dec.{eqb}
 use lib.ListN.{get_or-eq_default, get_or, length}
-use mathlib.Core.Bool.{◌||◌, cond, false, true}
+use mathlib.Core.Bool.{◌||◌, cond, true}
 use mathlib.Core.List.{List, [], ◌∷◌}
 use mathlib.Core.Path.{◌≡◌, refl}
 use native.Mathlib.Nat.{not-suc-le-zero}
@@ -114,23 +114,3 @@ pub bears_answer_lem : (n : ℕ) → 1 ≤ n → n ≤ 7 → bears_answer (servi
 unfolding bears_answer for_all service_of
 bears_answer_lem zero lo hi = absurd (omega arith)
 bears_answer_lem (suc n) lo hi = (t_below_all (λ k. bears_answer (service_of (suc k))) 7).yes refl n hi
-
-pub silent_first : (n : ℕ) → n < 1 → bears_answer (service_of n) ≡ false
-unfolding bears_answer service_of
-silent_first zero p = refl
-silent_first (suc n) p = absurd (omega arith)
-
-pub silent_past : (n : ℕ) → 7 < n → bears_answer (service_of n) ≡ false
-unfolding bears_answer service_of
-silent_past zero p = absurd (omega arith)
-silent_past (suc zero) p = absurd (omega arith)
-silent_past (suc (suc zero)) p = absurd (omega arith)
-silent_past (suc (suc (suc zero))) p = absurd (omega arith)
-silent_past (suc (suc (suc (suc zero)))) p = absurd (omega arith)
-silent_past (suc (suc (suc (suc (suc zero))))) p = absurd (omega arith)
-silent_past (suc (suc (suc (suc (suc (suc zero)))))) p = absurd (omega arith)
-silent_past (suc (suc (suc (suc (suc (suc (suc zero))))))) p = absurd (omega arith)
-silent_past (suc (suc (suc (suc (suc (suc (suc (suc zero)))))))) p = refl
-silent_past (suc (suc (suc (suc (suc (suc (suc (suc (suc zero))))))))) p = refl
-silent_past (suc (suc (suc (suc (suc (suc (suc (suc (suc (suc zero)))))))))) p = refl
-silent_past (suc (suc (suc (suc (suc (suc (suc (suc (suc (suc (suc n))))))))))) p = refl
