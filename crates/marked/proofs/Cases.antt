@@ -16,7 +16,7 @@ use Rattle.rules.specs.HubTable.{get_fifo, on_get, on_put, on_side, put_fifo, ve
 use Rattle.rules.specs.Lists.{answer, answered, counted, first_free, first_waiting, holding, join_hub, join_ready, leave, next, queued, readied, unqueue, waits, wake}
 use Rattle.rules.specs.Refusals.{behind, by_running, good_hub, good_wait, last_side, mode_of, need, refusal, refusal_at, refusal_for}
 use Rattle.rules.specs.Reorder.{put_back, rejoin, rejoin_hub, reordered, taken_out, thinned}
-use Rattle.rules.specs.Reply.{ahead, ahead_for, bears_answer, outcome, outcome_of, reply_by, reply_in, table_by, table_in}
+use Rattle.rules.specs.Reply.{ahead, ahead_for, bears_answer, outcome, outcome_of, refusal_with, reply_by, reply_in, table_by, table_in}
 use Rattle.rules.specs.Table.{edition_of, inactive, is_resource, kind_of, no_hub, owns, read as read_state, set_hub, set_ready, set_task, side_of, size, stored, two, words}
 use Rattle.rules.specs.WellFormed.{bears_word}
 use Rattle.runner.specs.Runner.{drill_text, reply_text, text_through, zeros}
@@ -48,7 +48,7 @@ blanked ls =
     rw (blank-accepted zeros c (rw zeros-edition zeros-long) refl, zeros-edition, served-blank (read_state two zeros) c refl)
 
 answered-all : text_through zeros (lines_from rows) ≡ output_of rows
-unfolding add_hub add_started add_task ahead ahead_for answer answered bad_text bears_answer bears_word behind blank by_running call_of counted decimal digits effective first_free first_waiting get_fifo good_hub good_wait hold holding inactive index_of insert is_resource join_hub join_ready joined kept kind_of last_side leave lines_from meet_all mode_of need new_hub next no_hub on_get on_put on_side only outcome outcome_of output_of over_owned over_task over_waiters owns printed put_back put_fifo queued readied refusal refusal_at refusal_for rejoin rejoin_hub reordered reply_by reply_text rows serve served service_of set_hub set_ready set_task settle side_of spaced start state_after state_by stored taken_out text_from thinned tick_all tick_by tick_one unqueue verdict wait waits wake without
+unfolding add_hub add_started add_task ahead ahead_for answer answered bad_text bears_answer bears_word behind blank by_running call_of counted decimal digits effective first_free first_waiting get_fifo good_hub good_wait hold holding inactive index_of insert is_resource join_hub join_ready joined kept kind_of last_side leave lines_from meet_all mode_of need new_hub next no_hub on_get on_put on_side only outcome outcome_of output_of over_owned over_task over_waiters owns printed put_back put_fifo queued readied refusal refusal_at refusal_for refusal_with rejoin rejoin_hub reordered reply_by reply_text rows serve served service_of set_hub set_ready set_task settle side_of spaced start state_after state_by stored taken_out text_from thinned tick_all tick_by tick_one unqueue verdict wait waits wake without
 answered-all = blanked _ ∙ ap (λ (t : List ℕ). printed (0 ∷ 0 ∷ 0 ∷ 0 ∷ []) ++ t) (on_words blank valid-blank _)
 
 -- the twelve, as one input and one output
