@@ -1,4 +1,4 @@
-// The hub table of document 01: what a hub says of a put, a get or a wipe, by its record, the numbered waiter of the other side and, of
+// The hub table of document 01: what a hub says of a put, a get or a wipe, by its record, the first waiter of the other side and, of
 // a get, the words that may be received. Of a Memory hub's blocks it is told which is the lowest that is free, and whether the one
 // named is out.
 // A message is one number; what a verdict says of messages is below any bound that those handed in are below.
@@ -122,7 +122,7 @@ fn put_fifo(h: HubRecord, waiter: Option<TaskNo>, word: u64) -> Verdict
     alone(h.count + 1, Store::Append(word), 0)
 }
 
-// "caller owns it: numbered waiter, if any, is met and becomes owner, else free. Otherwise FAIL in every mode"
+// "caller owns it: first waiter, if any, is met and becomes owner, else free. Otherwise FAIL in every mode"
 fn put_resource(h: HubRecord, waiter: Option<TaskNo>, caller: u32) -> Verdict
     ensures result_value { (x : Hub) → RecordOf h x → Low waiter → says x.held result ≡ put_resource (numbered waiter) x caller }
     ensures by_index { (b : ℕ) → 0 < b → Below b result }

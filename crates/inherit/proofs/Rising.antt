@@ -10,18 +10,14 @@ use Rattle.rules.proofs.Cases.{and_l, and_r}
 use Rattle.rules.proofs.Layouts.{Laid, sized}
 use Rattle.rules.proofs.Places.{ready-part, wait-part}
 use Rattle.rules.proofs.Room.{ready-room, waiters-room}
-use Rattle.rules.proofs.Tests.{t_below_all}
 use Rattle.rules.proofs.Valid.{Sound}
 use Rattle.rules.specs.Table.{Layout, State, hub, part, wait_part, words}
 use Rattle.rules.specs.WellFormed.{every, for_all, in_order_by, rising}
-use Rattle.std.proofs.lemmas.List.FromFn.{get_or-range_with_len, length-range_with_len}
-use Rattle.std.specs.Bool.{MatchBool}
-use Rattle.std.specs.List.{AllWithin, HoldsAt, range_with_len}
 use borrow.Author.Tests.{eq-eqb, le-leb, leb-true, lt-leb, ne_eqb}
 use lib.Dec.{leb, leb-zero}
 use lib.ListN.{drop, drop_of_length-le, get_or, length, take}
 use lib.Seq.{drop-cons}
-use mathlib.Core.Bool.{Bool, ◌&&◌, and-false, false, false≢true, true}
+use mathlib.Core.Bool.{Bool, ◌&&◌, and-false, false, true}
 use mathlib.Core.List.{List, [], ◌∷◌}
 use mathlib.Core.Path.{◌∙◌, ◌≡◌, ap, refl, sym}
 use native.Mathlib.Numerals.{add-one}
@@ -126,22 +122,6 @@ module _ {ts : ℕ} (L : Layout) (s : State) (y : Laid ts L) (x : Sound s) (t : 
     hub_short e =
         sym (short_rising (λ j. get_or ks j 0) (hub s h).waiters
         (entries_none 16 (hub s h).waiters 1 (omega arith) (sym (entry_word L s y x h u 1 (omega arith)) ∙ (rw (place, w) at e))))
-
--- ---- the hubs in use: what `all` says of the numbers below n
-
-number_at : (n i : ℕ) → i < n → get_or (range_with_len 0 n) i 0 ≡ i
-number_at n i l = get_or-range_with_len 0 n i 0 l ∙ omega arith
-
-pub every_number : (p : ℕ → Bool) (n : ℕ) (r : Bool)
-    → MatchBool r (AllWithin (λ h. h < n → p h ≡ true) (range_with_len 0 n) 0 (length (range_with_len 0 n)))
-    ((k : ℕ) × (k < length (range_with_len 0 n)) × HoldsAt (λ h. h < n → p h ≡ false) (range_with_len 0 n) k)
-    → r ≡ for_all n p
-every_number p n true all =
-    sym ((t_below_all p n).conv (λ i l. (rw (number_at n i l) at (all i 0 zero-le (omega (arith, length-range_with_len 0 n)))) l))
-every_number p n false (k, l, fails) =
-    let inside : k < n = omega (arith, length-range_with_len 0 n) in
-    let here : p k ≡ false = (rw (number_at n k inside) at (fails 0)) inside in
-    bool_case (for_all n p) (λ b. absurd (false≢true (sym here ∙ (t_below_all p n).yes b k inside))) (λ b. sym b)
 
 -- ---- the whole: the ready list's answer r, then the hubs' answer q
 

@@ -1,6 +1,6 @@
 -- The tests of specs/WellFormed.antt say what Valid.antt states: a test and what it tests (`Tests`), put together by and,
 -- or, not, for all; then each clause in the order of the definitions; then the whole, in both directions.
-use Prim.Native.Nat.{◌<◌, ◌≤◌, pred, suc, zero, ℕ}
+use Prim.Native.Nat.{◌<◌, ◌≤◌, pred, suc, zero, zero-le, ℕ}
 use Rattle.lists.proofs.Counting.{occ_here, occ_tail}
 use Rattle.lists.proofs.Laws.{bool_case}
 use Rattle.lists.specs.Lists.{bit, occ}
@@ -11,6 +11,9 @@ use Rattle.rules.proofs.Valid.{Below, Fits, GetWaits, Listed, MayWait, Ordered, 
 use Rattle.rules.specs.Effective.{effective}
 use Rattle.rules.specs.Table.{Board, Event, Fifo, Get, Hub, Inactive, Kind, Memory, NoKind, NoSide, NoStage, Port, Put, Ready, Resource, Semaphore, Side, Sleeping, Stage, State, Task, Waiting, Wipe, hub, inactive, is_resource, kind_of, no_hub, owns, side_of, stage_of, task}
 use Rattle.rules.specs.WellFormed.{bears_word, every, exactly, fields_right, for_all, hubs_right, in_order, in_order_by, is_ready, kind_right, lists_exact, may_wait, one_side, owner_right, owners_right, rising, stage_right, tasks_right, valid, waiters_right, waits_for, within}
+use Rattle.std.proofs.lemmas.List.FromFn.{get_or-range_with_len, length-range_with_len}
+use Rattle.std.specs.Bool.{MatchBool}
+use Rattle.std.specs.List.{AllWithin, HoldsAt, range_with_len}
 use borrow.Author.Tests.{eq-eqb, eqb-false, eqb-true, le-leb, leb-true, lt-ltb, ltb-false, ltb-true, ne_eqb}
 use lib.Dec.{eqb, leb, ltb}
 use lib.ListN.{get_or-eq_default, get_or, length}
@@ -79,6 +82,21 @@ t_all P p t (suc n) =
 -- every number below n passes
 pub t_below_all : (p : ℕ → Bool) (n : ℕ) → Tests (for_all n p) ((i : ℕ) → i < n → p i ≡ true)
 t_below_all p n = t_all (λ i. p i ≡ true) p (λ i. t_is (p i)) n
+
+-- what `all` says of the numbers below n
+number_at : (n i : ℕ) → i < n → get_or (range_with_len 0 n) i 0 ≡ i
+number_at n i l = get_or-range_with_len 0 n i 0 l ∙ omega arith
+
+pub every_number : (p : ℕ → Bool) (n : ℕ) (r : Bool)
+    → MatchBool r (AllWithin (λ h. h < n → p h ≡ true) (range_with_len 0 n) 0 (length (range_with_len 0 n)))
+    ((k : ℕ) × (k < length (range_with_len 0 n)) × HoldsAt (λ h. h < n → p h ≡ false) (range_with_len 0 n) k)
+    → r ≡ for_all n p
+every_number p n true all =
+    sym ((t_below_all p n).conv (λ i l. (rw (number_at n i l) at (all i 0 zero-le (omega (arith, length-range_with_len 0 n)))) l))
+every_number p n false (k, l, fails) =
+    let inside : k < n = omega (arith, length-range_with_len 0 n) in
+    let here : p k ≡ false = (rw (number_at n k inside) at (fails 0)) inside in
+    bool_case (for_all n p) (λ b. absurd (false≢true (sym here ∙ (t_below_all p n).yes b k inside))) (λ b. sym b)
 
 -- every entry of a list
 pub t_each : (P : ℕ → Type 0) (p : ℕ → Bool) → ((i : ℕ) → Tests (p i) (P i)) → (l : List ℕ) → Tests (every p l) ((i : ℕ) → 1 ≤ occ i l → P i)

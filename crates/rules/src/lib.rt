@@ -7,8 +7,6 @@ ghost use Rattle.rules.specs.Reply.{answer_number, code, refusal_number};
 ghost use Rattle.rules.specs.Table.{kind_of, stored};
 ghost use Rattle.std.specs.Prelude.{◌≡◌};
 
-use std::fmt;
-
 mod kinds;
 mod modes;
 mod services;
@@ -121,23 +119,6 @@ impl Refusal {
         ensures { result ≡ code self }
     {
         self as u32
-    }
-}
-
-impl fmt::Display for Refusal {
-    fn fmt<W: fmt::Write>(&self, f: &mut fmt::Formatter<W>) -> fmt::Result {
-        f.write_str(match self {
-            Refusal::WrongLength => "wrong length",
-            Refusal::NotWellFormed => "not well formed",
-            Refusal::UnknownService => "unknown service",
-            Refusal::NotRunning => "the caller isn't the running task",
-            Refusal::NotInUse => "not in use",
-            Refusal::BadArgument => "bad argument",
-            Refusal::Full => "16 already",
-            Refusal::ShortBuffer => "the buffer is too short",
-            Refusal::HighWord => "a high word isn't 0",
-            Refusal::OtherEdition => "differing editions",
-        })
     }
 }
 

@@ -1,7 +1,7 @@
 -- `bodies::bodies_right` meets its contract: a test of all hubs in use. Assumes nothing.
 use Prim.Native.Nat.{◌<◌}
-use Rattle.bodies.proofs.Turns.{every_number}
 use Rattle.bodies.specs.Bodies.{body_test}
+use Rattle.rules.proofs.Tests.{every_number}
 use Rattle.std.proofs.Common.{rules}
 use Rattle.std.proofs.lemmas.Iterator.{YieldsList-from_range, cases_from_all}
 use borrow.Author.Tests.{tests}

@@ -1,7 +1,7 @@
 -- `inherit::hubs_rising` meets its contract: a test of all hubs that the contents count, which are those in use. Assumes nothing.
 use Prim.Native.Nat.{◌<◌, ℕ}
-use Rattle.inherit.proofs.Rising.{every_number}
 use Rattle.inherit.proofs.Turns.{many-used, used}
+use Rattle.rules.proofs.Tests.{every_number}
 use Rattle.rules.specs.Table.{State, hub}
 use Rattle.rules.specs.WellFormed.{for_all, rising}
 use Rattle.std.proofs.Common.{rules}

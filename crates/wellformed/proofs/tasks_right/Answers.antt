@@ -1,6 +1,6 @@
 -- `wellformed::tasks_right` meets its contract: a test of all tasks in use. Assumes nothing.
 use Prim.Native.Nat.{◌<◌, ℕ}
-use Rattle.bodies.proofs.Turns.{every_number}
+use Rattle.rules.proofs.Tests.{every_number}
 use Rattle.rules.specs.Table.{Layout, read}
 use Rattle.std.proofs.Common.{rules}
 use Rattle.std.proofs.lemmas.Iterator.{YieldsList-from_range, cases_from_all}
