@@ -157,7 +157,7 @@ fn store_sound(t: &[u32], ts: usize, h: usize) -> bool
     store_right(t, ts, h)
 }
 
-// The entry that may not stand in a hub's list.
+// The entry that may not stand in a hub's list, else 0. A word of the table, compared with the list's entries as they stand.
 pub fn owner_of(kind: u32, count: u32) -> u32
     ensures { result ≡ owner_of kind count }
 {

@@ -54,7 +54,7 @@ fn nobody_asked(t: &[u32], ts: usize) -> bool
     nobody
 }
 
-// The owner, plus 1, of hub h where it is a Resource with a waiter; else 0.
+// The owner, plus 1, of hub h where it is a Resource with a waiter; else 0. A word of the table, as a list's entries stand there.
 fn asked_owner(t: &[u32], ts: usize, h: usize) -> u32
     requires table { Table ts t.now }
     requires h_bound { h < 16 }
