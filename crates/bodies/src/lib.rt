@@ -12,7 +12,10 @@ ghost use Rattle.rules.proofs.Layouts.{Laid};
 ghost use Rattle.rules.specs.Table.{Layout, store_part};
 ghost use Rattle.rules.specs.WellFormed.{contents_right, for_all, unused_zero, within, zero_from};
 
-use records::{COUNT, HUB_SIZE, HUBS, HubNo, LIMIT, MOST_RECORDS, START, STATE, TASKS, TASKS_AT, TaskNo, TaskSize};
+use records::{
+    COUNT, HUB_SIZE, HUBS, HubNo, LIMIT, MOST_RECORDS, START, STATE, TASKS, TASKS_AT, TaskNo,
+    TaskSize,
+};
 use rules::Kind;
 
 // A table of an edition whose counts are right, so that every place that is read is in it.
@@ -156,7 +159,7 @@ fn store_sound(t: &Counted<'_>, h: usize) -> bool
     store_right(t, h)
 }
 
-// The entry that may not stand in a hub's list.
+// The entry that may not stand in a hub's list, else 0. A word of the table, compared with the list's entries as they stand.
 pub fn owner_of(kind: u32, count: u32) -> u32
     ensures { result ≡ owner_of kind count }
 {

@@ -44,6 +44,7 @@ fn answer_chunk(
     let mut s = scan;
     let mut end = at;
     let mut i = 0;
+    // each turn goes on where the runner answers that the buffer was full: no index goes up by one
     loop {
         match runner::answer_lines(t, out, end, chunk, i, s) {
             Answered::Drained(next, place) => return Ok((next, place)),

@@ -98,6 +98,7 @@ fn zeros_at(t: &[u32], at: usize, size: usize, n: usize, f: usize) -> bool
     requires f_bound { f ≤ 65535 }
     ensures { result ≡ zeros_at at size n f t.now }
 {
+    // tried: `all` over a closure, whose equation with the definition didn't close
     for i in 0..n {
         if records::field(t, at, size, i, f) != 0 {
             return false;

@@ -1,6 +1,6 @@
 -- The test of order. In order: a list by rising key from a number on (`rising_from`), entry by entry; a turn of the walk of a list
--- of words (`Walking`); the lists of the table, lent; a turn of the walk of the hubs (`Passing`); the whole.
--- Not here: sorted lists as such (rules, Order.antt). Assumes nothing.
+-- of words (`Walking`); the lists of the table, lent; the whole.
+-- Not here: sorted lists as such (rules, Order.antt); a test of all hubs in use (rules, Tests.antt). Assumes nothing.
 use Prim.Native.Nat.{◌*◌, ◌+◌, ◌-◌, ◌<◌, ◌≤◌, pred, suc, zero-le, ℕ}
 use Rattle.inherit.proofs.Turns.{entry_word}
 use Rattle.lists.proofs.Laws.{bool_case, entries_none, numbers-entries}

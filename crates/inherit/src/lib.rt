@@ -36,7 +36,8 @@ fn is_asked(t: &TableView<'_>, h: usize) -> bool
         → result ≡ is_asked (hub s h) }
 {
     let b = records::hubs_at(t.ts) + h * HUB_SIZE;
-    (Kind::of(t.words[b]) == Some(Kind::Resource)) & (t.words[records::waits_at(t.ts, HubNo(h))] != 0)
+    (Kind::of(t.words[b]) == Some(Kind::Resource))
+        & (t.words[records::waits_at(t.ts, HubNo(h))] != 0)
 }
 
 // Whether no hub in use is a Resource with a waiter: the common case, in which every task has its own priority.
@@ -51,7 +52,7 @@ fn nobody_asked(t: &TableView<'_>) -> bool
     nobody
 }
 
-// The owner, plus 1, of hub h where it is a Resource with a waiter; else 0.
+// The owner, plus 1, of hub h where it is a Resource with a waiter; else 0. A word of the table, as a list's entries stand there.
 fn asked_owner(t: &TableView<'_>, h: usize) -> u32
     requires h_bound { h < 16 }
     ensures { (L : Layout) (s : State) → Laid t.now.ts.words L → Sound s → t.now.words.now ≡ words L s → h < length s.hubs

@@ -239,6 +239,7 @@ fn decimal_length(n: u32) -> usize
 {
     let mut left = n;
     let mut digits = 1;
+    // counts the digits of a value that shrinks: no index, and nothing to iterate over
     while 9 < left {
         left /= 10;
         digits += 1;

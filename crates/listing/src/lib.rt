@@ -36,6 +36,7 @@ fn measure(t: &[u32], ts: TaskSize, n: usize, m: usize) -> usize
     ensures upper_bound { result ≤ 2904 }
 {
     let mut bytes = 0;
+    // a chained `sum` would need a bound of its own for what it adds up; here each turn's is at hand
     for k in 0..1 + n + m {
         let line = line_at(t, ts, n, k);
         bytes += lines::numbers_length(&line);

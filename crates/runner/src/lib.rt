@@ -75,6 +75,7 @@ pub fn answer_lines(
     let mut s = scan;
     let mut end = at;
     let mut i = start;
+    // each turn goes on at the place that the reader answers: no index goes up by one
     loop {
         match lines::next_line(chunk, i, s) {
             Progress::Ended(line, next, place) => {

@@ -36,6 +36,7 @@ pub fn add_task(t: &mut [u32], ts: TaskSize, priority: u32)
         t,
         ts,
         TaskNo(n),
+        // every field, so that the paper's "all but state and priority 0" reads off it
         TaskRecord {
             state: rules::INACTIVE,
             suspended: 0,

@@ -30,6 +30,7 @@ pub fn read_full<R: Read>(reader: &mut R, buf: &mut [u8]) -> usize
     ensures bytes { Consumes (R.remaining reader.old) (R.remaining reader.new) (take result buf.new) }
 {
     let mut done = 0;
+    // how far a read comes is known only behind it: no index goes up by one
     while done < buf.len() {
         let n = read_some(reader, &mut buf[done..]);
         if n == 0 {

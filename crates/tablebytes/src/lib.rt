@@ -25,6 +25,7 @@ pub fn table_words(table: &[u8], words: &mut [u32]) -> usize
             bytes4::unpack(table, words);
             records::TABLE_SIZE_TWO
         }
+        // no words, so that callers take what is in front as it is, and it is refused by the test of a table's length
         _ => 0,
     }
 }

@@ -24,6 +24,7 @@ pub fn start_task(t: &mut [u32], ts: TaskSize, keys: &[u32], c: Call)
 {
     let caller = TaskNo(c.caller as usize);
     let i = TaskNo(c.target as usize);
+    // FAIL first, so that behind it stand the steps of the paper alone, in its order; `stop_task` does the same
     if moves::task_at(t, ts, i).state != rules::INACTIVE {
         moves::give_answer(t, ts, caller, rules::FAIL, 0);
         return;
@@ -45,6 +46,7 @@ fn make_inactive(t: &mut [u32], ts: TaskSize, i: TaskNo, priority: u32)
         t,
         ts,
         i,
+        // every field, so that "all but state and priority 0" reads off it
         TaskRecord {
             state: rules::INACTIVE,
             suspended: 0,
@@ -79,6 +81,7 @@ pub fn stop_task(t: &mut [u32], ts: TaskSize, keys: &[u32], c: Call)
     let i = TaskNo(c.target as usize);
     let hubs = t[records::HUBS] as usize;
     let x = moves::task_at(t, ts, i);
+    // FAIL first, as in `start_task`
     if !may_stop(x, c) {
         moves::give_answer(t, ts, caller, rules::FAIL, 0);
         return;

@@ -14,7 +14,10 @@ ghost use Rattle.rules.specs.WellFormed.{for_all, stage_right, well_formed_in};
 ghost use Rattle.wellformed.specs.Walks.{ExactTable, Formed, Marked, Marks, Row, exact_in, hub_right, may, meets, met_at, queue_test, record_of, record_right, rest_right, task_right, waits_of, walks};
 
 use bodies::Counted;
-use records::{COUNT, HUB, HUB_SIZE, HUBS, HubNo, LIMIT, LIST_SIZE, PRIORITY, SIDE, STATE, SUSPENDED, TASKS, TICKS, TaskNo, WORD, TableView, TaskSize};
+use records::{
+    COUNT, HUB, HUB_SIZE, HUBS, HubNo, LIMIT, LIST_SIZE, PRIORITY, SIDE, STATE, SUSPENDED, TASKS,
+    TICKS, TableView, TaskNo, TaskSize, WORD,
+};
 use rules::Kind;
 
 // Entry e of a list: a task in use, at this hub and on this side, and not the owner. A task whose record names another hub,
