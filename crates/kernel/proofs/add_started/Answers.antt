@@ -5,8 +5,8 @@ use Rattle.kernel.proofs.Laws.{key-added}
 use Rattle.rules.proofs.Changes.{length-add_task}
 use Rattle.rules.proofs.Places.{tasks-word}
 use Rattle.rules.specs.Calls.{add_started, add_task, start}
-use lib.ListN.{get_or, length, length-set}
-use mathlib.Core.Path.{◌∙◌, ◌≡◌, refl, sym}
+use lib.ListN.{get_or, length}
+use mathlib.Core.Path.{◌∙◌, ◌≡◌, refl}
 use native.Mathlib.Omega.{arith}
 use Rattle.kernel.proofs.add_started.Goals as goal
 
