@@ -31,14 +31,14 @@ pub fn contents_right(t: &[u32], ts: TaskSize) -> bool
     requires { Table ts.words t.now }
     ensures { (L : Layout) → Laid ts.words L → result ≡ contents_right L t.now }
 {
-    (t[0] == records::width_of(ts) as u32)
+    (t[0] == records::width_of(ts.words) as u32)
         & ((t[TASKS] <= MOST_RECORDS)
             & ((t[HUBS] <= MOST_RECORDS)
                 & ((t[3] == TASKS_AT as u32)
-                    & ((t[4] == records::hubs_at(ts) as u32)
-                        & ((t[5] == records::ready_at(ts) as u32)
-                            & ((t[6] == records::waits_at(ts, HubNo(0)) as u32)
-                                & (t[7] == records::stores_at(ts) as u32)))))))
+                    & ((t[4] == records::hubs_at(ts.words) as u32)
+                        & ((t[5] == records::ready_at(ts.words) as u32)
+                            & ((t[6] == records::waits_at(ts.words, HubNo(0)) as u32)
+                                & (t[7] == records::stores_at(ts.words) as u32)))))))
 }
 
 // Words a to b - 1 are 0.
@@ -55,11 +55,11 @@ pub fn unused_zero(t: &Counted<'_>) -> bool
 {
     let n = t.words[TASKS] as usize;
     let m = t.words[HUBS] as usize;
-    let hubs = records::hubs_at(t.ts);
-    let stores = records::stores_at(t.ts);
+    let hubs = records::hubs_at(t.ts.words);
+    let stores = records::stores_at(t.ts.words);
     zero_from(t.words, TASKS_AT + n * t.ts.words, hubs)
-        & (zero_from(t.words, hubs + m * HUB_SIZE, records::ready_at(t.ts))
-            & (zero_from(t.words, records::waits_at(t.ts, HubNo(m)), stores)
+        & (zero_from(t.words, hubs + m * HUB_SIZE, records::ready_at(t.ts.words))
+            & (zero_from(t.words, records::waits_at(t.ts.words, HubNo(m)), stores)
                 & zero_from(
                     t.words,
                     stores + m * records::store_size(t.ts),
@@ -73,7 +73,7 @@ fn marks_right(t: &Counted<'_>, h: usize, count: u32, limit: u32) -> bool
     requires limit_bound { limit ≤ 8 }
     ensures { (L : Layout) → Laid t.now.ts.words L → result ≡ marks_test L t.now.words.now h count limit }
 {
-    let v = records::width_of(t.ts);
+    let v = records::width_of(t.ts.words);
     let at = records::store_at(t.ts, HubNo(h));
     let mut free = 0;
     for b in 0..limit as usize {
@@ -105,7 +105,7 @@ fn kind_right(t: &Counted<'_>, h: usize) -> bool
     requires h_bound { h < get_or t.now.words.now 2 0 }
     ensures { (L : Layout) → Laid t.now.ts.words L → result ≡ kind_test L t.now.words.now h }
 {
-    let b = records::hubs_at(t.ts) + h * HUB_SIZE;
+    let b = records::hubs_at(t.ts.words) + h * HUB_SIZE;
     let count = t.words[b + COUNT];
     let limit = t.words[b + LIMIT];
     let start = t.words[b + START];
@@ -133,9 +133,9 @@ fn store_right(t: &Counted<'_>, h: usize) -> bool
 {
     let at = records::store_at(t.ts, HubNo(h));
     let store = &t.words[at..at + records::store_size(t.ts)];
-    let b = records::hubs_at(t.ts) + h * HUB_SIZE;
+    let b = records::hubs_at(t.ts.words) + h * HUB_SIZE;
     let n = rules::stored(t.words[b], t.words[b + COUNT], t.words[b + LIMIT]) as usize;
-    lists::zeros(&store[n * records::width_of(t.ts)..])
+    lists::zeros(&store[n * records::width_of(t.ts.words)..])
 }
 
 // Hub h's store is nothing but zeros.
@@ -175,7 +175,7 @@ fn owner_right(t: &Counted<'_>, h: usize) -> bool
     requires h_bound { h < get_or t.now.words.now 2 0 }
     ensures { (L : Layout) → Laid t.now.ts.words L → result ≡ owner_test L t.now.words.now h }
 {
-    let b = records::hubs_at(t.ts) + h * HUB_SIZE;
+    let b = records::hubs_at(t.ts.words) + h * HUB_SIZE;
     let owner = owner_of(t.words[b], t.words[b + COUNT]);
     if owner == 0 {
         return true;

@@ -30,14 +30,14 @@ fn set_contents(from: &[u32], to: &mut [u32], ts: TaskSize)
     ensures { to.new ≡ sets to.old 0 (contents_from ts.words from.now) }
 {
     let words = [
-        records::width_of(ts) as u32,
+        records::width_of(ts.words) as u32,
         lists::word(from, records::TASKS),
         lists::word(from, records::HUBS),
         records::TASKS_AT as u32,
-        records::hubs_at(ts) as u32,
-        records::ready_at(ts) as u32,
-        records::waits_at(ts, HubNo(0)) as u32,
-        records::stores_at(ts) as u32,
+        records::hubs_at(ts.words) as u32,
+        records::ready_at(ts.words) as u32,
+        records::waits_at(ts.words, HubNo(0)) as u32,
+        records::stores_at(ts.words) as u32,
     ];
     records::set_words(to, 0, &words);
 }
@@ -56,10 +56,10 @@ fn set_tasks(from: &[u32], fs: TaskSize, to: &mut [u32], ts: TaskSize)
 fn set_stores(from: &[u32], fs: TaskSize, to: &mut [u32], ts: TaskSize)
     ensures { to.new ≡ sets to.old (stores_at ts.words) (stores_from fs.words ts.words from.now) }
 {
-    let a = records::stores_at(fs);
-    let v = records::width_of(fs);
-    let b = records::stores_at(ts);
-    let w = records::width_of(ts);
+    let a = records::stores_at(fs.words);
+    let v = records::width_of(fs.words);
+    let b = records::stores_at(ts.words);
+    let w = records::width_of(ts.words);
     for k in 0..MESSAGES {
         let m = messages::message(from, a + k * v, v);
         messages::set_message(to, b + k * w, w, m);
@@ -75,9 +75,9 @@ fn copy(from: &[u32], fs: TaskSize, to: &mut [u32], ts: TaskSize)
 {
     set_contents(from, to, ts);
     set_tasks(from, fs, to, ts);
-    let a = records::hubs_at(fs);
-    let b = records::stores_at(fs);
-    records::set_words(to, records::hubs_at(ts), &from[a..b]);
+    let a = records::hubs_at(fs.words);
+    let b = records::stores_at(fs.words);
+    records::set_words(to, records::hubs_at(ts.words), &from[a..b]);
     set_stores(from, fs, to, ts);
 }
 
@@ -111,7 +111,7 @@ fn zeros_at(t: &[u32], at: usize, size: usize, n: usize, f: usize) -> bool
 fn high_zero(t: &[u32]) -> bool
     ensures { result ≡ high_zero t.now }
 {
-    let stores = records::stores_at(records::TASK_SIZE_TWO);
+    let stores = records::stores_at(records::TASK_SIZE_TWO.words);
     zeros_at(
         t,
         records::TASKS_AT,

@@ -35,9 +35,9 @@ fn is_asked(t: &TableView<'_>, h: usize) -> bool
     ensures { (L : Layout) (s : State) → Laid t.now.ts.words L → Sound s → t.now.words.now ≡ words L s → h < length s.hubs
         → result ≡ is_asked (hub s h) }
 {
-    let b = records::hubs_at(t.ts) + h * HUB_SIZE;
+    let b = records::hubs_at(t.ts.words) + h * HUB_SIZE;
     (Kind::of(t.words[b]) == Some(Kind::Resource))
-        & (t.words[records::waits_at(t.ts, HubNo(h))] != 0)
+        & (t.words[records::waits_at(t.ts.words, HubNo(h))] != 0)
 }
 
 // Whether no hub in use is a Resource with a waiter: the common case, in which every task has its own priority.
@@ -61,7 +61,7 @@ fn asked_owner(t: &TableView<'_>, h: usize) -> u32
     if !is_asked(t, h) {
         return 0;
     }
-    t.words[records::hubs_at(t.ts) + h * HUB_SIZE + COUNT]
+    t.words[records::hubs_at(t.ts.words) + h * HUB_SIZE + COUNT]
 }
 
 // Who is asked where, found once, so that nobody looks through all hubs for each task that it comes to. Words 0 to 15: for
@@ -117,7 +117,7 @@ fn over_waiters(t: &TableView<'_>, links: &[u32; 32], h: HubNo, depth: usize, p:
     ensures { (L : Layout) (s : State) → Laid t.now.ts.words L → Sound s → t.now.words.now ≡ words L s → h.0 < length s.hubs
         → result ≡ over_waiters (over_task depth s) (hub s h.0).waiters p }
 {
-    let at = records::waits_at(t.ts, h);
+    let at = records::waits_at(t.ts.words, h);
     let mut best = p;
     for e in &t.words[at..at + LIST_SIZE] {
         if *e == 0 {
@@ -195,7 +195,7 @@ fn hub_rising(t: &TableView<'_>, keys: &[u32], h: usize) -> bool
     ensures { (L : Layout) (s : State) → Laid t.now.ts.words L → Sound s → t.now.words.now ≡ words L s → h < length s.hubs
         → result ≡ rising (λ j. get_or keys.now j 0) (hub s h).waiters }
 {
-    let a = records::waits_at(t.ts, HubNo(h));
+    let a = records::waits_at(t.ts.words, HubNo(h));
     if t.words[a + 1] == 0 {
         return true;
     }
@@ -216,7 +216,7 @@ pub fn in_order(t: &TableView<'_>, keys: &[u32]) -> bool
     ensures { (L : Layout) (s : State) → Laid t.now.ts.words L → Sound s → t.now.words.now ≡ words L s
         → result ≡ in_order_by (λ j. get_or keys.now j 0) s }
 {
-    let a = records::ready_at(t.ts);
+    let a = records::ready_at(t.ts.words);
     if !list_rising(&t.words[a..a + LIST_SIZE], keys) {
         return false;
     }

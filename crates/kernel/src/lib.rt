@@ -108,7 +108,7 @@ fn is_calm(t: &[u32], ts: TaskSize, service: Service, c: Call) -> bool
         | Service::Yield
         | Service::Sleep => true,
         Service::HubRequest => {
-            let kind = t[records::hubs_at(ts) + (c.target as usize) * records::HUB_SIZE];
+            let kind = t[records::hubs_at(ts.words) + (c.target as usize) * records::HUB_SIZE];
             Kind::of(kind) != Some(Kind::Resource)
         }
         Service::Stop | Service::Tick | Service::AddTask | Service::AddHub => false,

@@ -24,7 +24,7 @@ fn line_at(t: &[u32], ts: TaskSize, n: usize, k: usize) -> [u32; 8]
         let priority = records::field(t, records::TASKS_AT, ts.words, k - 1, records::PRIORITY);
         return [rules::ADD_TASK, 0, priority, 0, 0, 0, 0, 0];
     }
-    let h = records::hub(t, records::hubs_at(ts), HubNo(k - 1 - n));
+    let h = records::hub(t, records::hubs_at(ts.words), HubNo(k - 1 - n));
     [rules::ADD_HUB, 0, h.kind, 0, 0, h.limit, h.start, 0]
 }
 

@@ -22,7 +22,7 @@ fn is_owner(t: &[u32], ts: TaskSize, i: TaskNo, h: HubNo) -> bool
     ensures { (L : Layout) (s : State) → Laid ts.words L → length s.hubs ≤ 16 → h.0 < length s.hubs
         → t.now ≡ words L s → result ≡ owns i.0 (hub s h.0) }
 {
-    let x = records::hub(t, records::hubs_at(ts), h);
+    let x = records::hub(t, records::hubs_at(ts.words), h);
     let is_lock = x.kind == rules::RESOURCE;
     is_lock && x.count as usize == i.0 + 1
 }
@@ -42,12 +42,12 @@ fn pass_one(t: &mut [u32], ts: TaskSize, keys: &[u32], i: TaskNo, h: HubNo)
     }
     match moves::first_waiter(t, ts, h, rules::GET) {
         Some(waiter) => {
-            records::set_count(t, records::hubs_at(ts), h, records::entry_of(waiter));
+            records::set_count(t, records::hubs_at(ts.words), h, records::entry_of(waiter));
             if waiter.0 < 16 {
                 moves::wake_task(t, ts, keys, waiter, rules::OK, 0);
             }
         }
-        None => records::set_count(t, records::hubs_at(ts), h, 0),
+        None => records::set_count(t, records::hubs_at(ts.words), h, 0),
     }
 }
 

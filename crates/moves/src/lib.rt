@@ -30,7 +30,7 @@ pub fn join_ready(t: &mut [u32], ts: TaskSize, keys: &[u32], i: TaskNo) -> usize
     ensures { JoinsReady ts.words keys.now i.0 t.old result t.new }
 {
     let n = i.0;
-    let a = records::ready_at(ts);
+    let a = records::ready_at(ts.words);
     lists::join(&mut t[a..a + records::LIST_SIZE], keys, n)
 }
 
@@ -43,7 +43,7 @@ pub fn join_hub(t: &mut [u32], ts: TaskSize, keys: &[u32], h: HubNo, i: TaskNo) 
     ensures { JoinsHub ts.words keys.now h.0 i.0 t.old result t.new }
 {
     let n = i.0;
-    let a = records::waits_at(ts, h);
+    let a = records::waits_at(ts.words, h);
     lists::join(&mut t[a..a + records::LIST_SIZE], keys, n)
 }
 
@@ -53,8 +53,8 @@ fn list_at(ts: TaskSize, list: TaskList) -> usize
     ensures { result ≡ list_at ts.words list }
 {
     match list {
-        TaskList::Ready => records::ready_at(ts),
-        TaskList::Waiting(h) => records::waits_at(ts, h),
+        TaskList::Ready => records::ready_at(ts.words),
+        TaskList::Waiting(h) => records::waits_at(ts.words, h),
     }
 }
 
@@ -88,7 +88,7 @@ pub fn first_waiter(t: &[u32], ts: TaskSize, h: HubNo, side: u32) -> Option<Task
         → numbered result ≡ first_waiting s side (hub s h.0).waiters }
     ensures low { Low result }
 {
-    let i = records::entry(lists::word(t, records::waits_at(ts, h)))?;
+    let i = records::entry(lists::word(t, records::waits_at(ts.words, h)))?;
     let x = task_at(t, ts, i);
     if x.side == side { Some(i) } else { None }
 }

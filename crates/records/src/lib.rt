@@ -137,38 +137,43 @@ fn record_at(at: usize, size: usize, i: usize) -> usize
 }
 
 // How many words a message has: as many as its edition's number says. The other seven words of a task record have one each.
-pub fn width_of(ts: TaskSize) -> usize
-    ensures { result ≡ width ts.words }
+pub fn width_of(ts: usize) -> usize
+    requires { 8 ≤ ts }
+    ensures { result ≡ width ts }
 {
-    ts.words - 7
+    ts - 7
 }
 
 // Where the hub records start, behind the contents and 16 task records.
-pub fn hubs_at(ts: TaskSize) -> usize
-    ensures { result ≡ hubs_at ts.words }
+pub fn hubs_at(ts: usize) -> usize
+    requires { ts ≤ 9 }
+    ensures { result ≡ hubs_at ts }
 {
-    TASKS_AT + 16 * ts.words
+    TASKS_AT + 16 * ts
 }
 
 // Where the ready list starts, behind 16 hub records.
-pub fn ready_at(ts: TaskSize) -> usize
-    ensures { result ≡ ready_at ts.words }
+pub fn ready_at(ts: usize) -> usize
+    requires { ts ≤ 9 }
+    ensures { result ≡ ready_at ts }
 {
     hubs_at(ts) + 16 * HUB_SIZE
 }
 
 // Where hub h's waiting list starts: they follow the ready list.
-pub fn waits_at(ts: TaskSize, h: HubNo) -> usize
+pub fn waits_at(ts: usize, h: HubNo) -> usize
+    requires ts_bound { ts ≤ 9 }
     requires h_bound { h.0 ≤ 4294967295 }
-    ensures { result ≡ waits_at ts.words + h.0 * 16 }
+    ensures { result ≡ waits_at ts + h.0 * 16 }
 {
     let n = h.0;
     ready_at(ts) + LIST_SIZE + n * LIST_SIZE
 }
 
 // Where the stores start, behind 16 waiting lists.
-pub fn stores_at(ts: TaskSize) -> usize
-    ensures { result ≡ stores_at ts.words }
+pub fn stores_at(ts: usize) -> usize
+    requires { ts ≤ 9 }
+    ensures { result ≡ stores_at ts }
 {
     waits_at(ts, HubNo(16))
 }
@@ -177,14 +182,14 @@ pub fn stores_at(ts: TaskSize) -> usize
 pub fn store_size(ts: TaskSize) -> usize
     ensures { result ≡ store_size ts.words }
 {
-    STORE_MESSAGES * width_of(ts)
+    STORE_MESSAGES * width_of(ts.words)
 }
 
 // How many words a table has.
 pub fn table_size(ts: TaskSize) -> usize
     ensures { result ≡ table_size ts.words }
 {
-    stores_at(ts) + 16 * store_size(ts)
+    stores_at(ts.words) + 16 * store_size(ts)
 }
 
 // How many words a task record has in a table of n words: the edition is the one that fits the length.
@@ -211,7 +216,7 @@ pub fn store_at(ts: TaskSize, h: HubNo) -> usize
     requires h_bound { h.0 < 16 }
     ensures { RowAt (stores_at ts.words) (store_size ts.words) h.0 result }
 {
-    record_at(stores_at(ts), store_size(ts), h.0)
+    record_at(stores_at(ts.words), store_size(ts), h.0)
 }
 
 // Word f of the i-th record of `size` words, where the records start at word `at`.
@@ -232,7 +237,7 @@ pub fn task(t: &[u32], ts: TaskSize, i: TaskNo) -> TaskRecord
     ensures { TaskRead ts.words t.now i.0 result }
 {
     let n = i.0;
-    let w = width_of(ts);
+    let w = width_of(ts.words);
     let p = record_at(TASKS_AT, ts.words, n) + WORD;
     TaskRecord {
         state: field(t, TASKS_AT, ts.words, n, STATE),
@@ -252,7 +257,7 @@ pub fn set_task(t: &mut [u32], ts: TaskSize, i: TaskNo, x: TaskRecord)
     ensures { t.new ≡ sets t.old (8 + i.0 * ts.words) (task_words ts.words x) }
 {
     let n = i.0;
-    let w = width_of(ts);
+    let w = width_of(ts.words);
     let words = [x.state, x.suspended, x.priority, x.hub, x.ticks, x.side];
     let p = record_at(TASKS_AT, ts.words, n);
     set_words(t, p, &words);

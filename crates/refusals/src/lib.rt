@@ -51,7 +51,7 @@ fn running(t: &[u32], ts: TaskSize) -> Option<TaskNo>
         → next_number result ≡ next s }
     ensures low { IfSome result (λ i. i.0 < 4294967295) }
 {
-    let at = records::ready_at(ts);
+    let at = records::ready_at(ts.words);
     for k in 0..records::LIST_SIZE {
         let e = lists::word(t, at + k);
         if e == 0 {
@@ -148,7 +148,7 @@ fn for_request(t: &[u32], ts: TaskSize, c: Call) -> Result<(), Refusal>
         (need (good_request (kind_of (kind_in ts.words t.now c.target)) c) 6 0) }
 {
     let h = find_hub(t, c.target).ok_or(Refusal::NotInUse)?;
-    let x = records::hub(t, records::hubs_at(ts), h);
+    let x = records::hub(t, records::hubs_at(ts.words), h);
     rules::need(good_request(x.kind, c), Refusal::BadArgument)
 }
 
@@ -236,7 +236,7 @@ fn good_message(ts: TaskSize, c: Call) -> bool
     ensures { (L : Layout) → Laid ts.words L → result ≡ good_message L c }
 {
     (Service::of(c.service) != Some(Service::HubRequest))
-        | ((2 <= records::width_of(ts)) | (c.high == 0))
+        | ((2 <= records::width_of(ts.words)) | (c.high == 0))
 }
 
 // A call on a table that is well formed: refused, or not.

@@ -52,7 +52,7 @@ fn meet_first(t: &mut [u32], ts: TaskSize, keys: &[u32], h: HubNo, w: u64)
     ensures { (L : Layout) (s : State) → Laid ts.words L → Sound s → h.0 < length s.hubs → t.old ≡ words L s
         → t.new ≡ words L (meet_one (key_of keys.now) w (hub s h.0).waiters s) }
 {
-    let first = records::entry(lists::word(&*t, records::waits_at(ts, h)));
+    let first = records::entry(lists::word(&*t, records::waits_at(ts.words, h)));
     if let Some(first) = first {
         if first.0 < 16 {
             moves::wake_task(t, ts, keys, first, rules::OK, w);

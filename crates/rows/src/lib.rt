@@ -136,7 +136,13 @@ impl Pair<'_, '_> {
         requires { f + n ≤ 65535 }
         ensures { result ≡ differ_from self.now (hubs_at self.now.left.ts.words + h * 4 + f) n }
     {
-        self.differ(records::hubs_at(self.left.ts), records::HUB_SIZE, h, f, n)
+        self.differ(
+            records::hubs_at(self.left.ts.words),
+            records::HUB_SIZE,
+            h,
+            f,
+            n,
+        )
     }
 
     // What a hub holds: its count and its store, and, since a text says it by the kind, its kind.
@@ -146,7 +152,7 @@ impl Pair<'_, '_> {
     {
         let size = records::store_size(self.left.ts);
         self.hub_differs(h, records::COUNT, 1)
-            || self.differ(records::stores_at(self.left.ts), size, h, 0, size)
+            || self.differ(records::stores_at(self.left.ts.words), size, h, 0, size)
             || self.hub_differs(h, records::KIND, 1)
     }
 
@@ -170,20 +176,20 @@ impl Pair<'_, '_> {
         match row {
             Row::Contents => self.differ(0, 0, 0, 0, records::TASKS_AT),
             Row::ReadyList => {
-                self.differ(records::ready_at(ts), 0, 0, 0, records::LIST_SIZE)
+                self.differ(records::ready_at(ts.words), 0, 0, 0, records::LIST_SIZE)
                     || self.left.runs != self.right.runs
             }
             Row::State(i) => {
                 self.task_differs(i, records::STATE, 2) || self.task_differs(i, records::HUB, 3)
             }
             Row::Priority(i) => self.priority_apart(i),
-            Row::Answer(i) => self.task_differs(i, records::WORD, records::width_of(ts) + 1),
+            Row::Answer(i) => self.task_differs(i, records::WORD, records::width_of(ts.words) + 1),
             Row::Kind(h) => {
                 self.hub_differs(h, records::KIND, 1) || self.hub_differs(h, records::LIMIT, 2)
             }
             Row::Holds(h) => self.holds_apart(h),
             Row::Waiting(h) => {
-                let at = records::waits_at(ts, HubNo(0));
+                let at = records::waits_at(ts.words, HubNo(0));
                 self.differ(at, records::LIST_SIZE, h, 0, records::LIST_SIZE)
             }
         }

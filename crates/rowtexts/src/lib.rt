@@ -48,9 +48,9 @@ fn put_store(out: &mut Writer, table: &View, h: u32)
     let store = Store {
         words: table.words,
         from: records::store_at(ts, HubNo(h as usize)),
-        w: records::width_of(ts),
+        w: records::width_of(ts.words),
     };
-    let x = records::hub(table.words, records::hubs_at(ts), HubNo(h as usize));
+    let x = records::hub(table.words, records::hubs_at(ts.words), HubNo(h as usize));
     hubtexts::put_holds(out, &store, x);
 }
 
@@ -79,16 +79,18 @@ fn put_used(out: &mut Writer, table: &View, row: Row)
     let ts = table.ts;
     match row {
         Row::Contents => texts::put_contents(out, t),
-        Row::ReadyList => texts::put_tasks(out, t, records::ready_at(ts), table.runs),
+        Row::ReadyList => texts::put_tasks(out, t, records::ready_at(ts.words), table.runs),
         Row::State(i) => texts::put_state(out, records::task(t, ts, TaskNo(i as usize))),
         Row::Priority(i) => put_priorities(out, table, i),
         Row::Answer(i) => texts::put_answer(out, records::task(t, ts, TaskNo(i as usize))),
         Row::Kind(h) => {
-            let x = records::hub(t, records::hubs_at(ts), HubNo(h as usize));
+            let x = records::hub(t, records::hubs_at(ts.words), HubNo(h as usize));
             hubtexts::put_kind(out, x);
         }
         Row::Holds(h) => put_store(out, table, h),
-        Row::Waiting(h) => { texts::put_tasks(out, t, records::waits_at(ts, HubNo(h as usize)), 0) }
+        Row::Waiting(h) => {
+            texts::put_tasks(out, t, records::waits_at(ts.words, HubNo(h as usize)), 0)
+        }
     }
 }
 

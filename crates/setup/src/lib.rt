@@ -16,12 +16,12 @@ pub fn blank(t: &mut [u32], ts: TaskSize)
     ensures { (L : Layout) → Laid ts.words L → t.new ≡ words L blank }
 {
     t.fill(0);
-    t[0] = records::width_of(ts) as u32;
+    t[0] = records::width_of(ts.words) as u32;
     t[3] = records::TASKS_AT as u32;
-    t[4] = records::hubs_at(ts) as u32;
-    t[5] = records::ready_at(ts) as u32;
-    t[6] = records::waits_at(ts, HubNo(0)) as u32;
-    t[7] = records::stores_at(ts) as u32;
+    t[4] = records::hubs_at(ts.words) as u32;
+    t[5] = records::ready_at(ts.words) as u32;
+    t[6] = records::waits_at(ts.words, HubNo(0)) as u32;
+    t[7] = records::stores_at(ts.words) as u32;
 }
 
 // "Each takes the next number": a task of this priority, inactive.
@@ -68,7 +68,7 @@ pub fn add_hub(t: &mut [u32], ts: TaskSize, kind: u32, limit: u32, start: u32)
     let n = t[records::HUBS] as usize;
     records::set_hub(
         t,
-        records::hubs_at(ts),
+        records::hubs_at(ts.words),
         HubNo(n),
         HubRecord {
             kind,

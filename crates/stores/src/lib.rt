@@ -25,7 +25,7 @@ pub fn hub_at(t: &[u32], ts: TaskSize, h: HubNo) -> HubRecord
         → t.now ≡ words L s
         → RecordOf result (hub s h.0) }
 {
-    records::hub(t, records::hubs_at(ts), h)
+    records::hub(t, records::hubs_at(ts.words), h)
 }
 
 // Message k of the 8 in hub h's store, 0 where it holds fewer.
@@ -37,7 +37,7 @@ pub fn held_at(t: &[u32], ts: TaskSize, h: HubNo, k: usize) -> u64
     ensures value { (L : Layout) (s : State) → Laid ts.words L → h.0 < length s.hubs → t.now ≡ words L s
         → result ≡ get_or (hub s h.0).held k 0 }
 {
-    let v = records::width_of(ts);
+    let v = records::width_of(ts.words);
     messages::message(t, records::store_at(ts, h) + k * v, v)
 }
 
@@ -83,7 +83,7 @@ fn take_oldest(t: &mut [u32], ts: TaskSize, h: HubNo)
 {
     let a = records::store_at(ts, h);
     let n = records::store_size(ts);
-    lists::remove_first(&mut t[a..a + n], records::width_of(ts));
+    lists::remove_first(&mut t[a..a + n], records::width_of(ts.words));
 }
 
 // A message goes into hub h's store behind the n messages held.
@@ -96,7 +96,7 @@ fn append_word(t: &mut [u32], ts: TaskSize, h: HubNo, n: usize, w: u64)
         → t.old ≡ words L s
         → t.new ≡ words L (hold h.0 (hub s h.0).count ((hub s h.0).held ++ w ∷ []) s) }
 {
-    let v = records::width_of(ts);
+    let v = records::width_of(ts.words);
     if n < records::STORE_MESSAGES {
         messages::set_message(t, records::store_at(ts, h) + n * v, v, w);
     }
@@ -112,7 +112,7 @@ fn set_mark(t: &mut [u32], ts: TaskSize, h: HubNo, n: usize, b: u64, m: u64)
         → t.old ≡ words L s
         → t.new ≡ words L (hold h.0 (hub s h.0).count (set (hub s h.0).held b m) s) }
 {
-    let v = records::width_of(ts);
+    let v = records::width_of(ts.words);
     if n <= records::STORE_MESSAGES {
         if b < n as u64 {
             messages::set_message(t, records::store_at(ts, h) + b as usize * v, v, m);
@@ -165,5 +165,5 @@ pub fn hold_hub(t: &mut [u32], ts: TaskSize, h: HubNo, m: Meeting)
     let n = rules::stored(x.kind, x.count, x.limit) as usize;
     let store = m.store;
     change_store(t, ts, h, n, store);
-    records::set_count(t, records::hubs_at(ts), h, m.count);
+    records::set_count(t, records::hubs_at(ts.words), h, m.count);
 }

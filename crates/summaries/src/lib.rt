@@ -41,7 +41,7 @@ pub fn summarise(t: &[u32], ts: TaskSize, hub: u32) -> Result<Summary, Refusal>
 {
     refusals::for_table(t, ts)?;
     let h = refusals::find_hub(t, hub).ok_or(Refusal::NotInUse)?;
-    let at = records::waits_at(ts, h);
+    let at = records::waits_at(ts.words, h);
     let mask = mask_of(&t[at..at + records::LIST_SIZE]);
     Ok(Summary {
         mask,

@@ -87,7 +87,7 @@ fn queue_right(t: &Counted<'_>, h: usize, marks: &mut [u32; 16]) -> bool
         → Marked result (queue_test L t.now.words.now h) (waits_of L t.now.words.now h)
         marks.old marks.new }
 {
-    let at = records::waits_at(t.ts, HubNo(h));
+    let at = records::waits_at(t.ts.words, HubNo(h));
     let list = &t.words[at..at + LIST_SIZE];
     if lists::zeros(list) {
         return true;
@@ -100,7 +100,7 @@ fn queue_right(t: &Counted<'_>, h: usize, marks: &mut [u32; 16]) -> bool
         return false;
     }
     let side = t.words[records::task_at(t.ts, TaskNo((e - 1) as usize)) + SIDE];
-    let b = records::hubs_at(t.ts) + h * HUB_SIZE;
+    let b = records::hubs_at(t.ts.words) + h * HUB_SIZE;
     let kind = t.words[b];
     let count = t.words[b + COUNT];
     if !may_wait(side, kind, count, t.words[b + LIMIT]) {
@@ -159,7 +159,7 @@ fn waiting_right(t: &Counted<'_>, hub: u32, side: u32, word: u64, answer: u32) -
         return false;
     }
     // a hub's number plus 1 stands in the record
-    let kind = t.words[records::hubs_at(t.ts) - HUB_SIZE + (hub as usize) * HUB_SIZE];
+    let kind = t.words[records::hubs_at(t.ts.words) - HUB_SIZE + (hub as usize) * HUB_SIZE];
     ((rules::PUT <= side) & (side <= rules::GET))
         & ((answer == 0) & (((side == rules::PUT) & rules::bears_word(kind)) | (word == 0)))
 }
@@ -203,7 +203,7 @@ fn waiting_task(t: &Counted<'_>, x: &[u32]) -> bool
     let side = x[SIDE];
     let answer = x[t.ts.words - 1];
     if !wordless(x, t.ts) {
-        let word = messages::message(x, WORD, records::width_of(t.ts));
+        let word = messages::message(x, WORD, records::width_of(t.ts.words));
         return waiting_right(t, hub, side, word, answer);
     }
     ((1 <= hub) & (hub <= t.words[HUBS]))
@@ -237,7 +237,7 @@ fn idle_right(x: &[u32], ts: TaskSize, mark: u32) -> bool
     let ticks = x[TICKS];
     let side = x[SIDE];
     let answer = x[ts.words - 1];
-    let word = messages::message(x, WORD, records::width_of(ts));
+    let word = messages::message(x, WORD, records::width_of(ts.words));
     if !((suspended <= 1)
         & ((x[PRIORITY] <= rules::LAST_PRIORITY)
             & ((ticks <= rules::MOST_TICKS) & (answer <= rules::TIMED_OUT))))
@@ -299,7 +299,7 @@ fn exact(t: &[u32], ts: TaskSize) -> bool
         return false;
     }
     let mut marks = [0u32; 16];
-    let a = records::ready_at(ts);
+    let a = records::ready_at(ts.words);
     if !walk(&counted, &t[a..a + LIST_SIZE], 0, 0, 0, &mut marks) {
         return false;
     }

@@ -25,8 +25,8 @@ returns-in_err-h c L y =
     given_err _ _ _ _ c.from_residual-in_err-h.ensures.1 (missing.1 ∙ rw (good.0, good.1, read-hubs L c.args.t.now, missing.0))
 
 -- the hub is the one looked up, in use, and its list stands within the table, which is well formed: in every layout, and so in one
-pub waits_at-at-requires : goal.waits_at-at-requires
-waits_at-at-requires c =
+pub waits_at-at-requires-clause-h_bound : goal.waits_at-at-requires-clause-h_bound
+waits_at-at-requires-clause-h_bound c =
     let e = edition_of_lem c.args.ts.words c.args.ts.low c.args.ts.high in
     let L = e.layout in
     let y = e.laid in
