@@ -183,7 +183,7 @@ fn owner_right(t: &Counted<'_>, h: usize) -> bool
     if owner > t.words[TASKS] {
         return false;
     }
-    t.words[records::task_at(t.ts, TaskNo((owner - 1) as usize)) + STATE] != rules::INACTIVE
+    t.words[records::task_at(t.ts.words, TaskNo((owner - 1) as usize)) + STATE] != rules::INACTIVE
 }
 
 // Hub h but for its list: its record, its store and its owner.

@@ -98,7 +98,7 @@ fn over_task(t: &TableView<'_>, links: &[u32; 32], i: TaskNo, depth: usize, p: u
     if 16 <= n {
         return p;
     }
-    let q = t.words[records::task_at(t.ts, TaskNo(n)) + PRIORITY];
+    let q = t.words[records::task_at(t.ts.words, TaskNo(n)) + PRIORITY];
     let mut best = if q < p { q } else { p };
     let mut h = links[n];
     while h < 16 {
@@ -134,7 +134,7 @@ fn own_keys(t: &TableView<'_>, keys: &mut [u32; 16])
     ensures { Owned t.now.ts.words t.now.words.now keys.new }
 {
     for (i, key) in keys.iter_mut().enumerate() {
-        *key = t.words[records::task_at(t.ts, TaskNo(i)) + PRIORITY];
+        *key = t.words[records::task_at(t.ts.words, TaskNo(i)) + PRIORITY];
     }
 }
 

@@ -124,7 +124,7 @@ remove_first-is n k l e =
 
 -- ---- what a find says, for whoever takes its answer apart
 
-found_at-is : (v : ℕ) (l : List ℕ) → found_at v l ≡ cond (ltb (index_of v l) (length l)) (Some (index_of v l)) None
+pub found_at-is : (v : ℕ) (l : List ℕ) → found_at v l ≡ cond (ltb (index_of v l) (length l)) (Some (index_of v l)) None
 unfolding index_of
 found_at-is v l = rw (is_position_or_len (index_of v) (λ x. eqb x v) refl (λ x xs. simp one-add) l)
 

@@ -65,7 +65,7 @@ pub const LIMIT: usize = 2;
 pub const START: usize = 3;
 
 // How many words a task record has: that alone tells one edition from the other.
-#[derive(Clone, Copy, Debug)]
+#[derive(Clone, Copy, Debug, PartialEq, Eq)]
 pub struct TaskSize {
     pub words: usize,
     pub ghost low: { 8 ≤ words },
@@ -204,11 +204,12 @@ pub fn task_size(n: usize) -> TaskSize
 }
 
 // Where the record of task i starts.
-pub fn task_at(ts: TaskSize, i: TaskNo) -> usize
+pub fn task_at(ts: usize, i: TaskNo) -> usize
+    requires ts_bound { ts ≤ 9 }
     requires i_bound { i.0 < 16 }
-    ensures { RowAt 8 ts.words i.0 result }
+    ensures { RowAt 8 ts i.0 result }
 {
-    record_at(TASKS_AT, ts.words, i.0)
+    record_at(TASKS_AT, ts, i.0)
 }
 
 // Where hub h's store starts.

@@ -30,7 +30,7 @@ fn entry_right(t: &Counted<'_>, e: u32, hub: u32, side: u32, owner: u32) -> bool
         return false;
     }
     // entry e is task e - 1
-    let b = records::task_at(t.ts, TaskNo((e - 1) as usize));
+    let b = records::task_at(t.ts.words, TaskNo((e - 1) as usize));
     (t.words[b + HUB] == hub) & ((t.words[b + SIDE] == side) & (e != owner))
 }
 
@@ -99,7 +99,7 @@ fn queue_right(t: &Counted<'_>, h: usize, marks: &mut [u32; 16]) -> bool
     if e > t.words[TASKS] {
         return false;
     }
-    let side = t.words[records::task_at(t.ts, TaskNo((e - 1) as usize)) + SIDE];
+    let side = t.words[records::task_at(t.ts.words, TaskNo((e - 1) as usize)) + SIDE];
     let b = records::hubs_at(t.ts.words) + h * HUB_SIZE;
     let kind = t.words[b];
     let count = t.words[b + COUNT];
@@ -278,7 +278,7 @@ fn tasks_right(t: &Counted<'_>, marks: &[u32; 16]) -> bool
         (λ i. task_right (read L t.now.words.now) i (get_or marks.now i 0)) }
 {
     (0..t.words[TASKS] as usize).all(|i| {
-        let b = records::task_at(t.ts, TaskNo(i));
+        let b = records::task_at(t.ts.words, TaskNo(i));
         task_right(t, &t.words[b..b + t.ts.words], marks[i])
     })
 }
