@@ -37,6 +37,15 @@ impl<'a> Writer<'a> {
         Writer { out, end: 0 }
     }
 
+    // Behind what stands in the buffer already, up to this place.
+    pub fn at(out: &'a mut [u8], place: usize) -> Writer<'a>
+        ensures buffer { result.out.now ≡ out.old }
+        ensures same_buffer { result.out.ghost_name ≡ out.entry.ghost_name }
+        ensures start { result.end ≡ place }
+    {
+        Writer { out, end: place }
+    }
+
     // The place behind what is written.
     pub fn end(&self) -> usize
         ensures { result ≡ self.now.end }
