@@ -9,6 +9,7 @@ ghost use Rattle.texts.specs.Texts.{Wrote};
 ghost use Rattle.std.specs.Prelude.{[], ◌∷◌};
 
 use rules::Refusal;
+use std::fs::File;
 use std::io;
 use std::io::Write;
 use texts::Writer;
@@ -50,6 +51,12 @@ fn put_entries(out: &mut Writer, places: &[u32], count: u32)
     }
 }
 
+// A number of the verdict and the byte behind it, by a `write!` of its own: the numbers behind one that couldn't be written are tried
+// all the same.
+fn tell(told: &mut File, number: u64, after: &str) {
+    let _ = write!(told, "{number}{after}");
+}
+
 // The verdict: each table's own refusal, the comparison's, how many words differ, how many bytes came of each table. Nothing waits
 // for it where the descriptor is closed.
 fn verdict(
@@ -63,9 +70,14 @@ fn verdict(
     let first = rules::refusal_number(first);
     let second = rules::refusal_number(second);
     let refusal = rules::refusal_number(compared);
-    let count = compared.unwrap_or(0);
+    let count = rules::number_given(compared);
     if let Some(mut told) = streams::to_write(rt, VERDICT) {
-        let _ = writeln!(told, "{first} {second} {refusal} {count} {came} {other}");
+        tell(&mut told, u64::from(first), " ");
+        tell(&mut told, u64::from(second), " ");
+        tell(&mut told, u64::from(refusal), " ");
+        tell(&mut told, u64::from(count), " ");
+        tell(&mut told, came as u64, " ");
+        tell(&mut told, other as u64, "\n");
     }
 }
 
@@ -94,7 +106,7 @@ fn compare(rt: &HostRuntime, a: &[u32], b: &[u32], came: usize, other: usize) ->
     let mut places = [0u32; PLACES];
     write_rows(rt, a, b, &mut text)?;
     let compared = differences::compare(a, b, &mut places);
-    write_entries(rt, &places, compared.unwrap_or(0), &mut text)?;
+    write_entries(rt, &places, rules::number_given(compared), &mut text)?;
     let first = differences::refusal_of(a);
     let second = differences::refusal_of(b);
     verdict(rt, first, second, compared, came, other);

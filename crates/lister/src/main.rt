@@ -31,9 +31,8 @@ fn list_bytes(bytes: &[u8], text: &mut [u8]) -> Result<u32, Refusal>
 fn verdict(rt: &HostRuntime, listed: Result<u32, Refusal>, came: usize) {
     let refusal = rules::refusal_number(listed);
     let length = match listed {
-        Ok(length) => length as usize,
         Err(Refusal::WrongLength) => came,
-        Err(_) => 0,
+        _ => rules::number_given(listed) as usize,
     };
     if let Some(mut told) = streams::to_write(rt, VERDICT) {
         let _ = writeln!(told, "{refusal} {length}");
@@ -45,7 +44,7 @@ fn main(rt: HostRuntime) {
     let mut text = [0u8; TEXT];
     let came = streams::read_full(&mut rt.stdin(), &mut input);
     let listed = list_bytes(&input[..came], &mut text);
-    let length = listed.unwrap_or(0) as usize;
+    let length = rules::number_given(listed) as usize;
     if rt.write_all(&text[..length]).is_ok() {
         verdict(&rt, listed, came);
     }

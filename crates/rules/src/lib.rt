@@ -3,7 +3,7 @@
 #![tactic(auto)]
 
 ghost use Rattle.rules.specs.Refusals.{need};
-ghost use Rattle.rules.specs.Reply.{answer_number, code, refusal_number};
+ghost use Rattle.rules.specs.Reply.{answer_number, code, number_given, refusal_number};
 ghost use Rattle.rules.specs.Table.{kind_of, stored};
 ghost use Rattle.std.specs.Prelude.{◌≡◌};
 
@@ -181,6 +181,13 @@ pub fn refusal_number<T: Drop>(a: Result<T, Refusal>) -> u32
         Ok(_) => 0,
         Err(e) => e.number(),
     }
+}
+
+// The length of a listing or the number of entries: "a refusal .. reports 0".
+pub fn number_given(a: Result<u32, Refusal>) -> u32
+    ensures { result ≡ number_given a }
+{
+    a.unwrap_or(0)
 }
 
 // The paper's answer number: nothing yet 0, OK 1, FAIL 2; 0 for a refused call.
