@@ -1,17 +1,15 @@
--- The entries of the first i words of two lists, and a turn of the loop that writes them. In order: the words of
--- entries; one place more; how many entries there are; the entries being written.
+-- The entries of the first i words of two lists, and a turn of the loops that count and write them. In order: the words of
+-- entries; one place more; the entries being counted, and being written.
 -- Not here: which places the entries are (Promise.antt), and the ways out of a comparison (Ways.antt). Assumes nothing.
 use Prim.Native.Nat.{◌*◌, ◌+◌, ◌<◌, ◌≤◌, suc, zero, ℕ}
 use Rattle.differences.specs.Differences.{Entry, entries, entries_from, entry_words}
 use Rattle.lists.proofs.Laws.{bool_case}
 use Rattle.records.proofs.Laws.{sets_append}
-use Rattle.std.proofs.lemmas.List.Sums.{sum_by-cons}
-use Rattle.std.specs.List.{count_by, zip}
 use borrow.Author.Tests.{eq-eqb, ne_eqb}
 use lib.Dec.{eqb}
-use lib.ListN.{get_or, length, length-append, take}
+use lib.ListN.{get_or, length, length-append, set, take}
 use lib.Seq.{sets, take_all}
-use mathlib.Core.Bool.{cond, not}
+use mathlib.Core.Bool.{cond}
 use mathlib.Core.List.{List, [], ◌++◌, ◌∷◌, append-nil}
 use mathlib.Core.Path.{◌∙◌, ◌≡◌, ap, refl, sym}
 use native.Mathlib.Nat.{add-zero, zero-add}
@@ -67,19 +65,41 @@ module _ (a b : List ℕ) where
     pub differ_turn : (get_or a i 0 ≡ get_or b i 0 → ⊥) → up_to a b (i + 1) ≡ up_to a b i ++ (entry_at i (get_or a i 0) (get_or b i 0) ∷ [])
     differ_turn d = rw add-one (from_turn 0 i a b h g ∙ rw (ne_eqb (get_or a i 0) (get_or b i 0) d, zero-add i))
 
--- ---- how many there are: of the pairs of words, those that differ
+-- ---- the entries being counted
 
-pub counted_from : (p : ℕ) (a b : List ℕ) → count_by (λ (w : ℕ × ℕ). not (eqb w.0 w.1)) (zip a b) ≡ length (entries_from p a b)
-unfolding entries_from
-counted_from p [] b = refl
-counted_from p (x ∷ a) [] = refl
-counted_from p (x ∷ a) (y ∷ b) =
-    sum_by-cons (λ (w : ℕ × ℕ). cond (not (eqb w.0 w.1)) 1 0) (x, y) (zip a b)
-    ∙ bool_case (eqb x y)
-    (λ e. rw e (zero-add _ ∙ counted_from (suc p) a b))
-    (λ e. rw e (omega (arith, counted_from (suc p) a b)))
+pub record Counted (a b : List ℕ) (count i : ℕ) : Type 0 where
+  pub inside : i ≤ length a
+  pub few : count ≤ i
+  pub all : count ≡ length (up_to a b i)
+
+module _ (a b : List ℕ) (same : length a ≡ length b) where
+  pub counted_begin : Counted a b 0 0
+  counted_begin = record { inside = omega arith; few = omega arith; all = rw (up_to_none a b) }
+
+  module _ (count i : ℕ) (w : Counted a b count i) (h : i < length a) where
+    pub counted_equal : get_or a i 0 ≡ get_or b i 0 → Counted a b count (i + 1)
+    counted_equal e = record {
+      inside = omega arith;
+      few = omega (arith, w.few);
+      all = w.all ∙ ap length (sym (equal_turn a b i h (omega arith) e));
+    }
+
+    pub counted-differ : (get_or a i 0 ≡ get_or b i 0 → ⊥) → Counted a b (count + 1) (i + 1)
+    counted-differ d = record {
+      inside = omega arith;
+      few = omega (arith, w.few);
+      all = omega (arith, w.all, ap length (differ_turn a b i h (omega arith) d), length-append (up_to a b i) (entry_at i (get_or a i 0) (get_or b i 0) ∷ []));
+    }
 
 -- ---- the entries being written: `at` is the word behind the last
+
+-- three words set one behind the other
+pub three_set : (l : List ℕ) (p x y z : ℕ) (a b c : List ℕ) → a ≡ set l p x → b ≡ set a (p + 1) y → c ≡ set b (p + 2) z
+    → c ≡ sets l p (x ∷ y ∷ z ∷ [])
+three_set l p x y z a b c e f g =
+    let one : p + 1 ≡ suc p = omega arith in
+    let two : p + 2 ≡ suc (suc p) = omega arith in
+    rw (g, f, e, one, two)
 
 pub record Written (a b before now : List ℕ) (at i : ℕ) : Type 0 where
   pub inside : i ≤ length a

@@ -3,11 +3,10 @@
 // Not here: when a table is well formed (crate wellformed).
 #![tactic(auto)]
 
-ghost use Rattle.std.specs.Prelude.{◌*◌, ◌≤◌, ◌==◌, count_by, length, not, ◌≡◌};
+ghost use Rattle.std.specs.Prelude.{◌*◌, ◌≤◌, length, ◌≡◌};
 ghost use Rattle.differences.specs.Differences.{Compares, entries, entry_words, table_refusal};
 ghost use Rattle.rules.specs.Reply.{refusal_number};
 ghost use Rattle.std.proofs.lemmas.List.Edits.{sets};
-ghost use Rattle.std.specs.List.{zip};
 
 use rules::Refusal;
 
@@ -23,14 +22,18 @@ pub fn refusal_of(t: &[u32]) -> Result<(), Refusal>
 
 // How many places differ.
 fn count_entries(first: &[u32], second: &[u32]) -> usize
-    ensures value { result ≡ count_by (λ p. not (p.0 == p.1)) (zip first.now second.now) }
+    requires { length first.now ≡ length second.now }
+    ensures value { result ≡ length (entries first.now second.now) }
     ensures upper_bound { result ≤ length first.now }
 {
-    first
-        .iter()
-        .zip(second)
-        .filter(|(old, new)| old != new)
-        .count()
+    let mut count = 0;
+    // by the place: with one way out the loop is wide. `zip` with `filter` and `count` has two, and a comparison took twice the time.
+    for place in 0..first.len() {
+        if first[place] != second[place] {
+            count += 1;
+        }
+    }
+    count
 }
 
 // The entries, one behind the other. The bound keeps a place a word of 32 bits.
@@ -45,8 +48,10 @@ fn write_entries(first: &[u32], second: &[u32], places: &mut [u32])
     for (place, old) in first.iter().enumerate() {
         let new = second[place];
         if *old != new {
-            let entry = [place as u32, *old, new];
-            records::set_words(places, at, &entry);
+            // word by word: three copied at once go by way of the stack, and each copy waits for the three that were just put there
+            lists::set_word(places, at, place as u32);
+            lists::set_word(places, at + 1, *old);
+            lists::set_word(places, at + 2, new);
             at += ENTRY_SIZE;
         }
     }

@@ -1,5 +1,4 @@
 -- `differences::compare` meets its contract, each way out by its tests. Assumes nothing.
-use Rattle.differences.proofs.Passes.{counted_from}
 use Rattle.differences.proofs.Ways.{compared, formed_most, other_edition, refused_by, refused_first, refused_second, short_buffer, table-formed}
 use Rattle.rules.proofs.Coded.{fails, passes}
 use borrow.Author.Tests.{eqb-false, eqb-true, leb-false, leb-true}
@@ -38,7 +37,10 @@ returns-in_err-need-2 c =
     let no = fails _ _ 8 c.in_err-need-2.ensures in
     let short = leb-false _ _ no.0 in
     refused_by a.first.now a.second.now a.places.now _ _ c.from_residual-in_err-need-2.ensures.1
-    (no.1 ∙ short_buffer a.first.now a.second.now _ f g same (omega (arith, short, c.count_entries-count.ensures.value, counted_from 0 a.first.now a.second.now)))
+    (no.1 ∙ short_buffer a.first.now a.second.now _ f g same (omega (arith, short, c.count_entries-count.ensures.value)))
+
+pub count_entries-count-requires : goal.count_entries-count-requires
+count_entries-count-requires c = eqb-true _ _ (passes _ 12 c.in_ok-need.ensures)
 
 pub write_entries-requires-clause-first_len : goal.write_entries-requires-clause-first_len
 write_entries-requires-clause-first_len c = eqb-true _ _ (passes _ 12 c.in_ok-need.ensures)
@@ -61,5 +63,5 @@ returns c =
     let f = table-formed a.first.now (sym c.in_ok-refusal_of.ensures) in
     let g = table-formed a.second.now (sym c.in_ok-refusal_of-2.ensures) in
     let same = eqb-true _ _ (passes _ 12 c.in_ok-need.ensures) in
-    compared a.first.now a.second.now a.places.now f g same _ _ (c.count_entries-count.ensures.value ∙ counted_from 0 a.first.now a.second.now)
+    compared a.first.now a.second.now a.places.now f g same _ _ c.count_entries-count.ensures.value
     (omega (arith, leb-true _ _ (passes _ 7 c.in_ok-need-2.ensures))) c.write_entries.ensures

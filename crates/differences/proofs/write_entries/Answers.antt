@@ -1,5 +1,5 @@
 -- `differences::write_entries` meets its contract: the words so far are those of the places so far. Assumes nothing.
-use Rattle.differences.proofs.Passes.{up_to_all, written_begin, written-differ, written_equal}
+use Rattle.differences.proofs.Passes.{three_set, up_to_all, written_begin, written-differ, written_equal}
 use lib.Seq.{length-sets}
 use Rattle.differences.proofs.write_entries.Goals.{else-old-new, then-old-new}
 use native.Mathlib.Omega.{arith}
@@ -13,7 +13,7 @@ loop-place-preserved c =
     let a = c.args in
     let l = c.loop-place in
     elim c.if-old-new.branch [
-      | then-old-new w ↦ rw (w.places-is, w.at-is) (written-differ a.first.now a.second.now c.requires.first_len a.places.now l.places l.at l.place l.invariant (omega arith) w.if-old-new.true _ w.set_words.ensures)
+      | then-old-new w ↦ rw (w.places-is, w.at-is) (written-differ a.first.now a.second.now c.requires.first_len a.places.now l.places l.at l.place l.invariant (omega arith) w.if-old-new.true _ (three_set l.places l.at _ _ _ _ _ _ w.set_word.ensures w.set_word-then-old-new.ensures w.set_word-then-old-new-2.ensures))
       | else-old-new w ↦ rw (w.places-is, w.at-is) (written_equal a.first.now a.second.now c.requires.first_len a.places.now l.places l.at l.place l.invariant (omega arith) w.if-old-new.false)
     ]
 
