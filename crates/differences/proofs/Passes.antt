@@ -8,7 +8,7 @@ use Rattle.records.proofs.Laws.{sets_append}
 use borrow.Author.Tests.{eq-eqb, ne_eqb}
 use lib.Dec.{eqb}
 use lib.ListN.{get_or, length, length-append, set, take}
-use lib.Seq.{sets, take_all}
+use lib.Seq.{length-sets, sets, take_all}
 use mathlib.Core.Bool.{cond}
 use mathlib.Core.List.{List, [], ◌++◌, ◌∷◌, append-nil}
 use mathlib.Core.Path.{◌∙◌, ◌≡◌, ap, refl, sym}
@@ -65,6 +65,17 @@ module _ (a b : List ℕ) where
     pub differ_turn : (get_or a i 0 ≡ get_or b i 0 → ⊥) → up_to a b (i + 1) ≡ up_to a b i ++ (entry_at i (get_or a i 0) (get_or b i 0) ∷ [])
     differ_turn d = rw add-one (from_turn 0 i a b h g ∙ rw (ne_eqb (get_or a i 0) (get_or b i 0) d, zero-add i))
 
+-- as many as there are in all, at most
+few_up_to : (p i : ℕ) (a b : List ℕ) → length (entries_from p (take i a) (take i b)) ≤ length (entries_from p a b)
+unfolding entries_from
+few_up_to p zero a b = omega arith
+few_up_to p (suc i) [] b = omega arith
+few_up_to p (suc i) (x ∷ a) [] = omega arith
+few_up_to p (suc i) (x ∷ a) (y ∷ b) =
+    bool_case (eqb x y)
+    (λ e. rw e (few_up_to (suc p) i a b))
+    (λ e. rw e (omega (arith, few_up_to (suc p) i a b)))
+
 -- ---- the entries being counted
 
 pub record Counted (a b : List ℕ) (count i : ℕ) : Type 0 where
@@ -117,6 +128,15 @@ module _ (a b : List ℕ) (same : length a ≡ length b) (before : List ℕ) whe
     written_equal e =
         let turn = equal_turn a b i h (omega arith) e in
         record { inside = omega arith; few = omega (arith, w.few); end = rw turn w.end; words = rw turn w.words }
+
+    -- an entry more has room, where all of them have
+    pub room_left : (get_or a i 0 ≡ get_or b i 0 → ⊥) → 3 * length (entries a b) ≤ length before → at + 3 ≤ length now
+    room_left d m =
+        let es = up_to a b i in
+        let last = entry_at i (get_or a i 0) (get_or b i 0) ∷ [] in
+        let turn = differ_turn a b i h (omega arith) d in
+        let kept : length now ≡ length before = rw w.words (simp length-sets) in
+        omega (arith, m, kept, w.end, length-words es, ap length turn, length-append es last, few_up_to 0 (i + 1) a b)
 
     pub written-differ : (get_or a i 0 ≡ get_or b i 0 → ⊥) → (next : List ℕ) → next ≡ sets now at (i ∷ get_or a i 0 ∷ get_or b i 0 ∷ [])
         → Written a b before next (at + 3) (i + 1)

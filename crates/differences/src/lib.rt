@@ -40,6 +40,7 @@ fn count_entries(first: &[u32], second: &[u32]) -> usize
 fn write_entries(first: &[u32], second: &[u32], places: &mut [u32])
     requires first_len { length first.now ≡ length second.now }
     requires first_len_bound { length first.now ≤ 65535 }
+    requires room { 3 * length (entries first.now second.now) ≤ length places.old }
     ensures { places.new
         ≡ sets places.old 0 (entry_words (entries first.now second.now)) }
 {
@@ -49,9 +50,9 @@ fn write_entries(first: &[u32], second: &[u32], places: &mut [u32])
         let new = second[place];
         if *old != new {
             // word by word: three copied at once go by way of the stack, and each copy waits for the three that were just put there
-            lists::set_word(places, at, place as u32);
-            lists::set_word(places, at + 1, *old);
-            lists::set_word(places, at + 2, new);
+            places[at] = place as u32;
+            places[at + 1] = *old;
+            places[at + 2] = new;
             at += ENTRY_SIZE;
         }
     }

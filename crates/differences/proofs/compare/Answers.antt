@@ -51,6 +51,9 @@ write_entries-requires-clause-first_len_bound c =
     let f = table-formed a.first.now (sym c.in_ok-refusal_of.ensures) in
     omega (arith, formed_most a.first.now f)
 
+pub write_entries-requires-clause-room : goal.write_entries-requires-clause-room
+write_entries-requires-clause-room c = omega (arith, leb-true _ _ (passes _ 7 c.in_ok-need-2.ensures), c.count_entries-count.ensures.value)
+
 pub overflow_cast-result : goal.overflow_cast-result
 overflow_cast-result c =
     let a = c.args in
